@@ -1,0 +1,35 @@
+-- Two texts compared, a byte at a time.
+use Prim.Native.Nat.{ℕ, zero, suc, _+_, _<_, _≤_}
+use native.Mathlib.Omega.{arith}
+use mathlib.Core.Path.{_≡_, refl, sym, ap, ap₂, _∙_}
+use mathlib.Core.Bool.{Bool, true, false, _&&_}
+use mathlib.Core.List.{List, [], _∷_}
+use borrow.Author.Tests.{eq-eqb, ne-eqb}
+use lib.Dec.{eqb}
+use lib.ListN.{length, drop, getD, drop-of-length-le}
+use Rattle.text.proofs.Trimming.{at-next}
+use Rattle.text.specs.Same.{same}
+
+module _ (s t : List ℕ) (i : ℕ) (in-s : i < length s) (in-t : i < length t) where
+  pub same-step : getD s i 0 ≡ getD t i 0 → same (drop (i + 1) s) (drop (i + 1) t) ≡ same (drop i s) (drop i t)
+  unfolding same
+  same-step e = rw (at-next s i in-s, at-next t i in-t, eq-eqb _ _ e)
+
+  pub same-stop : (getD s i 0 ≡ getD t i 0 → ⊥) → same (drop i s) (drop i t) ≡ false
+  unfolding same
+  same-stop e = rw (at-next s i in-s, at-next t i in-t, ne-eqb _ _ e)
+
+pub same-end : (s t : List ℕ) (i : ℕ) → length s ≤ i → length t ≤ i → same (drop i s) (drop i t) ≡ true
+unfolding same
+same-end s t i p q = rw (drop-of-length-le s p, drop-of-length-le t q)
+
+and-false : (u v : Bool) → v ≡ false → (u && v) ≡ false
+and-false true v e = e
+and-false false v e = refl
+
+pub same-lengths : (s t : List ℕ) → (length s ≡ length t → ⊥) → same s t ≡ false
+unfolding same
+same-lengths [] [] h = absurd (h refl)
+same-lengths [] (b ∷ t) h = refl
+same-lengths (a ∷ s) [] h = refl
+same-lengths (a ∷ s) (b ∷ t) h = and-false (eqb a b) (same s t) (same-lengths s t (λ e. h (ap suc e)))

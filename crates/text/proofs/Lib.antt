@@ -1,0 +1,4 @@
+-- Laws of bytes and texts.
+pub mod Trimming
+pub mod Comparing
+pub mod Texts

@@ -1,0 +1,91 @@
+-- Texts in arrays, a byte at a time, over the array's size.
+use Prim.Native.Nat.{ℕ, zero, suc, _+_, _-_, _<_, _≤_, min}
+use native.Mathlib.Nat.{le-of-suc-le-suc, not-suc-le-zero, sub-zero}
+use native.Mathlib.Numerals.{add-one}
+use native.Mathlib.Omega.{arith}
+use mathlib.Core.Path.{_≡_, refl, sym, ap, _∙_}
+use mathlib.Core.List.{List, [], _∷_, _++_, append-assoc, map}
+use lib.ListN.{length, set, take, getD, replicate, length-append, length-map, length-take}
+use lib.Seq.{set-append-seam, length-take-le, take-suc, take-all, take-append-seam, getD-take}
+use Rattle.text.specs.declared.Text.{Text}
+use Rattle.text.specs.Text.{size, padded, textOf, bytesOf}
+
+-- one byte more
+pub length-put : (v : List ℕ) (b : ℕ) → length (v ++ b ∷ []) ≡ length v + 1
+length-put v b = length-append v (b ∷ [])
+
+-- an array of zeros is the text of no bytes
+pub padded-none : (n : ℕ) → replicate n 0 ≡ padded n []
+unfolding padded
+padded-none n = rw sub-zero
+
+-- a byte put behind the text takes the place of the first zero
+pub padded-put : (n : ℕ) (v : List ℕ) (b : ℕ) → length v < n → set (padded n v) (length v) b ≡ padded n (v ++ b ∷ [])
+unfolding padded
+padded-put n v b h =
+    let room : n - length v ≡ suc (n - (length v + 1)) = omega arith in
+    ap (λ (k : ℕ). set (v ++ replicate k 0) (length v) b) room
+    ∙ set-append-seam v 0 (replicate (n - (length v + 1)) 0) b
+    ∙ sym (append-assoc v (b ∷ []) (replicate (n - (length v + 1)) 0))
+    ∙ ap (λ (k : ℕ). (v ++ b ∷ []) ++ replicate (n - k) 0) (sym (length-put v b))
+
+-- a list copied into an array, a byte at a time
+pub copy-step : (n : ℕ) (w : List ℕ) (i : ℕ) → i < length w → length w ≤ n → set (padded n (take i w)) i (getD w i 0) ≡ padded n (take (i + 1) w)
+copy-step n w i h small =
+    let long : length (take i w) ≡ i = length-take-le i w (omega arith) in
+    ap (λ (k : ℕ). set (padded n (take i w)) k (getD w i 0)) (sym long)
+    ∙ padded-put n (take i w) (getD w i 0) (omega arith)
+    ∙ ap (padded n) (sym (take-suc w i 0 h))
+    ∙ ap (λ (k : ℕ). padded n (take k w)) (sym (add-one i))
+
+pub copy-done : (w bytes : List ℕ) (i : ℕ) → i ≤ length w → length w ≤ i → bytes ≡ padded size (take i w)
+    → _≡_ {A = Text} (record { bytes = bytes; len = i }) (textOf w)
+copy-done w bytes i below above held =
+    let all : i ≡ length w = omega arith in
+    λ j. record { bytes = (held ∙ ap (padded size) (take-all i w above)) j; len = all j }
+
+-- a byte of a list that is mapped
+pub getD-mapped : (f : ℕ → ℕ) (s : List ℕ) (i : ℕ) → i < length s → getD (map f s) i 0 ≡ f (getD s i 0)
+getD-mapped f [] i h = absurd (not-suc-le-zero h)
+getD-mapped f (x ∷ s) zero h = refl
+getD-mapped f (x ∷ s) (suc i) h = getD-mapped f s i (le-of-suc-le-suc h)
+
+-- the first bytes of a slice copied, each changed by f
+module _ (f : ℕ → ℕ) (s : List ℕ) where
+  abbrev pub changedOf : List ℕ
+  changedOf = map f (take size s)
+
+  changed-length : length changedOf ≡ min size (length s)
+  changed-length = length-map (take size s) f ∙ length-take size s
+
+  pub changed-step : (i : ℕ) → i < length s → i < size
+      → set (padded size (take i changedOf)) i (f (getD s i 0)) ≡ padded size (take (i + 1) changedOf)
+  changed-step i h small =
+      let long : length changedOf ≡ min size (length s) = changed-length in
+      let part : length (take size s) ≡ min size (length s) = length-take size s in
+      let byte : getD changedOf i 0 ≡ f (getD s i 0) = getD-mapped f (take size s) i (omega arith) ∙ ap f (getD-take size s i 0 small) in
+      ap (set (padded size (take i changedOf)) i) (sym byte) ∙ copy-step size changedOf i (omega arith) (omega arith)
+
+  pub changed-done : (bytes : List ℕ) (i : ℕ) → i ≡ min size (length s) → bytes ≡ padded size (take i changedOf)
+      → _≡_ {A = Text} (record { bytes = bytes; len = i }) (textOf changedOf)
+  changed-done bytes i all held =
+      let long : length changedOf ≡ min size (length s) = changed-length in
+      copy-done changedOf bytes i (omega arith) (omega arith) held
+
+-- a text in an array holds its bytes
+pub bytes-text : (v : List ℕ) → bytesOf (textOf v) ≡ v
+unfolding padded
+bytes-text v = take-append-seam v _
+
+-- a length beyond the end takes all
+pub take-min : (n m : ℕ) (s : List ℕ) → length s ≡ m → take (min n m) s ≡ take n s
+take-min n m [] e = nothing (min n m) ∙ sym (nothing n)
+  where
+    nothing : (k : ℕ) → take {A = ℕ} k [] ≡ []
+    nothing zero = refl
+    nothing (suc k) = refl
+take-min zero m (b ∷ s) e = ap (λ (k : ℕ). take k (b ∷ s)) (let z : min 0 m ≡ 0 = omega arith in z)
+take-min (suc n) m (b ∷ s) e =
+    let rest : length s ≡ m - 1 = omega arith in
+    let both : min (suc n) m ≡ suc (min n (m - 1)) = omega arith in
+    ap (λ (k : ℕ). take k (b ∷ s)) both ∙ ap (λ (t : List ℕ). b ∷ t) (take-min n (m - 1) s rest)

@@ -1,0 +1,5 @@
+-- What the contracts of `text` cite.
+pub mod Bytes
+pub mod Trim
+pub mod Same
+pub mod Text
