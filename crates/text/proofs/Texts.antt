@@ -89,3 +89,15 @@ take-min (suc n) m (b ∷ s) e =
     let rest : length s ≡ m - 1 = omega arith in
     let both : min (suc n) m ≡ suc (min n (m - 1)) = omega arith in
     ap (λ (k : ℕ). take k (b ∷ s)) both ∙ ap (λ (t : List ℕ). b ∷ t) (take-min n (m - 1) s rest)
+
+-- a list that fits is copied whole
+pub whole-text : (w : List ℕ) → length w ≤ size → textOf (take size w) ≡ textOf w
+whole-text w h = ap textOf (take-all size w h)
+
+-- and so is one of which each byte is changed
+pub whole-changed : (f : ℕ → ℕ) (w : List ℕ) → length w ≤ size → textOf (map f (take size w)) ≡ textOf (map f w)
+whole-changed f w h = ap (λ (l : List ℕ). textOf (map f l)) (take-all size w h)
+
+-- the bytes that a text holds are within its array
+pub bytes-fit : (t : Text) → length (t .bytes) ≡ size → length (bytesOf t) ≤ size
+bytes-fit t e = omega (arith, length-take (t .len) (t .bytes))

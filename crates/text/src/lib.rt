@@ -2,7 +2,7 @@
 ghost use mathlib.Core.Path.{_≡_};
 ghost use Prim.Native.Nat.{_+_, _≤_, _<_, min};
 ghost use mathlib.Core.List.{[], map};
-ghost use lib.ListN.{length, take};
+ghost use lib.ListN.{length, take, drop};
 ghost use Rattle.text.specs.Bytes.{isBlank, isPrintable, isDigit, shown, dToE};
 ghost use Rattle.text.specs.Trim.{trimStart, trimEnd, trim, leading, cutOf};
 ghost use Rattle.text.specs.Same.{same};
@@ -140,6 +140,28 @@ pub fn trimmed(s: &[u8], cut: Cut) -> &[u8]
     ensures { λ r. ⌜ now r ≡ trim (cutOf cut) (now (s .entry)) ⌝ }
 {
     trim_end(trim_start(s, cut), cut)
+}
+
+// ---- parts
+
+// The first n bytes of a text: all of it where it is shorter.
+pub fn first_of(s: &[u8], n: usize) -> &[u8]
+    ensures { λ r. ⌜ now r ≡ take n (now (s .entry)) ⌝ }
+{
+    if n < s.len() {
+        return &s[..n];
+    }
+    s
+}
+
+// What follows the first n bytes of a text: nothing where it is shorter.
+pub fn rest_of(s: &[u8], n: usize) -> &[u8]
+    ensures { λ r. ⌜ now r ≡ drop n (now (s .entry)) ⌝ }
+{
+    if n < s.len() {
+        return &s[n..];
+    }
+    &s[..0]
 }
 
 // ---- comparing

@@ -8,9 +8,6 @@ use Rattle.text.specs.Text.{size, padded, changeOf}
 use Rattle.text.proofs.Texts.{padded-none, changedOf, changed-step, changed-done}
 use Rattle.text.proofs.changed_text.Statement.{statement}
 use Rattle.text.proofs.changed_text.Tie as tie
-use Rattle.text.proofs.changed_text.Reads as reads
-use Rattle.text.proofs.changed_text.Lts as lts
-use Rattle.text.proofs.changed.Reads as changed-reads
 
 abbrev Inv-loop : tie.InvT-loop
 Inv-loop s change bytes₀ i₀ bytes i = (i ≤ length s) × (i ≤ size) × (bytes ≡ padded size (take i (changedOf (changeOf change) s)))
@@ -18,31 +15,24 @@ Inv-loop s change bytes₀ i₀ bytes i = (i ≤ length s) × (i ≤ size) × (b
 abbrev μ-loop : tie.MeasureT-loop
 μ-loop s change bytes₀ i₀ bytes i = length s - i
 
--- src/lib.rt:192:5
 loop-holds : tie.Need-loop-holds Inv-loop μ-loop
 loop-holds c = (omega arith, omega arith, padded-none size)
 
--- src/lib.rt:193:36
 shared-slice-read-changed : tie.Need-shared-slice-read-changed Inv-loop μ-loop
 shared-slice-read-changed c = search needs
 
--- src/lib.rt:193:20
 changed-requires : tie.Need-changed-requires Inv-loop μ-loop
 changed-requires c κs = search needs
 
--- src/lib.rt:193:9
 array-write-bytes : tie.Need-array-write-bytes Inv-loop μ-loop
 array-write-bytes c = search needs
 
--- src/lib.rt:194:9
 add-i : tie.Need-add-i Inv-loop μ-loop
 add-i c = search needs
 
--- src/lib.rt:192:5
 loop-less : tie.Need-loop-less Inv-loop μ-loop
 loop-less c = search needs
 
--- src/lib.rt:192:5
 loop-again : tie.Need-loop-again Inv-loop μ-loop
 loop-again c =
     let at-loop = c .before .before .before .before in
@@ -52,7 +42,6 @@ loop-again c =
     let small : at-loop .loop .i < size = ltb-true _ _ (c .before .before .if1 .taken) in
     (omega arith, omega arith, rw (at-loop .loop .inv .2, c .changed .ensures) (changed-step f s (at-loop .loop .i) more small))
 
--- src/lib.rt:187:1
 returns : tie.Need-returns Inv-loop μ-loop
 returns c =
     let at-loop = c .before .before in
@@ -60,7 +49,6 @@ returns c =
     let large : size ≤ at-loop .loop .i = ltb-false _ _ (c .if1 .left) in
     changed-done (changeOf (at-loop .before .before .args .change)) s (at-loop .loop .bytes) (at-loop .loop .i) (omega arith) (at-loop .loop .inv .2)
 
--- src/lib.rt:187:1
 returns-2 : tie.Need-returns-2 Inv-loop μ-loop
 returns-2 c =
     let at-loop = c .before in

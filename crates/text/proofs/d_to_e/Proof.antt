@@ -2,15 +2,11 @@ use Rattle.text.specs.Bytes.{dToE}
 use borrow.Author.Tests.{eq-eqb, ne-eqb, le-leb, lt-leb}
 use Rattle.text.proofs.d_to_e.Statement.{statement}
 use Rattle.text.proofs.d_to_e.Tie as tie
-use Rattle.text.proofs.d_to_e.Reads as reads
-use Rattle.text.proofs.d_to_e.Lts as lts
 
--- src/lib.rt:367:1
 returns : tie.Need-returns
 unfolding dToE
 returns c = simp (eq-eqb _ _ (c .if1 .taken))
 
--- src/lib.rt:367:1
 returns-2 : tie.Need-returns-2
 unfolding dToE
 returns-2 c = simp (ne-eqb _ _ (c .if1 .left))

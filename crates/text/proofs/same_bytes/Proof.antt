@@ -7,8 +7,6 @@ use Rattle.text.specs.Same.{same}
 use Rattle.text.proofs.Comparing.{same-step, same-stop, same-end, same-lengths}
 use Rattle.text.proofs.same_bytes.Statement.{statement}
 use Rattle.text.proofs.same_bytes.Tie as tie
-use Rattle.text.proofs.same_bytes.Reads as reads
-use Rattle.text.proofs.same_bytes.Lts as lts
 
 abbrev Inv-loop : tie.InvT-loop
 Inv-loop s t i₀ i = (i ≤ length s) × (same (drop i s) (drop i t) ≡ same s t)
@@ -16,43 +14,34 @@ Inv-loop s t i₀ i = (i ≤ length s) × (same (drop i s) (drop i t) ≡ same s
 abbrev μ-loop : tie.MeasureT-loop
 μ-loop s t i₀ i = length s - i
 
--- src/lib.rt:15:9
 returns : tie.Need-returns Inv-loop μ-loop
 returns c = sym (same-lengths (c .before .args .s .now) (c .before .args .t .now) (c .if1 .taken))
 
--- src/lib.rt:18:5
 loop-holds : tie.Need-loop-holds Inv-loop μ-loop
 loop-holds c = search needs
 
--- src/lib.rt:19:12
 shared-slice-read-if2 : tie.Need-shared-slice-read-if2 Inv-loop μ-loop
 shared-slice-read-if2 c = search needs
 
--- src/lib.rt:19:20
 shared-slice-read-if2-2 : tie.Need-shared-slice-read-if2-2 Inv-loop μ-loop
 shared-slice-read-if2-2 c = search needs
 
--- src/lib.rt:20:13
 returns-2 : tie.Need-returns-2 Inv-loop μ-loop
 returns-2 c =
     let at-loop = c .before .before .before .before in
     sym (sym (at-loop .loop .inv .1) ∙ same-stop (at-loop .before .before .args .s .now) (at-loop .before .before .args .t .now) (at-loop .loop .i) (omega arith) (omega arith) (c .if2 .taken))
 
--- src/lib.rt:22:9
 add-i : tie.Need-add-i Inv-loop μ-loop
 add-i c = search needs
 
--- src/lib.rt:18:5
 loop-less : tie.Need-loop-less Inv-loop μ-loop
 loop-less c = search needs
 
--- src/lib.rt:18:5
 loop-again : tie.Need-loop-again Inv-loop μ-loop
 loop-again c =
     let at-loop = c .before .before .before .before in
     (omega arith, same-step (at-loop .before .before .args .s .now) (at-loop .before .before .args .t .now) (at-loop .loop .i) (omega arith) (omega arith) (c .if2 .left) ∙ at-loop .loop .inv .1)
 
--- src/lib.rt:11:1
 returns-3 : tie.Need-returns-3 Inv-loop μ-loop
 returns-3 c =
     let at-loop = c .before in

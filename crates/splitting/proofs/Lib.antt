@@ -1,0 +1,4 @@
+-- Laws of the scan, of splitting and of strings.
+pub mod Scanning
+pub mod Splitting
+pub mod Stringing

@@ -1,0 +1,71 @@
+-- Strings, by the tests of the code.
+use Prim.Native.Nat.{ℕ, zero, suc, _-_, _<_, _≤_}
+use native.Mathlib.Omega.{arith}
+use mathlib.Core.Path.{_≡_, refl, sym, ap, _∙_}
+use mathlib.Core.List.{List, [], _∷_}
+use borrow.Author.Tests.{eq-eqb, ne-eqb}
+use lib.ListN.{length, getD, take, drop}
+use Rattle.text.specs.Bytes.{isSpace}
+use Rattle.text.specs.Trim.{trimEnd}
+use Rattle.refusal.specs.Numbers.{refusal}
+use Rattle.splitting.specs.Strings.{orSpace, settledOf, reads, refusedWith, opened, unopened, stringOf}
+
+pub empty : (s : List ℕ) → length s ≡ 0 → s ≡ []
+empty [] h = refl
+empty (b ∷ s) h = absurd (omega arith)
+
+-- ---- within the quotes
+pub settled-some : (s : List ℕ) → (length s ≡ 0 → ⊥) → settledOf s ≡ orSpace (trimEnd isSpace s)
+unfolding settledOf
+settled-some [] h = absurd (h refl)
+settled-some (b ∷ s) h = refl
+
+pub kept : (t : List ℕ) → (length t ≡ 0 → ⊥) → orSpace t ≡ t
+kept [] h = absurd (h refl)
+kept (b ∷ t) h = refl
+
+-- ---- the quotes
+pub lone : (s : List ℕ) → length s ≡ 1 → getD s 0 0 ≡ 39 → stringOf s ≡ refusedWith (refusal 3)
+unfolding stringOf opened
+lone [] h e = absurd (omega arith)
+lone (b ∷ []) h e = rw (eq-eqb b 39 e)
+lone (b ∷ c ∷ s) h e = absurd (omega arith)
+
+-- in a text of at least two bytes the last one is that of the rest
+last : (b c : ℕ) (s : List ℕ) → getD (b ∷ c ∷ s) (length (b ∷ c ∷ s) - 1) 0 ≡ getD (c ∷ s) (length (c ∷ s) - 1) 0
+last b c s =
+    let x : suc (suc (length s)) - 1 ≡ suc (length s) = omega arith in
+    let y : suc (length s) - 1 ≡ length s = omega arith in
+    rw (x, y)
+
+pub quoted : (s : List ℕ) → (length s ≡ 0 → ⊥) → (length s ≡ 1 → ⊥) → getD s 0 0 ≡ 39 → getD s (length s - 1) 0 ≡ 39
+    → stringOf s ≡ reads (take (length s - 1 - 1) (drop 1 s))
+unfolding stringOf opened
+quoted [] some more e d = absurd (some refl)
+quoted (b ∷ []) some more e d = absurd (more refl)
+quoted (b ∷ c ∷ s) some more e d =
+    let x : suc (suc (length s)) - 1 ≡ suc (length s) = omega arith in
+    rw (eq-eqb b 39 e, eq-eqb _ 39 (sym (last b c s) ∙ d), x)
+
+pub unclosed : (s : List ℕ) → (length s ≡ 0 → ⊥) → (length s ≡ 1 → ⊥) → getD s 0 0 ≡ 39 → (getD s (length s - 1) 0 ≡ 39 → ⊥) → stringOf s ≡ refusedWith (refusal 3)
+unfolding stringOf opened
+unclosed [] some more e d = absurd (some refl)
+unclosed (b ∷ []) some more e d = absurd (more refl)
+unclosed (b ∷ c ∷ s) some more e d = rw (eq-eqb b 39 e, ne-eqb _ 39 (λ x. d (last b c s ∙ x)))
+
+module _ (s : List ℕ) (some : length s ≡ 0 → ⊥) (bare : getD s 0 0 ≡ 39 → ⊥) where
+  without : stringOf s ≡ unopened s
+  unfolding stringOf
+  without = go s some bare
+    where
+      go : (s : List ℕ) → (length s ≡ 0 → ⊥) → (getD s 0 0 ≡ 39 → ⊥) → stringOf s ≡ unopened s
+      go [] h e = absurd (h refl)
+      go (b ∷ s) h e = rw (ne-eqb b 39 e)
+
+  pub unopened-quote : getD s (length s - 1) 0 ≡ 39 → stringOf s ≡ refusedWith (refusal 4)
+  unfolding unopened
+  unopened-quote e = without ∙ rw (eq-eqb _ 39 e)
+
+  pub plain-text : (getD s (length s - 1) 0 ≡ 39 → ⊥) → stringOf s ≡ reads s
+  unfolding unopened
+  plain-text e = without ∙ rw (ne-eqb _ 39 e)

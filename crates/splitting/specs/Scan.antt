@@ -1,0 +1,67 @@
+-- The scan of a trimmed text for the slash (document 01, "Splitting"; the standard, 4.2.1).
+use Prim.Native.Nat.{ℕ, suc}
+use mathlib.Core.Bool.{Bool, true, false, cond}
+use mathlib.Core.List.{List, [], _∷_, _++_}
+use lib.Dec.{eqb}
+use Rattle.splitting.specs.declared.Quoting.{Quoting}
+use Rattle.splitting.specs.declared.Quoting.the-variants.{Outside, Inside, Closed}
+use Rattle.splitting.specs.declared.Slash.{Slash}
+use Rattle.splitting.specs.declared.Slash.the-variants.{At, Nowhere, Bad}
+use Rattle.splitting.specs.declared.Scanned.{Scanned}
+use Rattle.text.specs.Bytes.{isPrintable, shown}
+use Rattle.text.specs.Text.{textOf}
+
+-- the classes of bytes that the scan tells apart
+pub data Class : Type 0 where
+  quote slash plain odd : Class
+
+unfoldable pub classOf : ℕ → Class
+classOf b = cond (eqb b 39) quote (cond (eqb b 47) slash (cond (isPrintable b) plain odd))
+
+-- What one byte before the slash does: it ends the value, it is refused, it is put into the value text, or it is the second quote of two and is passed over.
+pub data Move : Type 0 where
+  ends refused : Move
+  puts passes : Quoting → Move
+
+-- in each state, by the byte's class
+abbrev pub move : Quoting → Class → Move
+move Outside quote = puts Inside
+move Outside slash = ends
+move Outside plain = puts Outside
+move Outside odd = refused
+move Inside quote = puts Closed
+move Inside slash = puts Inside
+move Inside plain = puts Inside
+move Inside odd = puts Inside
+move Closed quote = passes Inside
+move Closed slash = ends
+move Closed plain = puts Outside
+move Closed odd = puts Closed
+
+-- What a scan finds: the slash's place or none, and the value text up to there.
+pub record Scan : Type 0 where
+  pub place : Slash
+  pub value : List ℕ
+
+-- with bytes that were put before
+abbrev pub putBefore : List ℕ → Scan → Scan
+putBefore v r = record { place = r .place; value = v ++ r .value }
+
+unfoldable pub after : Move → ℕ → ℕ → (Quoting → Scan) → Scan
+after ends b i rest = record { place = At i; value = [] }
+after refused b i rest = record { place = Bad i; value = [] }
+after (puts q) b i rest = putBefore (shown b ∷ []) (rest q)
+after (passes q) b i rest = rest q
+
+-- the scan of s in state q, the first byte of which stands at place i
+unfoldable pub scanFrom : Quoting → List ℕ → ℕ → Scan
+unfolding after
+scanFrom q [] i = record { place = Nowhere; value = [] }
+scanFrom q (b ∷ s) i = after (move q (classOf b)) b i (λ (r : Quoting). scanFrom r s (suc i))
+
+-- as the code hands it over
+abbrev pub answered : Scan → Scanned
+answered r = record { slash = r .place; value = textOf (r .value) }
+
+unfoldable pub scanOf : List ℕ → Scanned
+scanOf s = answered (scanFrom Outside s 0)

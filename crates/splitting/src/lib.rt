@@ -1,0 +1,236 @@
+// A card's text taken apart into value text and comment, and value texts read as strings.
+ghost use mathlib.Core.Path.{_≡_};
+ghost use Prim.Native.Nat.{_+_, _≤_, _<_};
+ghost use mathlib.Core.List.{[], map};
+ghost use lib.ListN.{length, take, drop};
+ghost use Rattle.text.specs.Bytes.{isSpace, shown};
+ghost use Rattle.text.specs.Trim.{trim, trimEnd};
+ghost use Rattle.text.specs.Text.{size, textOf, bytesOf};
+ghost use Rattle.splitting.specs.Scan.{scanOf};
+ghost use Rattle.splitting.specs.Split.{splitOf};
+ghost use Rattle.splitting.specs.Strings.{settledOf, refusedWith, stringOf};
+use refusal::Refusal;
+use text::Change;
+use text::Cut;
+use text::Text;
+
+// What splitting answers.
+pub enum Parts {
+    // A value text alone.
+    Bare,
+    // A value text and a comment, which may be empty.
+    Commented,
+    // Refusal 2, with the place of the byte in the trimmed text.
+    Refused(usize),
+}
+
+// The texts stand beside the answer; one that is missing is empty.
+pub struct Halves {
+    pub parts: Parts,
+    pub value: Text,
+    pub comment: Text,
+}
+
+// What reading a string answers.
+pub enum Quoted {
+    Str,
+    Refused(Refusal),
+}
+
+// The string's text stands beside the answer.
+pub struct StringRead {
+    pub answer: Quoted,
+    pub text: Text,
+}
+
+// Where the scan of a text stands: outside a string, inside one, or after a quote that may close it.
+pub enum Quoting {
+    Outside,
+    Inside,
+    Closed,
+}
+
+// The slash's place, or none, or the place of a byte that is refused.
+pub enum Slash {
+    At(usize),
+    Nowhere,
+    Bad(usize),
+}
+
+// The value text up to the slash stands beside its place.
+pub struct Scanned {
+    pub slash: Slash,
+    pub value: Text,
+}
+
+const QUOTE: u8 = b'\'';
+
+const SLASH: u8 = b'/';
+
+// The text that starts at a byte of a card, taken apart at its slash.
+pub fn split(card: &[u8; 80], from: usize) -> Halves
+    ensures { λ r. ⌜ r ≡ splitOf (drop from (now (card .entry))) ⌝ }
+{
+    let s = text::trimmed(text::rest_of(&card[..], from), Cut::Blanks);
+    let found = scan(s);
+    let v = found.value;
+    let place = found.slash;
+    let value = spaces_off(v);
+    let none = text::empty_text();
+    match place {
+        Slash::At(i) => Halves {
+            parts: Parts::Commented,
+            value: value,
+            comment: comment_of(&s[i + 1..]),
+        },
+        Slash::Nowhere => Halves {
+            parts: Parts::Bare,
+            value: value,
+            comment: none,
+        },
+        Slash::Bad(i) => Halves {
+            parts: Parts::Refused(i),
+            value: none,
+            comment: none,
+        },
+    }
+}
+
+// A value text as a string, with or without quotes.
+pub fn parse_string(t: Text) -> StringRead
+    ensures { λ r. ⌜ r ≡ stringOf (bytesOf t) ⌝ }
+{
+    let bytes = t.bytes;
+    unquoted(text::first_of(&bytes, t.len))
+}
+
+// The scan of a trimmed text: it ends at the first slash outside a string.
+fn scan(s: &[u8]) -> Scanned
+    requires { ⌜ length (now s) ≤ size ⌝ }
+    ensures { λ r. ⌜ r ≡ scanOf (now (s .entry)) ⌝ }
+{
+    let mut slash = Slash::Nowhere;
+    let mut state = Quoting::Outside;
+    let mut bytes = [0u8; 80];
+    let mut n: usize = 0;
+    let mut i: usize = 0;
+    'scan: while i < s.len() {
+        let b = s[i];
+        match state {
+            Quoting::Outside => {
+                if b == QUOTE {
+                    state = Quoting::Inside;
+                } else if b == SLASH {
+                    slash = Slash::At(i);
+                    break 'scan;
+                } else if !text::is_printable(b) {
+                    slash = Slash::Bad(i);
+                    break 'scan;
+                }
+            }
+            Quoting::Inside => {
+                if b == QUOTE {
+                    state = Quoting::Closed;
+                }
+            }
+            Quoting::Closed => {
+                if b == QUOTE {
+                    state = Quoting::Inside;
+                    i += 1;
+                    continue 'scan;
+                }
+                if b == SLASH {
+                    slash = Slash::At(i);
+                    break 'scan;
+                }
+                if text::is_printable(b) {
+                    state = Quoting::Outside;
+                }
+            }
+        }
+        bytes[n] = text::replaced(b);
+        n += 1;
+        i += 1;
+    }
+    let value = Text {
+        bytes: bytes,
+        len: n,
+    };
+    Scanned {
+        slash: slash,
+        value: value,
+    }
+}
+
+// A text without spaces at either end.
+fn spaces_off(t: Text) -> Text
+    ensures { λ r. ⌜ r ≡ textOf (trim isSpace (bytesOf t)) ⌝ }
+{
+    let bytes = t.bytes;
+    text::text_of(text::trimmed(text::first_of(&bytes, t.len), Cut::Spaces))
+}
+
+// What follows the slash.
+fn comment_of(s: &[u8]) -> Text
+    requires { ⌜ length (now s) ≤ size ⌝ }
+    ensures { λ r. ⌜ r ≡ textOf (trimEnd isSpace (map shown (now (s .entry)))) ⌝ }
+{
+    text::changed_text(text::trim_end(s, Cut::Spaces), Change::Replace)
+}
+
+// The text within the quotes: empty stays empty; otherwise spaces at the end go, and what was only spaces is one space.
+fn settled(s: &[u8]) -> Text
+    requires { ⌜ length (now s) ≤ size ⌝ }
+    ensures { λ r. ⌜ r ≡ textOf (settledOf (now (s .entry))) ⌝ }
+{
+    if s.len() == 0 {
+        return text::empty_text();
+    }
+    let t = text::trim_end(s, Cut::Spaces);
+    if t.len() == 0 {
+        return text::text_of(b" ");
+    }
+    text::text_of(t)
+}
+
+fn refused(why: Refusal) -> StringRead
+    ensures { λ r. ⌜ r ≡ refusedWith why ⌝ }
+{
+    StringRead {
+        answer: Quoted::Refused(why),
+        text: text::empty_text(),
+    }
+}
+
+// The string that a text's bytes give.
+fn unquoted(s: &[u8]) -> StringRead
+    requires { ⌜ length (now s) ≤ size ⌝ }
+    ensures { λ r. ⌜ r ≡ stringOf (now (s .entry)) ⌝ }
+{
+    let n = s.len();
+    if n == 0 {
+        return StringRead {
+            answer: Quoted::Str,
+            text: text::empty_text(),
+        };
+    }
+    if s[0] == QUOTE {
+        if n == 1 {
+            return refused(Refusal::StringNotClosed);
+        }
+        if s[n - 1] == QUOTE {
+            return StringRead {
+                answer: Quoted::Str,
+                text: settled(&s[1..n - 1]),
+            };
+        }
+        return refused(Refusal::StringNotClosed);
+    }
+    if s[n - 1] == QUOTE {
+        return refused(Refusal::StringNotOpened);
+    }
+    StringRead {
+        answer: Quoted::Str,
+        text: settled(s),
+    }
+}
