@@ -2,3 +2,4 @@
 pub mod Trimming
 pub mod Comparing
 pub mod Texts
+pub mod Finding

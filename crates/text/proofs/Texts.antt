@@ -6,7 +6,7 @@ use native.Mathlib.Omega.{arith}
 use mathlib.Core.Path.{_≡_, refl, sym, ap, _∙_}
 use mathlib.Core.List.{List, [], _∷_, _++_, append-assoc, map}
 use lib.ListN.{length, set, take, getD, replicate, length-append, length-map, length-take}
-use lib.Seq.{set-append-seam, length-take-le, take-suc, take-all, take-append-seam, getD-take}
+use lib.Seq.{set-append-seam, length-take-le, take-suc, take-all, take-append-seam, getD-take, getD-append-add}
 use Rattle.text.specs.declared.Text.{Text}
 use Rattle.text.specs.Text.{size, padded, textOf, bytesOf}
 
@@ -101,3 +101,23 @@ whole-changed f w h = ap (λ (l : List ℕ). textOf (map f l)) (take-all size w 
 -- the bytes that a text holds are within its array
 pub bytes-fit : (t : Text) → length (t .bytes) ≡ size → length (bytesOf t) ≤ size
 bytes-fit t e = omega (arith, length-take (t .len) (t .bytes))
+
+-- a list copied behind another that stands in the array already, a byte at a time
+pub behind-step : (n : ℕ) (a b : List ℕ) (i : ℕ) → i < length b → length a + length b ≤ n
+    → set (padded n (take (length a + i) (a ++ b))) (length a + i) (getD b i 0) ≡ padded n (take (length a + (i + 1)) (a ++ b))
+behind-step n a b i h small =
+    let long : length (a ++ b) ≡ length a + length b = length-append a b in
+    let next : length a + i + 1 ≡ length a + (i + 1) = omega arith in
+    rw (← getD-append-add a b i 0) (copy-step n (a ++ b) (length a + i) (omega arith) (omega arith))
+    ∙ ap (λ (k : ℕ). padded n (take k (a ++ b))) next
+
+-- a text that was made of v, read again: its bytes, its length, and that the length lies within the array
+module _ {t : Text} (v : List ℕ) (e : t ≡ textOf v) where
+  pub text-bytes : bytesOf t ≡ v
+  text-bytes = ap bytesOf e ∙ bytes-text v
+
+  pub text-length : t .len ≡ length (bytesOf t)
+  text-length = ap (λ (u : Text). u .len) e ∙ sym (ap length text-bytes)
+
+  pub text-within : t .len ≤ length (t .bytes)
+  text-within = omega (arith, text-length, length-take (t .len) (t .bytes))

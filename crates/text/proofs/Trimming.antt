@@ -120,16 +120,16 @@ module _ (p : ℕ → Bool) where
       let n : length s - length (trimStart p s) ≡ length (leading p s) = omega (arith, leading-length s) in
       ap₂ take n (sym (leading-and-rest s)) ∙ take-at (leading p s) (trimStart p s) _ refl
 
-  -- a function that the test does not notice may come before or after
-  pub end-mapped : (f : ℕ → ℕ) → ((b : ℕ) → p (f b) ≡ p b) → (s : List ℕ) → trimEnd p (map f s) ≡ map f (trimEnd p s)
-  unfolding trimEnd consTrimmed
-  end-mapped f same [] = refl
-  end-mapped f same (b ∷ s) = rw (end-mapped f same s, same b) (pick (p b) (trimEnd p s))
-    where
-      pick : (t : Bool) (r : List ℕ) → consTrimmed t (f b) (map f r) ≡ map f (consTrimmed t b r)
-      pick true [] = refl
-      pick true (c ∷ r) = refl
-      pick false r = refl
+-- where the test p of f's results is the test q, it is the same whether f or the trimming comes first
+pub end-mapped : (p q : ℕ → Bool) (f : ℕ → ℕ) → ((b : ℕ) → p (f b) ≡ q b) → (s : List ℕ) → trimEnd p (map f s) ≡ map f (trimEnd q s)
+unfolding trimEnd consTrimmed
+end-mapped p q f same [] = refl
+end-mapped p q f same (b ∷ s) = rw (end-mapped p q f same s, same b) (pick (q b) (trimEnd q s))
+  where
+    pick : (t : Bool) (r : List ℕ) → consTrimmed t (f b) (map f r) ≡ map f (consTrimmed t b r)
+    pick true [] = refl
+    pick true (c ∷ r) = refl
+    pick false r = refl
 
 -- a replaced byte is no space, and was none
 pub space-shown : (b : ℕ) → isSpace (shown b) ≡ isSpace b

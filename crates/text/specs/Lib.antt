@@ -3,3 +3,4 @@ pub mod Bytes
 pub mod Trim
 pub mod Same
 pub mod Text
+pub mod Place

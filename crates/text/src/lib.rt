@@ -6,6 +6,7 @@ ghost use lib.ListN.{length, take, drop};
 ghost use Rattle.text.specs.Bytes.{isBlank, isPrintable, isDigit, shown, dToE};
 ghost use Rattle.text.specs.Trim.{trimStart, trimEnd, trim, leading, cutOf};
 ghost use Rattle.text.specs.Same.{same};
+ghost use Rattle.text.specs.Place.{placeOf};
 ghost use Rattle.text.specs.Text.{size, textOf, changeOf};
 
 // A text in an array: len bytes, then zeros.
@@ -27,6 +28,12 @@ pub enum Change {
     Keep,
     Replace,
     DToE,
+}
+
+// Where a byte stands in a text.
+pub enum Place {
+    At(usize),
+    Nowhere,
 }
 
 const SPACE: u8 = b' ';
@@ -162,6 +169,20 @@ pub fn rest_of(s: &[u8], n: usize) -> &[u8]
         return &s[n..];
     }
     &s[..0]
+}
+
+// The first place of a byte in a text.
+pub fn find_byte(s: &[u8], b: u8) -> Place
+    ensures { λ r. ⌜ r ≡ placeOf b (now (s .entry)) ⌝ }
+{
+    let mut i = 0;
+    while i < s.len() {
+        if s[i] == b {
+            return Place::At(i);
+        }
+        i += 1;
+    }
+    Place::Nowhere
 }
 
 // ---- comparing

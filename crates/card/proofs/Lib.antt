@@ -1,0 +1,4 @@
+-- Laws of keywords, names and cards.
+pub mod Highs
+pub mod Naming
+pub mod Classes

@@ -1,0 +1,84 @@
+-- `card::continuation` meets its contract: by how the text splits.
+use mathlib.Core.Path.{_≡_, sym, ap, _∙_}
+use mathlib.Core.Bool.{Bool, true, false}
+use Rattle.splitting.specs.declared.Parts.{Parts}
+use Rattle.splitting.specs.declared.Parts.the-variants.{Bare, Commented, Refused}
+use Rattle.splitting.specs.declared.Halves.{Halves}
+use Rattle.splitting.specs.declared.StringRead.{StringRead}
+use Rattle.splitting.specs.Strings.{stringOf}
+use Rattle.text.specs.Text.{bytesOf}
+use Rattle.card.specs.Cards.{stringCard, continued, continuationOf}
+use borrow.Author.Needs.{needs}
+use Rattle.card.proofs.continuation.Statement.{statement}
+use Rattle.card.proofs.continuation.Tie as tie
+
+abbrev halves : tie.After-parse-string → Halves
+halves c = c .before .before .before .split .result
+
+string-is : (c : tie.After-parse-string) (commented : Bool)
+    → let r = c .parse-string .result in let name = c .before .before .before .before .args .name in
+    stringCard (r .answer) name (r .text) commented (halves c .comment) ≡ (let r = stringOf (bytesOf (halves c .value)) in stringCard (r .answer) name (r .text) commented (halves c .comment))
+string-is c commented =
+    let name = c .before .before .before .before .args .name in
+    ap (λ (r : StringRead). stringCard (r .answer) name (r .text) commented (halves c .comment)) (c .parse-string .ensures)
+
+-- the case that an arm knows is the whole
+by : (c : tie.After-parse-string) (p : Parts) → halves c .parts ≡ p
+    → let a = c .before .before .before .before .args in
+    continued p (a .name) (halves c .value) (halves c .comment) ≡ continuationOf (a .name) (a .card .now)
+unfolding continuationOf
+by c p e =
+    let a = c .before .before .before .before .args in
+    ap (λ (x : Parts). continued x (a .name) (halves c .value) (halves c .comment)) (sym e)
+    ∙ ap (λ (h : Halves). continued (h .parts) (a .name) (h .value) (h .comment)) (c .before .before .before .split .ensures)
+
+split-requires : tie.Need-split-requires
+split-requires c κs = search needs
+
+parse-string-requires : tie.Need-parse-string-requires
+parse-string-requires c κs = search needs
+
+enum-told : tie.Need-enum-told
+enum-told c = search needs
+
+string-card-requires : tie.Need-string-card-requires
+string-card-requires c κs = search needs
+
+enum-told-2 : tie.Need-enum-told-2
+enum-told-2 c = search needs
+
+string-card-requires-2 : tie.Need-string-card-requires-2
+string-card-requires-2 c κs = search needs
+
+enum-told-3 : tie.Need-enum-told-3
+enum-told-3 c = search needs
+
+refused-requires : tie.Need-refused-requires
+refused-requires c κs = search needs
+
+returns : tie.Need-returns
+returns c = c .string-card .ensures ∙ string-is (c .before .before .before .before) false ∙ by (c .before .before .before .before) Bare (c .before .enum-told .given .1)
+
+returns-2 : tie.Need-returns-2
+returns-2 c = c .string-card2 .ensures ∙ string-is (c .before .before .before .before) true ∙ by (c .before .before .before .before) Commented (c .before .enum-told2 .given .1)
+
+returns-3 : tie.Need-returns-3
+returns-3 c =
+    let told = c .before in
+    c .refused .ensures ∙ by (told .before .before .before) (Refused (told .enum-told3 .given .0 .0)) (told .enum-told3 .given .1)
+
+pub continuation-spec : {M : Type 1} → statement M
+continuation-spec =
+    tie.close
+    (tie.spec
+    split-requires
+    parse-string-requires
+    enum-told
+    string-card-requires
+    enum-told-2
+    string-card-requires-2
+    enum-told-3
+    refused-requires
+    returns
+    returns-2
+    returns-3)

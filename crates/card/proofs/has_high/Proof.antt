@@ -1,0 +1,55 @@
+-- `card::has_high` meets its contract: what stands from i on decides for the whole.
+use Prim.Native.Nat.{_-_, _≤_}
+use native.Mathlib.Omega.{arith}
+use mathlib.Core.Path.{_≡_, _∙_}
+use lib.ListN.{length, drop}
+use borrow.Author.Needs.{needs}
+use Rattle.card.specs.Keywords.{hasHigh}
+use Rattle.card.proofs.Highs.{high-here, high-later, high-none}
+use Rattle.card.proofs.has_high.Statement.{statement}
+use Rattle.card.proofs.has_high.Tie as tie
+
+abbrev Inv-loop : tie.InvT-loop
+Inv-loop s i₀ i = (i ≤ length s) × (hasHigh (drop i s) ≡ hasHigh s)
+
+abbrev μ-loop : tie.MeasureT-loop
+μ-loop s i₀ i = length s - i
+
+loop-holds : tie.Need-loop-holds Inv-loop μ-loop
+loop-holds c = search needs
+
+shared-slice-read-if1 : tie.Need-shared-slice-read-if1 Inv-loop μ-loop
+shared-slice-read-if1 c = search needs
+
+returns : tie.Need-returns Inv-loop μ-loop
+returns c =
+    let at-loop = c .before .before .before in
+    high-here (at-loop .before .args .s .now) (at-loop .loop .i) (c .before .before .loop-test .taken) (c .if1 .taken) ∙ at-loop .loop .inv .1
+
+add-i : tie.Need-add-i Inv-loop μ-loop
+add-i c = search needs
+
+loop-less : tie.Need-loop-less Inv-loop μ-loop
+loop-less c = search needs
+
+loop-again : tie.Need-loop-again Inv-loop μ-loop
+loop-again c =
+    let at-loop = c .before .before .before in
+    (omega arith, high-later (at-loop .before .args .s .now) (at-loop .loop .i) (c .before .before .loop-test .taken) (c .if1 .left) ∙ at-loop .loop .inv .1)
+
+returns-2 : tie.Need-returns-2 Inv-loop μ-loop
+returns-2 c = high-none (c .before .before .args .s .now) (c .before .loop .i) (c .loop-test .left) ∙ c .before .loop .inv .1
+
+pub has-high-spec : {M : Type 1} → statement M
+has-high-spec =
+    tie.close
+    (tie.spec
+    Inv-loop
+    μ-loop
+    loop-holds
+    shared-slice-read-if1
+    returns
+    add-i
+    loop-less
+    loop-again
+    returns-2)

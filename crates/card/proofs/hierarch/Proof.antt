@@ -1,0 +1,134 @@
+-- `card::hierarch` meets its contract: by where the = stands, and by whether a name stands before it.
+use Prim.Native.Nat.{ℕ, _+_, _<_, _≤_}
+use native.Mathlib.Omega.{arith}
+use mathlib.Core.Path.{_≡_, refl, sym, ap, _∙_}
+use mathlib.Core.Bool.{true}
+use mathlib.Core.List.{List, [], _∷_}
+use lib.ListN.{length, take, drop, length-take, length-drop}
+use borrow.Author.Needs.{needs}
+use Rattle.text.specs.declared.Text.{Text}
+use Rattle.text.specs.declared.Place.{Place}
+use Rattle.text.specs.declared.Place.the-variants.{At, Nowhere}
+use Rattle.text.specs.Place.{placeOf}
+use Rattle.text.specs.Text.{size, textOf}
+use Rattle.text.proofs.Finding.{found-within}
+use Rattle.refusal.specs.Numbers.{refusal}
+use Rattle.value.specs.declared.ValueRead.{ValueRead}
+use Rattle.value.specs.Values.{valueOf}
+use Rattle.card.specs.Keywords.{dottedName}
+use Rattle.card.specs.Cards.{refusedWith, ofValue, named, byEquals, hierarchOf}
+use Rattle.card.proofs.hierarch.Statement.{statement}
+use Rattle.card.proofs.hierarch.Tie as tie
+
+abbrev card : tie.After-find-byte → List ℕ
+card c = c .before .before .before .args .card .now
+
+found : (c : tie.After-find-byte) → c .find-byte .result ≡ placeOf 61 (drop 9 (card c))
+found c = c .find-byte .ensures ∙ ap (placeOf 61) (c .before .rest-of .ensures)
+
+fits : (c : tie.After-find-byte) → length (c .before .rest-of .result .now) ≤ size
+fits c =
+    let long : length (card c) ≡ size = search needs in
+    rw (c .before .rest-of .ensures) (omega (arith, length-drop 9 (card c)))
+
+-- the place that an arm knows gives the card
+by : (c : tie.After-find-byte) (p : Place) → c .find-byte .result ≡ p → byEquals p (card c) ≡ hierarchOf (card c)
+unfolding hierarchOf
+by c p e = ap (λ (x : Place). byEquals x (card c)) (sym e ∙ found c)
+
+-- where the = stands, and the name before it
+abbrev index : tie.After-dotted-name → ℕ
+index c = c .before .before .before .i .given .0 .0
+
+abbrev name-of : tie.After-dotted-name → List ℕ
+name-of c = dottedName (take (index c) (drop 9 (card (c .before .before .before .before .before))))
+
+name-is : (c : tie.After-dotted-name) → c .dotted-name .result ≡ textOf (name-of c)
+name-is c =
+    c .dotted-name .ensures ∙ ap (λ (l : List ℕ). textOf (dottedName l)) (c .before .first-of .ensures ∙ ap (take (index c)) (c .before .before .before .before .before .before .rest-of .ensures))
+
+whole : (c : tie.After-dotted-name) → let card = card (c .before .before .before .before .before) in named (name-of c) (drop (10 + index c) card) ≡ hierarchOf card
+whole c = by (c .before .before .before .before .before) (At (index c)) (c .before .before .before .i .given .1)
+
+nameless : (n raw : List ℕ) → length n ≡ 0 → refusedWith (refusal 7) ≡ named n raw
+nameless [] raw e = refl
+nameless (b ∷ n) raw e = absurd (omega arith)
+
+with-name : (n raw : List ℕ) → (length n ≡ 0 → ⊥) → ofValue true (textOf n) (valueOf raw) ≡ named n raw
+with-name [] raw e = absurd (e refl)
+with-name (b ∷ n) raw e = refl
+
+rest-of-requires : tie.Need-rest-of-requires
+rest-of-requires c κs = search needs
+
+find-byte-requires : tie.Need-find-byte-requires
+find-byte-requires c κs = search needs
+
+enum-known-i : tie.Need-enum-known-i
+enum-known-i c = search needs
+
+enum-told : tie.Need-enum-told
+enum-told c = search needs
+
+refused-requires : tie.Need-refused-requires
+refused-requires c κs = search needs
+
+returns : tie.Need-returns
+returns c = c .refused .ensures ∙ by (c .before .before .before) Nowhere (c .before .enum-told .given .1)
+
+first-of-requires : tie.Need-first-of-requires
+first-of-requires c κs = search needs
+
+dotted-name-requires : tie.Need-dotted-name-requires
+dotted-name-requires c κs =
+    let find = c .before .before .before .before in
+    rw (c .first-of .ensures) (omega (arith, length-take (c .before .before .i .given .0 .0) (find .before .rest-of .result .now), fits find))
+
+refused-requires-2 : tie.Need-refused-requires-2
+refused-requires-2 c κs = search needs
+
+returns-2 : tie.Need-returns-2
+returns-2 c =
+    let at-name = c .before .before .before in
+    c .refused2 .ensures ∙ nameless (name-of at-name) _ (sym (ap (λ (t : Text). t .len) (name-is at-name)) ∙ c .before .if1 .taken) ∙ whole at-name
+
+add-read-value : tie.Need-add-read-value
+add-read-value c =
+    let at-i = c .before .before .before .before .before in
+    let find = at-i .before .before in
+    omega (arith, fits find, found-within 61 (drop 9 (card find)) (at-i .i .given .0 .0) (sym (found find) ∙ at-i .i .given .1), length-drop 9 (card find))
+
+read-value-requires : tie.Need-read-value-requires
+read-value-requires c κs = search needs
+
+with-value-requires : tie.Need-with-value-requires
+with-value-requires c κs = search needs
+
+returns-3 : tie.Need-returns-3
+returns-3 c =
+    let at-name = c .before .before .before .before in
+    let find = at-name .before .before .before .before .before in
+    c .with-value .ensures
+    ∙ ap (ofValue true (at-name .dotted-name .result)) (c .before .read-value .ensures)
+    ∙ ap (λ (t : Text). ofValue true t (valueOf (drop (10 + index at-name) (card find)))) (name-is at-name)
+    ∙ with-name (name-of at-name) _ (λ e. c .before .before .if1 .left (ap (λ (t : Text). t .len) (name-is at-name) ∙ e))
+    ∙ whole at-name
+
+pub hierarch-spec : {M : Type 1} → statement M
+hierarch-spec =
+    tie.close
+    (tie.spec
+    rest-of-requires
+    find-byte-requires
+    enum-known-i
+    enum-told
+    refused-requires
+    returns
+    first-of-requires
+    dotted-name-requires
+    refused-requires-2
+    returns-2
+    add-read-value
+    read-value-requires
+    with-value-requires
+    returns-3)

@@ -1,0 +1,136 @@
+-- `card::quoted_card` meets its contract: by the quotes at either end of the value text.
+use Prim.Native.Nat.{ℕ, _-_, _≤_}
+use native.Mathlib.Omega.{arith}
+use mathlib.Core.Path.{_≡_, sym, ap, _∙_}
+use mathlib.Core.Bool.{Bool, true, false}
+use mathlib.Core.List.{List}
+use lib.ListN.{length, take, drop, length-take, length-drop}
+use Rattle.text.specs.declared.Text.{Text}
+use Rattle.text.specs.Bytes.{isSpace}
+use Rattle.text.specs.Trim.{trim}
+use Rattle.text.specs.Text.{size, textOf, bytesOf}
+use Rattle.text.proofs.Trimming.{shorter}
+use Rattle.text.proofs.Texts.{whole-text, bytes-fit}
+use Rattle.refusal.specs.Numbers.{refusal}
+use Rattle.card.specs.declared.Card.the-variants.{Xtension}
+use Rattle.card.specs.Cards.{refusedWith, readAs, isWithinQuotes, inside, quotedCard}
+use Rattle.card.proofs.Classes.{too-short, unopened, unclosed, quoted}
+use borrow.Author.Needs.{needs}
+use Rattle.card.proofs.quoted_card.Statement.{statement}
+use Rattle.card.proofs.quoted_card.Tie as tie
+
+fits : (c : tie.After-first-of) → length (c .first-of .result .now) ≤ size
+fits c =
+    let v = c .before .before .before .args .v in
+    let long : length (v .bytes) ≡ size = search needs in
+    rw (c .first-of .ensures) (bytes-fit v long)
+
+not-within : (c : tie.After-first-of) → isWithinQuotes (c .first-of .result .now) ≡ false
+    → let a = c .before .before .before .args in refusedWith (refusal 8) ≡ quotedCard (a .name) (a .v)
+unfolding quotedCard
+not-within c e = rw (sym (ap isWithinQuotes (c .first-of .ensures)) ∙ e)
+
+is-within : (c : tie.After-first-of) → isWithinQuotes (c .first-of .result .now) ≡ true
+    → let a = c .before .before .before .args in readAs Xtension (a .name) (textOf (trim isSpace (inside (c .first-of .result .now)))) ≡ quotedCard (a .name) (a .v)
+unfolding quotedCard
+is-within c e =
+    let a = c .before .before .before .args in
+    ap (λ (l : List ℕ). readAs Xtension (a .name) (textOf (trim isSpace (inside l)))) (c .first-of .ensures) ∙ rw (sym (ap isWithinQuotes (c .first-of .ensures)) ∙ e)
+
+slice-aggregate-first-of : tie.Need-slice-aggregate-first-of
+slice-aggregate-first-of c = search needs
+
+first-of-requires : tie.Need-first-of-requires
+first-of-requires c κs = search needs
+
+refused-requires : tie.Need-refused-requires
+refused-requires c κs = search needs
+
+returns : tie.Need-returns
+returns c = c .refused .ensures ∙ not-within (c .before .before) (too-short (c .before .before .first-of .result .now) (c .before .if1 .taken))
+
+shared-slice-read-if2 : tie.Need-shared-slice-read-if2
+shared-slice-read-if2 c = search needs
+
+refused-requires-2 : tie.Need-refused-requires-2
+refused-requires-2 c κs = search needs
+
+returns-2 : tie.Need-returns-2
+returns-2 c =
+    let first = c .before .before .before .before in
+    c .refused2 .ensures ∙ not-within first (unopened (first .first-of .result .now) (c .before .before .before .if1 .left) (c .before .if2 .taken))
+
+sub-if3 : tie.Need-sub-if3
+sub-if3 c = search needs
+
+shared-slice-read-if3 : tie.Need-shared-slice-read-if3
+shared-slice-read-if3 c = search needs
+
+refused-requires-3 : tie.Need-refused-requires-3
+refused-requires-3 c κs = search needs
+
+returns-3 : tie.Need-returns-3
+returns-3 c =
+    let second = c .before .before .before in
+    let first = second .before .before .before in
+    c .refused3 .ensures ∙ not-within first (unclosed (first .first-of .result .now) (second .before .before .if1 .left) (second .if2 .left) (c .before .if3 .taken))
+
+sub-trimmed : tie.Need-sub-trimmed
+sub-trimmed c = search needs
+
+sub-trimmed-2 : tie.Need-sub-trimmed-2
+sub-trimmed-2 c = search needs
+
+part-trimmed-start : tie.Need-part-trimmed-start
+part-trimmed-start c = search needs
+
+part-trimmed-end : tie.Need-part-trimmed-end
+part-trimmed-end c = search needs
+
+trimmed-requires : tie.Need-trimmed-requires
+trimmed-requires c κs = search needs
+
+text-of-requires : tie.Need-text-of-requires
+text-of-requires c κs = search needs
+
+read-as-requires : tie.Need-read-as-requires
+read-as-requires c κs = search needs
+
+returns-4 : tie.Need-returns-4
+returns-4 c =
+    let third = c .before .before .before .before in
+    let second = third .before .before in
+    let first = second .before .before .before in
+    let s = first .first-of .result .now in
+    let a = first .before .before .before .args in
+    let t = c .before .before .trimmed .result .now in
+    let within : length s ≤ size = fits first in
+    let part : length (inside s) ≤ size = omega (arith, length-take (length s - 1 - 1) (drop 1 s), length-drop 1 s) in
+    let short : length t ≤ size = rw (c .before .before .trimmed .ensures) (omega (arith, shorter isSpace (inside s))) in
+    c .read-as .ensures
+    ∙ ap (readAs Xtension (a .name)) (c .before .text-of .ensures ∙ whole-text t short ∙ ap textOf (c .before .before .trimmed .ensures))
+    ∙ is-within first (quoted s (second .before .before .if1 .left) (second .if2 .left) (third .if3 .left))
+
+pub quoted-card-spec : {M : Type 1} → statement M
+quoted-card-spec =
+    tie.close
+    (tie.spec
+    slice-aggregate-first-of
+    first-of-requires
+    refused-requires
+    returns
+    shared-slice-read-if2
+    refused-requires-2
+    returns-2
+    sub-if3
+    shared-slice-read-if3
+    refused-requires-3
+    returns-3
+    sub-trimmed
+    sub-trimmed-2
+    part-trimmed-start
+    part-trimmed-end
+    trimmed-requires
+    text-of-requires
+    read-as-requires
+    returns-4)

@@ -1,0 +1,3 @@
+-- Laws of the kinds of value.
+pub mod Starts
+pub mod Reading

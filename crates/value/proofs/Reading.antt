@@ -1,0 +1,44 @@
+-- Values with their texts, by what a test says, and the unit of a comment.
+use Prim.Native.Nat.{ℕ}
+use native.Mathlib.Omega.{arith}
+use mathlib.Core.Path.{_≡_, refl, ap, _∙_}
+use mathlib.Core.Bool.{Bool, true, false, cond}
+use mathlib.Core.List.{List, [], _∷_}
+use borrow.Author.Tests.{eq-eqb, ne-eqb}
+use lib.ListN.{length, drop, getD}
+use Rattle.text.specs.declared.Text.{Text}
+use Rattle.text.specs.Text.{textOf}
+use Rattle.text.specs.Place.{placeOf}
+use Rattle.numbers.specs.declared.Value.{Value}
+use Rattle.value.specs.declared.ValueAnswer.the-variants.{Read}
+use Rattle.value.specs.declared.ValueRead.{ValueRead}
+use Rattle.value.specs.declared.UnitPlace.the-variants.{Nowhere}
+use Rattle.value.specs.Values.{keepsComment, readAs}
+use Rattle.value.specs.Units.{closedAt, unitOf}
+
+-- ---- comments
+module _ (v : Value) (text : Text) (commented : Bool) (comment : Text) where
+  pub comment-kept : keepsComment v ≡ true → _≡_ {A = ValueRead} (record { answer = Read v; text = text; commented = commented; comment = comment }) (readAs v text commented comment)
+  comment-kept e = rw e
+
+  pub comment-dropped : keepsComment v ≡ false → _≡_ {A = ValueRead} (record { answer = Read v; text = text; commented = false; comment = textOf [] }) (readAs v text commented comment)
+  comment-dropped e = rw e
+
+-- ---- units
+pub unit-empty : (s : List ℕ) → length s ≡ 0 → unitOf s ≡ Nowhere
+unfolding unitOf
+unit-empty [] e = refl
+unit-empty (b ∷ s) e = absurd (omega arith)
+
+by-first : (s : List ℕ) → (length s ≡ 0 → ⊥) → s ≡ getD s 0 0 ∷ drop 1 s
+by-first [] h = absurd (h refl)
+by-first (b ∷ s) h = refl
+
+module _ (s : List ℕ) (some : length s ≡ 0 → ⊥) where
+  pub unit-none : (getD s 0 0 ≡ 91 → ⊥) → unitOf s ≡ Nowhere
+  unfolding unitOf
+  unit-none e = ap unitOf (by-first s some) ∙ rw (ne-eqb _ 91 e)
+
+  pub unit-some : getD s 0 0 ≡ 91 → unitOf s ≡ closedAt (placeOf 93 (drop 1 s))
+  unfolding unitOf
+  unit-some e = ap unitOf (by-first s some) ∙ rw (eq-eqb _ 91 e)

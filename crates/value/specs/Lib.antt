@@ -1,0 +1,3 @@
+-- What the contracts of `value` cite.
+pub mod Values
+pub mod Units

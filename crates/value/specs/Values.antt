@@ -1,0 +1,91 @@
+-- The six kinds of value (document 01, "One card"; the standard, 4.2).
+use Prim.Native.Nat.{ℕ}
+use mathlib.Core.Bool.{Bool, true, false, cond, _&&_, _||_}
+use mathlib.Core.List.{List, [], _∷_}
+use lib.Dec.{eqb}
+use Rattle.refusal.specs.declared.Refusal.{Refusal}
+use Rattle.refusal.specs.Numbers.{refusal}
+use Rattle.text.specs.declared.Text.{Text}
+use Rattle.text.specs.Bytes.{isDigit}
+use Rattle.text.specs.Text.{textOf, bytesOf}
+use Rattle.splitting.specs.declared.Parts.{Parts}
+use Rattle.splitting.specs.declared.Parts.the-variants.{Bare, Commented, Refused as Refused-parts}
+use Rattle.splitting.specs.declared.Quoted.{Quoted}
+use Rattle.splitting.specs.declared.Quoted.the-variants.{Str, Refused as Refused-string}
+use Rattle.splitting.specs.Split.{splitOf}
+use Rattle.splitting.specs.Strings.{stringOf}
+use Rattle.numbers.specs.declared.Value.{Value}
+use Rattle.numbers.specs.declared.Value.the-variants.{Integer, Float, Logical, String, Undefined, Invalid}
+use Rattle.numbers.specs.Numbers.{numberOf}
+use Rattle.value.specs.declared.ValueAnswer.the-variants.{Read, Refused}
+use Rattle.value.specs.declared.ValueRead.{ValueRead}
+use Rattle.value.specs.declared.Start.{Start}
+use Rattle.value.specs.declared.Start.the-variants.{Quote, Truth, Number, Complex, Else}
+
+-- a sign, a point or a digit
+unfoldable pub startsNumber : ℕ → Bool
+startsNumber b = eqb b 43 || (eqb b 45 || (eqb b 46 || isDigit b))
+
+-- what the first byte says: a quote, T, F, ( or the start of a number
+unfoldable pub startOf : ℕ → Start
+startOf b =
+    cond (eqb b 39) Quote
+    (cond (eqb b 84) (Truth true)
+    (cond (eqb b 70) (Truth false)
+    (cond (eqb b 40) Complex
+    (cond (startsNumber b) Number
+    Else))))
+
+-- undefined and invalid have no comment
+abbrev pub keepsComment : Value → Bool
+keepsComment (Integer z) = true
+keepsComment (Float minus size) = true
+keepsComment (Logical t) = true
+keepsComment String = true
+keepsComment Undefined = false
+keepsComment Invalid = false
+
+-- a value with its text, and its comment where it keeps one
+abbrev pub readAs : Value → Text → Bool → Text → ValueRead
+readAs v text commented comment =
+    record { answer = Read v; text = text; commented = cond (keepsComment v) commented false; comment = cond (keepsComment v) comment (textOf []) }
+
+abbrev pub refusedWith : Refusal → ValueRead
+refusedWith why = record { answer = Refused why; text = textOf []; commented = false; comment = textOf [] }
+
+-- a value text that begins with a quote
+abbrev pub byQuotes : Quoted → Text → Bool → Text → ValueRead
+byQuotes Str s commented comment = readAs String s commented comment
+byQuotes (Refused-string why) s commented comment = refusedWith why
+
+unfoldable pub ofString : Text → Bool → Text → ValueRead
+ofString v commented comment = let r = stringOf (bytesOf v) in byQuotes (r .answer) (r .text) commented comment
+
+-- a value text that begins as a number does
+unfoldable pub ofNumber : Text → Bool → Text → ValueRead
+ofNumber v commented comment = let r = numberOf (bytesOf v) in readAs (r .value) (r .text) commented comment
+
+-- by what the first byte of the value text v says; an invalid value holds the whole raw text
+abbrev pub byStart : Start → Text → List ℕ → Bool → Text → ValueRead
+byStart Quote v raw commented comment = ofString v commented comment
+byStart (Truth t) v raw commented comment = readAs (Logical t) (textOf []) commented comment
+byStart Number v raw commented comment = ofNumber v commented comment
+byStart Complex v raw commented comment = refusedWith (refusal 5)
+byStart Else v raw commented comment = readAs Invalid (textOf raw) commented comment
+
+-- empty text is undefined
+abbrev pub byBytes : List ℕ → Text → List ℕ → Bool → Text → ValueRead
+byBytes [] v raw commented comment = readAs Undefined (textOf []) commented comment
+byBytes (b ∷ s) v raw commented comment = byStart (startOf b) v raw commented comment
+
+unfoldable pub valueWith : Text → List ℕ → Bool → Text → ValueRead
+valueWith v raw commented comment = byBytes (bytesOf v) v raw commented comment
+
+abbrev pub byParts : Parts → Text → List ℕ → Text → ValueRead
+byParts Bare v raw comment = valueWith v raw false comment
+byParts Commented v raw comment = valueWith v raw true comment
+byParts (Refused-parts i) v raw comment = refusedWith (refusal 2)
+
+-- the value in a raw text
+unfoldable pub valueOf : List ℕ → ValueRead
+valueOf raw = let h = splitOf raw in byParts (h .parts) (h .value) raw (h .comment)

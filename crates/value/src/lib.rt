@@ -1,0 +1,199 @@
+// A value card's text as one of the six kinds of value, and the unit that a comment names.
+ghost use mathlib.Core.Path.{_≡_};
+ghost use Prim.Native.Nat.{_≤_};
+ghost use lib.ListN.{length, drop};
+ghost use Rattle.text.specs.Text.{size};
+ghost use Rattle.value.specs.Values.{startsNumber, startOf, keepsComment, readAs, refusedWith, ofString, ofNumber, valueWith, valueOf};
+ghost use Rattle.value.specs.Units.{unitOf};
+use numbers::Value;
+use refusal::Refusal;
+use splitting::Parts;
+use splitting::Quoted;
+use text::Place;
+use text::Text;
+
+// What reading a value text answers.
+pub enum ValueAnswer {
+    Read(Value),
+    Refused(Refusal),
+}
+
+// The texts stand beside the answer: that of a string, of an invalid value or of a decimal's digits, and the comment.
+// One that is missing is empty.
+pub struct ValueRead {
+    pub answer: ValueAnswer,
+    pub text: Text,
+    pub commented: bool,
+    pub comment: Text,
+}
+
+// What a value text's first byte says.
+pub enum Start {
+    Quote,
+    Truth(bool),
+    Number,
+    Complex,
+    Else,
+}
+
+// Where a comment names a unit: from one byte up to another, or nowhere.
+pub enum UnitPlace {
+    Between(usize, usize),
+    Nowhere,
+}
+
+// The value in a card's text from a byte on.
+pub fn read_value(card: &[u8; 80], from: usize) -> ValueRead
+    ensures { λ r. ⌜ r ≡ valueOf (drop from (now (card .entry))) ⌝ }
+{
+    let halves = splitting::split(card, from);
+    let parts = halves.parts;
+    let v = halves.value;
+    let comment = halves.comment;
+    let raw = text::rest_of(&card[..], from);
+    match parts {
+        Parts::Bare => value_with(v, raw, false, comment),
+        Parts::Commented => value_with(v, raw, true, comment),
+        Parts::Refused(_) => refused(Refusal::OddByte),
+    }
+}
+
+// The unit of a comment: between its first byte, a bracket, and the first closing bracket.
+pub fn unit(comment: &[u8]) -> UnitPlace
+    ensures { λ r. ⌜ r ≡ unitOf (now (comment .entry)) ⌝ }
+{
+    if comment.len() == 0 {
+        return UnitPlace::Nowhere;
+    }
+    if comment[0] != b'[' {
+        return UnitPlace::Nowhere;
+    }
+    let Place::At(i) = text::find_byte(&comment[1..], b']') else {
+        return UnitPlace::Nowhere;
+    };
+    UnitPlace::Between(1, i + 1)
+}
+
+// A digit, a sign or a point.
+fn starts_number(b: u8) -> bool
+    ensures { λ r. ⌜ r ≡ startsNumber b ⌝ }
+{
+    if b == b'+' {
+        return true;
+    }
+    if b == b'-' {
+        return true;
+    }
+    if b == b'.' {
+        return true;
+    }
+    text::is_digit(b)
+}
+
+fn start_of(b: u8) -> Start
+    ensures { λ r. ⌜ r ≡ startOf b ⌝ }
+{
+    if b == b'\'' {
+        return Start::Quote;
+    }
+    if b == b'T' {
+        return Start::Truth(true);
+    }
+    if b == b'F' {
+        return Start::Truth(false);
+    }
+    if b == b'(' {
+        return Start::Complex;
+    }
+    if starts_number(b) {
+        return Start::Number;
+    }
+    Start::Else
+}
+
+fn keeps_comment(value: Value) -> bool
+    ensures { λ r. ⌜ r ≡ keepsComment value ⌝ }
+{
+    match value {
+        Value::Undefined => false,
+        Value::Invalid => false,
+        Value::Integer(_) => true,
+        Value::Float(_, _) => true,
+        Value::Logical(_) => true,
+        Value::String => true,
+    }
+}
+
+// A value with its text, and its comment where it keeps one.
+fn read_as(value: Value, text: Text, commented: bool, comment: Text) -> ValueRead
+    ensures { λ r. ⌜ r ≡ readAs value text commented comment ⌝ }
+{
+    if keeps_comment(value) {
+        return ValueRead {
+            answer: ValueAnswer::Read(value),
+            text: text,
+            commented: commented,
+            comment: comment,
+        };
+    }
+    ValueRead {
+        answer: ValueAnswer::Read(value),
+        text: text,
+        commented: false,
+        comment: text::empty_text(),
+    }
+}
+
+fn refused(why: Refusal) -> ValueRead
+    ensures { λ r. ⌜ r ≡ refusedWith why ⌝ }
+{
+    ValueRead {
+        answer: ValueAnswer::Refused(why),
+        text: text::empty_text(),
+        commented: false,
+        comment: text::empty_text(),
+    }
+}
+
+// A value text that begins with a quote.
+fn string_value(v: Text, commented: bool, comment: Text) -> ValueRead
+    ensures { λ r. ⌜ r ≡ ofString v commented comment ⌝ }
+{
+    let read = splitting::parse_string(v);
+    let answer = read.answer;
+    let s = read.text;
+    match answer {
+        Quoted::Str => read_as(Value::String, s, commented, comment),
+        Quoted::Refused(why) => refused(why),
+    }
+}
+
+// A value text that splitting gave, with the raw text that it was split from.
+fn value_with(v: Text, raw: &[u8], commented: bool, comment: Text) -> ValueRead
+    requires { ⌜ (v .len ≤ size) × (length (now raw) ≤ size) ⌝ }
+    ensures { λ r. ⌜ r ≡ valueWith v (now (raw .entry)) commented comment ⌝ }
+{
+    let n = v.len;
+    let bytes = v.bytes;
+    let none = text::empty_text();
+    if n == 0 {
+        return read_as(Value::Undefined, none, commented, comment);
+    }
+    match start_of(bytes[0]) {
+        Start::Quote => string_value(v, commented, comment),
+        Start::Truth(t) => read_as(Value::Logical(t), none, commented, comment),
+        Start::Number => number_value(v, commented, comment),
+        Start::Complex => refused(Refusal::Complex),
+        Start::Else => read_as(Value::Invalid, text::text_of(raw), commented, comment),
+    }
+}
+
+// A value text that begins as a number does.
+fn number_value(v: Text, commented: bool, comment: Text) -> ValueRead
+    ensures { λ r. ⌜ r ≡ ofNumber v commented comment ⌝ }
+{
+    let number = numbers::parse_number(v);
+    let value = number.value;
+    let text = number.text;
+    read_as(value, text, commented, comment)
+}
