@@ -8,26 +8,34 @@ use mathlib.Core.List.{List, [], _∷_, _++_, append-assoc, map}
 use lib.ListN.{length, set, take, getD, replicate, length-append, length-map, length-take}
 use lib.Seq.{set-append-seam, length-take-le, take-suc, take-all, take-append-seam, getD-take, getD-append-add}
 use Rattle.text.specs.declared.Text.{Text}
-use Rattle.text.specs.Text.{size, padded, textOf, bytesOf}
+use Rattle.text.specs.Text.{size, filled, padded, textOf, bytesOf}
 
 -- one byte more
 pub length-put : (v : List ℕ) (b : ℕ) → length (v ++ b ∷ []) ≡ length v + 1
 length-put v b = length-append v (b ∷ [])
 
+-- an array of marks alone
+pub filled-none : (mark n : ℕ) → replicate n mark ≡ filled mark n []
+unfolding filled
+filled-none mark n = rw sub-zero
+
 -- an array of zeros is the text of no bytes
 pub padded-none : (n : ℕ) → replicate n 0 ≡ padded n []
-unfolding padded
-padded-none n = rw sub-zero
+padded-none n = filled-none 0 n
+
+-- a number put behind the others takes the place of the first mark
+pub filled-put : (mark n : ℕ) (v : List ℕ) (b : ℕ) → length v < n → set (filled mark n v) (length v) b ≡ filled mark n (v ++ b ∷ [])
+unfolding filled
+filled-put mark n v b h =
+    let room : n - length v ≡ suc (n - (length v + 1)) = omega arith in
+    ap (λ (k : ℕ). set (v ++ replicate k mark) (length v) b) room
+    ∙ set-append-seam v mark (replicate (n - (length v + 1)) mark) b
+    ∙ sym (append-assoc v (b ∷ []) (replicate (n - (length v + 1)) mark))
+    ∙ ap (λ (k : ℕ). (v ++ b ∷ []) ++ replicate (n - k) mark) (sym (length-put v b))
 
 -- a byte put behind the text takes the place of the first zero
 pub padded-put : (n : ℕ) (v : List ℕ) (b : ℕ) → length v < n → set (padded n v) (length v) b ≡ padded n (v ++ b ∷ [])
-unfolding padded
-padded-put n v b h =
-    let room : n - length v ≡ suc (n - (length v + 1)) = omega arith in
-    ap (λ (k : ℕ). set (v ++ replicate k 0) (length v) b) room
-    ∙ set-append-seam v 0 (replicate (n - (length v + 1)) 0) b
-    ∙ sym (append-assoc v (b ∷ []) (replicate (n - (length v + 1)) 0))
-    ∙ ap (λ (k : ℕ). (v ++ b ∷ []) ++ replicate (n - k) 0) (sym (length-put v b))
+padded-put n v b h = filled-put 0 n v b h
 
 -- a list copied into an array, a byte at a time
 pub copy-step : (n : ℕ) (w : List ℕ) (i : ℕ) → i < length w → length w ≤ n → set (padded n (take i w)) i (getD w i 0) ≡ padded n (take (i + 1) w)
@@ -74,7 +82,7 @@ module _ (f : ℕ → ℕ) (s : List ℕ) where
 
 -- a text in an array holds its bytes
 pub bytes-text : (v : List ℕ) → bytesOf (textOf v) ≡ v
-unfolding padded
+unfolding filled
 bytes-text v = take-append-seam v _
 
 -- a length beyond the end takes all

@@ -11,9 +11,13 @@ use Rattle.text.specs.Bytes.{shown, dToE}
 abbrev pub size : ℕ
 size = 80
 
+-- numbers, then a mark in every place up to n
+unfoldable pub filled : ℕ → ℕ → List ℕ → List ℕ
+filled mark n v = v ++ replicate (n - length v) mark
+
 -- bytes, then zeros up to n
-unfoldable pub padded : ℕ → List ℕ → List ℕ
-padded n v = v ++ replicate (n - length v) 0
+abbrev pub padded : ℕ → List ℕ → List ℕ
+padded n v = filled 0 n v
 
 abbrev pub textOf : List ℕ → Text
 textOf v = record { bytes = padded size v; len = length v }

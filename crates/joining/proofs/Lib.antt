@@ -1,0 +1,5 @@
+-- What is proved of joining and lookup.
+pub mod Names
+pub mod Answers
+pub mod Owning
+pub mod Demand3

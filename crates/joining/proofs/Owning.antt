@@ -1,0 +1,33 @@
+-- What stands open where K's entry was the last: nothing, or that entry.
+use Prim.Native.Nat.{ℕ}
+use mathlib.Core.List.{List}
+use mathlib.Core.Path.{_≡_, refl, sym, _∙_}
+use mathlib.Core.Bool.{Bool, true, false, cond, true≢false}
+use Rattle.text.specs.Same.{same}
+use Rattle.joining.specs.Roles.{Role, entry, more, neutral, last}
+use Rattle.joining.specs.Lookup.{isOpen}
+use Rattle.joining.specs.Belonging.{Entry, Open, idle, held, Effect, gives, nothing, stops, does, leaves, bears}
+
+module _ (k : List ℕ) where
+  -- nothing is open but perhaps K's entry
+  pub data Own : Open → Type 0 where
+    free : Own idle
+    own : {e : Entry} → same (e .name) k ≡ true → Own (held e)
+
+  -- a card that bears K leaves nothing else open
+  pub own-after : (q : Open) (f : Effect) → bears k f ≡ true → Own (leaves q f)
+  own-after q (gives e) b = go (isOpen (e .value))
+    where
+      go : (u : Bool) → Own (cond u (held e) idle)
+      go true = own b
+      go false = free
+  own-after q nothing b = absurd (true≢false (sym b))
+  own-after q stops b = absurd (true≢false (sym b))
+
+  -- under K's entry a card that does not bear K does what it does where nothing is open
+  pub like-idle : {q : Open} → Own q → (c : Role) → bears k (does q c) ≡ false → does q c ≡ does idle c
+  like-idle free c b = refl
+  like-idle (own x) (entry n v) b = refl
+  like-idle (own x) (more t d) b = absurd (true≢false (sym x ∙ b))
+  like-idle (own x) neutral b = refl
+  like-idle (own x) last b = refl
