@@ -1,0 +1,8 @@
+-- Laws of a header's cards, of the passes over them and of what they hand over.
+pub mod Cards
+pub mod Playing
+pub mod Scanning
+pub mod Buffers
+pub mod Joining
+pub mod Writing
+pub mod Looking

@@ -1,0 +1,82 @@
+-- `header::join_text` meets its contract: the & goes, and what is left is cut or the text is put on.
+use Prim.Native.Nat.{ℕ, _+_, _-_, _≤_}
+use native.Mathlib.Omega.{arith}
+use mathlib.Core.Path.{_≡_, sym, ap, _∙_}
+use mathlib.Core.List.{List}
+use lib.ListN.{length, take, length-take}
+use lib.Seq.{length-take-le}
+use Rattle.text.specs.Bytes.{isSpace}
+use Rattle.text.specs.Trim.{trimEnd}
+use Rattle.text.proofs.Trimming.{end-shorter}
+use Rattle.header.specs.Passes.{spliced}
+use Rattle.header.proofs.Buffers.{joined-cut, joined-put}
+use borrow.Author.Needs.{needs}
+use Rattle.header.proofs.join_text.Statement.{statement}
+use Rattle.header.proofs.join_text.Tie as tie
+
+sub-m : tie.Need-sub-m
+sub-m c = search needs
+
+adds-nothing-requires : tie.Need-adds-nothing-requires
+adds-nothing-requires c κs = search needs
+
+slice-reshare-prefix-trim-end : tie.Need-slice-reshare-prefix-trim-end
+slice-reshare-prefix-trim-end c = search needs
+
+slice-aggregate-trim-end : tie.Need-slice-aggregate-trim-end
+slice-aggregate-trim-end c =
+    let a = c .before .before .before .before .before .args in
+    sym (length-take-le (a .n - 1) (a .held .now) (omega arith))
+
+trim-end-requires : tie.Need-trim-end-requires
+trim-end-requires c κs = search needs
+
+same-length : tie.Need-same-length
+same-length c = search needs
+
+returns : tie.Need-returns
+returns c =
+    let test = c .before .before .before in
+    let a = test .before .before .before .args in
+    let d = a .held .now in
+    let cut : c .trim-end .result .now ≡ trimEnd isSpace (take (a .n - 1) d) = c .trim-end .ensures in
+    let short : length (trimEnd isSpace (take (a .n - 1) d)) ≤ a .n - 1 = omega (arith, end-shorter isSpace (take (a .n - 1) d), length-take (a .n - 1) d) in (
+      ap (λ (l : List ℕ). take (length l) d) cut
+          ∙ joined-cut d (a .t .now) (a .n) (omega (arith, test .before .before .before .pre)) (test .before .before .before .pre .1) (sym (test .adds-nothing .ensures) ∙ c .before .before .if1 .taken),
+      rw cut (omega arith),
+    )
+
+put-at-requires : tie.Need-put-at-requires
+put-at-requires c κs = search needs
+
+add-result : tie.Need-add-result
+add-result c = search needs
+
+same-length-2 : tie.Need-same-length-2
+same-length-2 c = search needs
+
+returns-2 : tie.Need-returns-2
+returns-2 c =
+    let put = c .before .before in
+    let test = put .before .before .before in
+    let a = test .before .before .before .args in (
+      ap (take (a .n - 1 + length (a .t .now))) (put .put-at .ensures)
+          ∙ joined-put (a .held .now) (a .t .now) (a .n) (test .before .before .before .pre .0) (test .before .before .before .pre .1) (sym (test .adds-nothing .ensures) ∙ put .before .before .if1 .left),
+      omega arith,
+    )
+
+pub join-text-spec : {M : Type 1} → statement M
+join-text-spec =
+    tie.close
+    (tie.spec
+    sub-m
+    adds-nothing-requires
+    slice-reshare-prefix-trim-end
+    slice-aggregate-trim-end
+    trim-end-requires
+    same-length
+    returns
+    put-at-requires
+    add-result
+    same-length-2
+    returns-2)

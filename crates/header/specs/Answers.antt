@@ -1,0 +1,90 @@
+-- What a lookup answers, and what the lent buffers then hold (document 01, "Joining and lookup").
+use Prim.Native.Nat.{ℕ, _/_}
+use mathlib.Core.Bool.{Bool, true, false, cond, _&&_}
+use mathlib.Core.List.{List, [], _∷_, _++_}
+use mathlib.Core.Option.{Option, none, some}
+use lib.Dec.{leb}
+use lib.ListN.{length, drop}
+use Rattle.refusal.specs.declared.Refusal.{Refusal}
+use Rattle.refusal.specs.Numbers.{refusal}
+use Rattle.text.specs.Text.{textOf}
+use Rattle.joining.specs.Words.{Comment}
+use Rattle.joining.specs.Roles.{Held, Role, entry, more, neutral, last}
+use Rattle.joining.specs.Lookup.{whole, lookup}
+use Rattle.header.specs.declared.Header.{Header}
+use Rattle.header.specs.declared.Header.the-variants.{Accepted, Refused}
+use Rattle.header.specs.declared.LookupAnswer.{LookupAnswer}
+use Rattle.header.specs.declared.LookupAnswer.the-variants as L
+use Rattle.header.specs.declared.Looked.{Looked}
+use Rattle.header.specs.Reading.{rolesOf, isBadLength, headerOf}
+
+-- an answer, and the lent buffers for text and comment after it
+pub record Outcome : Type 0 where
+  pub answer : Looked
+  pub text : List ℕ
+  pub comment : List ℕ
+
+-- a comment that is missing has length 0
+abbrev pub isThere : Comment → Bool
+isThere none = false
+isThere (some c) = true
+
+abbrev pub bytesIn : Comment → List ℕ
+bytesIn none = []
+bytesIn (some c) = c
+
+abbrev pub found : Held → Looked
+found v =
+    record {
+      answer = L.Found (v .value);
+      digits = textOf (v .digits);
+      commented = isThere (v .words .comment);
+      text = length (v .words .text);
+      comment = length (bytesIn (v .words .comment));
+    }
+
+-- a refusal has no reading beside it
+abbrev pub unread : LookupAnswer → Looked
+unread a = record { answer = a; digits = textOf []; commented = false; text = 0; comment = 0 }
+
+-- all refusals leave the buffers untouched
+abbrev pub untouched : LookupAnswer → List ℕ → List ℕ → Outcome
+untouched a text comment = record { answer = unread a; text = text; comment = comment }
+
+-- a text laid over the front of a buffer: bytes beyond its length stay
+abbrev pub over : List ℕ → List ℕ → List ℕ
+over s buffer = s ++ drop (length s) buffer
+
+-- 13 where either buffer is shorter than the text for it
+unfoldable pub written : Held → List ℕ → List ℕ → Outcome
+written v text comment =
+    cond (leb (length (v .words .text)) (length text) && leb (length (bytesIn (v .words .comment))) (length comment))
+    (record { answer = found v; text = over (v .words .text) text; comment = over (bytesIn (v .words .comment)) comment })
+    (untouched (L.Refused (refusal 13)) text comment)
+
+-- 12 where there is no entry
+abbrev pub given : Option Held → List ℕ → List ℕ → Outcome
+given none text comment = untouched (L.Refused (refusal 12)) text comment
+given (some v) text comment = written v text comment
+
+-- header refusals come first
+abbrev pub lookedUp : Header → List Role → List ℕ → List ℕ → List ℕ → Outcome
+lookedUp (Refused why i) roles name text comment = untouched (L.Header why i) text comment
+lookedUp (Accepted i) roles name text comment = given (lookup name roles) text comment
+
+-- looking a name up in a header
+unfoldable pub lookupOf : List ℕ → List ℕ → List ℕ → List ℕ → Outcome
+lookupOf h name text comment = lookedUp (headerOf h) (rolesOf h) name text comment
+
+-- the entry that a header's cards begin with, with what is joined to it
+abbrev pub entryHead : List Role → Option Held
+entryHead [] = none
+entryHead (entry n v ∷ h) = some (whole v h)
+entryHead (more t c ∷ h) = none
+entryHead (neutral ∷ h) = none
+entryHead (last ∷ h) = none
+
+-- reading the entry at card i, whatever stands elsewhere in the header; a header of a bad length has no cards
+unfoldable pub entryOf : List ℕ → ℕ → List ℕ → List ℕ → Outcome
+entryOf h i text comment =
+    cond (isBadLength (length h)) (untouched (L.Header (refusal 9) 0) text comment) (given (entryHead (drop i (rolesOf h))) text comment)
