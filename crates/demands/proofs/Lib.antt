@@ -1,0 +1,2 @@
+-- The proofs of what `Demands` states.
+pub mod Isolated

@@ -1,0 +1,2 @@
+-- What is certain: open `Demands` first.
+pub mod Demands
