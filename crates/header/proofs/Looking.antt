@@ -9,8 +9,8 @@ use mathlib.Core.List.{List, [], _∷_, map}
 use mathlib.Core.Option.{Option, none, some}
 use borrow.Author.Tests.{ltb-false}
 use lib.Dec.{eqb, ltb}
-use lib.ListN.{length, drop, length-map}
-use lib.Seq.{drop-drop}
+use lib.ListN.{length, drop, getD, length-map, List·getD-eq-default}
+use lib.Seq.{drop-drop, getD-drop}
 use Rattle.refusal.specs.declared.Refusal.{Refusal}
 use Rattle.refusal.specs.Numbers.{refusal}
 use Rattle.text.specs.declared.Place.{Place}
@@ -124,6 +124,18 @@ module _ (h : List ℕ) (i : ℕ) (within : i < length h / 80) where
 
   pub head-kind : (r : CardRead) → r ≡ cardOf (cardNo h i) → (k : Kind) → kindOf (r .answer) ≡ k → entryHead (roleAs k r ∷ drop (i + 1) (rolesOf h)) ≡ entryHead (drop i (rolesOf h))
   head-kind r is k e = sym (ap entryHead (roles-from ∙ ap (λ (x : Role). x ∷ drop (i + 1) (rolesOf h)) (sym (ap roleOf is) ∙ role-kind r k e)))
+
+  -- the role of card i, by its kind
+  pub role-here : (r : CardRead) → r ≡ cardOf (cardNo h i) → (k : Kind) → kindOf (r .answer) ≡ k → getD (rolesOf h) i neutral ≡ roleAs k r
+  role-here r is k e = sym (front (rolesOf h) i) ∙ ap (λ (l : List Role). getD l 0 neutral) roles-from ∙ sym (ap roleOf is) ∙ role-kind r k e
+    where
+      front : (l : List Role) (i : ℕ) → getD (drop i l) 0 neutral ≡ getD l i neutral
+      front l i = getD-drop i l 0 neutral ∙ ap (λ (k : ℕ). getD l k neutral) (let z : i + 0 ≡ i = omega arith in z)
+
+pub role-past : (h : List ℕ) (i : ℕ) → length h / 80 ≤ i → getD (rolesOf h) i neutral ≡ neutral
+role-past h i p =
+    let long : length (rolesOf h) ≡ length h / 80 = length-map (cardsOf h) roleAt ∙ card-count h in
+    List·getD-eq-default (rolesOf h) neutral (omega arith)
 
 -- beyond the cards there is no entry
 pub no-entry : (h : List ℕ) (i : ℕ) → length h / 80 ≤ i → none ≡ entryHead (drop i (rolesOf h))

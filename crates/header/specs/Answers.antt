@@ -16,6 +16,7 @@ use Rattle.header.specs.declared.Header.the-variants.{Accepted, Refused}
 use Rattle.header.specs.declared.LookupAnswer.{LookupAnswer}
 use Rattle.header.specs.declared.LookupAnswer.the-variants as L
 use Rattle.header.specs.declared.Looked.{Looked}
+use Rattle.header.specs.declared.EntryName.{EntryName}
 use Rattle.header.specs.Reading.{rolesOf, isBadLength, headerOf}
 
 -- an answer, and the lent buffers for text and comment after it
@@ -88,3 +89,13 @@ entryHead (last ∷ h) = none
 unfoldable pub entryOf : List ℕ → ℕ → List ℕ → List ℕ → Outcome
 entryOf h i text comment =
     cond (isBadLength (length h)) (untouched (L.Header (refusal 9) 0) text comment) (given (entryHead (drop i (rolesOf h))) text comment)
+
+-- the name that a card bears, where it is an entry
+abbrev pub namelessOf : EntryName
+namelessOf = record { there = false; name = textOf [] }
+
+abbrev pub entryNameOf : Role → EntryName
+entryNameOf (entry n v) = record { there = true; name = textOf n }
+entryNameOf (more t c) = namelessOf
+entryNameOf neutral = namelessOf
+entryNameOf last = namelessOf

@@ -3,14 +3,14 @@ ghost use mathlib.Core.Path.{_≡_};
 ghost use mathlib.Core.Bool.{true, false, cond, _&&_};
 ghost use mathlib.Core.List.{[], _∷_, _++_};
 ghost use Prim.Native.Nat.{_+_, _*_, _/_, _≤_, _<_};
-ghost use lib.ListN.{length, take, drop};
+ghost use lib.ListN.{length, take, drop, getD};
 ghost use Rattle.text.specs.Text.{textOf, bytesOf};
 ghost use Rattle.card.specs.Cards.{cardOf};
 ghost use Rattle.joining.specs.Words.{endsOpen, addsNothing, joinText, joinComment, joinWords, opens};
-ghost use Rattle.joining.specs.Roles.{hasText, hasDigits, isString, commentOf, heldOf, roleOf};
+ghost use Rattle.joining.specs.Roles.{neutral, hasText, hasDigits, isString, commentOf, heldOf, roleOf};
 ghost use Rattle.joining.specs.Lookup.{joinOn, whole};
 ghost use Rattle.header.specs.Reading.{rolesOf, isBadLength, isEnd, headerOf};
-ghost use Rattle.header.specs.Answers.{unread, given, lookupOf, entryOf, entryHead, written};
+ghost use Rattle.header.specs.Answers.{unread, given, lookupOf, entryOf, entryHead, written, namelessOf, entryNameOf};
 ghost use Rattle.header.specs.Passes.{Begun, Joined, Room, JoinedOn, kindOf, refusalIn, foundAt, scanOf, refusedScan, refusedHeader, wordsIn, spliced};
 use card::Card;
 use card::CardAnswer;
@@ -41,6 +41,12 @@ pub struct Looked {
     pub commented: bool,
     pub text: usize,
     pub comment: usize,
+}
+
+// Whether a card is an entry, and the name that it then bears.
+pub struct EntryName {
+    pub there: bool,
+    pub name: Text,
 }
 
 // A header's answer, and the last card that bears a name.
@@ -115,10 +121,41 @@ pub fn read_header(header: &[u8]) -> Header
     scanned.header
 }
 
+// The name that a card's number gives, where that card is an entry.
+pub fn entry_name(header: &[u8], i: usize) -> EntryName
+    ensures { λ r. ⌜ r ≡ entryNameOf (getD (rolesOf (now (header .entry))) i neutral) ⌝ }
+{
+    if header.len() / CARD <= i {
+        return no_name();
+    }
+    let read = card_at(header, i);
+    let answer = read.answer;
+    let own = read.name;
+    let bytes = own.bytes;
+    match kind_of(answer) {
+        Kind::Entry(_, _) => EntryName {
+            there: true,
+            name: text::text_of(text::first_of(&bytes, own.len)),
+        },
+        Kind::More => no_name(),
+        Kind::Neutral => no_name(),
+        Kind::Last => no_name(),
+    }
+}
+
 // ---- answers
 
+fn no_name() -> EntryName
+    ensures { λ r. ⌜ r ≡ namelessOf ⌝ }
+{
+    EntryName {
+        there: false,
+        name: text::empty_text(),
+    }
+}
+
 // A refusal, with no reading beside it.
-fn unread(answer: LookupAnswer) -> Looked
+pub fn unread(answer: LookupAnswer) -> Looked
     ensures { λ r. ⌜ r ≡ unread answer ⌝ }
 {
     Looked {

@@ -1,0 +1,2 @@
+-- What the contracts of `abi` cite.
+pub mod Records

@@ -1,0 +1,2 @@
+-- What is proved of the readings at the edges.
+pub mod Edges

@@ -1,0 +1,4 @@
+-- Laws of names where they stand, of places and of tables.
+pub mod Keyed
+pub mod Bearing
+pub mod Placing

@@ -1,0 +1,87 @@
+-- The names of a header in the order of their first cards (document 01, "Joining and lookup").
+use Prim.Native.Nat.{ℕ, suc}
+use mathlib.Core.Bool.{Bool, cond}
+use mathlib.Core.List.{List, [], _∷_, _++_}
+use lib.Dec.{ltb}
+use lib.ListN.{length, getD, set, take}
+use Rattle.refusal.specs.Numbers.{refusal}
+use Rattle.text.specs.declared.Place.{Place}
+use Rattle.text.specs.declared.Place.the-variants.{At, Nowhere}
+use Rattle.text.specs.Same.{same}
+use Rattle.text.specs.Text.{filled}
+use Rattle.joining.specs.Roles.{Role, entry, more, neutral, last}
+use Rattle.header.specs.declared.Header.{Header}
+use Rattle.header.specs.declared.Header.the-variants.{Accepted, Refused}
+use Rattle.header.specs.declared.Looked.{Looked}
+use Rattle.header.specs.declared.LookupAnswer.the-variants as L
+use Rattle.header.specs.Reading.{rolesOf, headerOf}
+use Rattle.header.specs.Answers.{Outcome, untouched, entryOf}
+use Rattle.listing.specs.declared.Listing.{Listing}
+
+-- the places of the table, and the mark of a free one: no card has this number
+abbrev pub places : ℕ
+places = 720
+
+abbrev pub free : ℕ
+free = 720
+
+-- for each place the first card that bears its name, and the last
+pub record Table : Type 0 where
+  pub first : List ℕ
+  pub last : List ℕ
+
+abbrev pub empty : Table
+empty = record { first = []; last = [] }
+
+-- the name that a card bears
+abbrev pub nameOf : Role → List ℕ
+nameOf (entry n v) = n
+nameOf (more t c) = []
+nameOf neutral = []
+nameOf last = []
+
+-- the place, from k on, whose first card bears the name
+unfoldable pub placeIn : List Role → List ℕ → List ℕ → ℕ → Place
+placeIn roles name [] k = Nowhere
+placeIn roles name (i ∷ is) k = cond (same (nameOf (getD roles i neutral)) name) (At k) (placeIn roles name is (suc k))
+
+-- what listing comes to: a table, or no place is free for the entry of a card
+pub data Listed : Type 0 where
+  listed : Table → Listed
+  full : ℕ → Listed
+
+-- of equal names the last entry counts, at the first one's place; a new name takes the next free place
+abbrev pub put : Place → ℕ → Table → (Table → Listed) → Listed
+put (At k) i t rest = rest (record { first = t .first; last = set (t .last) k i })
+put Nowhere i t rest = cond (ltb (length (t .first)) places) (rest (record { first = t .first ++ i ∷ []; last = t .last ++ i ∷ [] })) (full i)
+
+abbrev pub putRole : List Role → Role → ℕ → Table → (Table → Listed) → Listed
+putRole roles (entry n v) i t rest = put (placeIn roles n (t .first) 0) i t rest
+putRole roles (more s c) i t rest = rest t
+putRole roles neutral i t rest = rest t
+putRole roles last i t rest = rest t
+
+-- cards, the first of which has number i, put into a table
+unfoldable pub listFrom : List Role → List Role → ℕ → Table → Listed
+listFrom roles [] i t = listed t
+listFrom roles (r ∷ rs) i t = putRole roles r i t (listFrom roles rs (suc i))
+
+-- the arrays: the table, then free marks
+abbrev pub tabled : Header → Table → Listing
+tabled x t = record { header = x; first = filled free places (t .first); last = filled free places (t .last); count = length (t .first) }
+
+abbrev pub byListed : ℕ → Listed → Listing
+byListed end (listed t) = tabled (Accepted end) t
+byListed end (full i) = tabled (Refused (refusal 11) i) empty
+
+abbrev pub byHeader : Header → List Role → Listing
+byHeader (Accepted end) roles = byListed end (listFrom roles (take end roles) 0 empty)
+byHeader (Refused why i) roles = tabled (Refused why i) empty
+
+-- the names of a header; where it is refused all places are free
+unfoldable pub listOf : List ℕ → Listing
+listOf h = byHeader (headerOf h) (rolesOf h)
+
+-- the entry at a place of a table of last entries, which may be made up
+unfoldable pub placeOfEntry : List ℕ → List ℕ → ℕ → List ℕ → List ℕ → Outcome
+placeOfEntry h lasts k text comment = cond (ltb k (length lasts)) (entryOf h (getD lasts k 0) text comment) (untouched (L.Refused (refusal 12)) text comment)

@@ -1,0 +1,166 @@
+// The names of a header in the order of their first cards, each with its last entry.
+ghost use mathlib.Core.Path.{_≡_};
+ghost use Prim.Native.Nat.{_+_, _*_, _/_, _≤_, _<_};
+ghost use lib.ListN.{length, take, drop, getD};
+ghost use Rattle.listing.specs.Listing.{empty, tabled, listOf, placeOfEntry};
+ghost use Rattle.listing.specs.Inserting.{bearsOf, placeBy, insertOf};
+use header::Header;
+use header::Looked;
+use header::LookupAnswer;
+use refusal::Refusal;
+use text::Cut;
+use text::Place;
+
+// A header's answer, and its names: for each place the number of the first card that bears the name, and of the last. The places
+// behind the names are free.
+pub struct Listing {
+    pub header: Header,
+    pub first: [usize; 720],
+    pub last: [usize; 720],
+    pub count: usize,
+}
+
+// What inserting an entry answers: the number of names then, or that no place is free.
+pub enum Inserted {
+    Names(usize),
+    Full,
+}
+
+// The mark of a free place: no card has this number.
+const FREE: usize = 720;
+
+// The bytes of a card.
+const CARD: usize = 80;
+
+// The bytes of a keyword.
+const KEYWORD: usize = 8;
+
+// The names of a header, in the order of their first cards.
+pub fn list(header: &[u8]) -> Listing
+    ensures { λ r. ⌜ r ≡ listOf (now (header .entry)) ⌝ }
+{
+    let answer = header::read_header(header);
+    let Header::Accepted(end) = answer else {
+        return free_listing(answer);
+    };
+    let mut first = [FREE; 720];
+    let mut last = [FREE; 720];
+    let mut count: usize = 0;
+    let mut i: usize = 0;
+    'cards: while i < end {
+        let entry = header::entry_name(header, i);
+        let name = entry.name;
+        let bytes = name.bytes;
+        let number = i;
+        i += 1;
+        if entry.there {
+            let own = text::first_of(&bytes, name.len);
+            let Inserted::Names(n) = insert(header, own, number, count, &mut first, &mut last)
+            else {
+                return free_listing(Header::Refused(Refusal::TableFull, number));
+            };
+            count = n;
+        }
+    }
+    Listing {
+        header: answer,
+        first: first,
+        last: last,
+        count: count,
+    }
+}
+
+// The entry at a place of a listing's last entries, joined and read into the lent buffers.
+pub fn entry(
+    header: &[u8],
+    lasts: &[usize],
+    place: usize,
+    text: &mut [u8],
+    comment: &mut [u8],
+) -> Looked
+    ensures { λ r. ⌜ r ≡ placeOfEntry (now (header .entry)) (now (lasts .entry)) place (now (text .entry)) (now (comment .entry)) .answer ⌝ }
+    ensures { λ _. ⌜ now (text .exit) ≡ placeOfEntry (now (header .entry)) (now (lasts .entry)) place (now (text .entry)) (now (comment .entry)) .text ⌝ }
+    ensures { λ _. ⌜ now (comment .exit) ≡ placeOfEntry (now (header .entry)) (now (lasts .entry)) place (now (text .entry)) (now (comment .entry)) .comment ⌝ }
+{
+    if place < lasts.len() {
+        return header::read_entry(header, lasts[place], text, comment);
+    }
+    header::unread(LookupAnswer::Refused(Refusal::NameNotFound))
+}
+
+// The entry of card i put at its name's place among the first count, or behind them where a place is free.
+pub fn insert(
+    header: &[u8],
+    name: &[u8],
+    i: usize,
+    count: usize,
+    first: &mut [usize],
+    last: &mut [usize],
+) -> Inserted
+    ensures { λ r. ⌜ r ≡ insertOf (now (header .entry)) (now (name .entry)) i count (now (first .entry)) (now (last .entry)) .answer ⌝ }
+    ensures { λ _. ⌜ now (first .exit) ≡ insertOf (now (header .entry)) (now (name .entry)) i count (now (first .entry)) (now (last .entry)) .first ⌝ }
+    ensures { λ _. ⌜ now (last .exit) ≡ insertOf (now (header .entry)) (now (name .entry)) i count (now (first .entry)) (now (last .entry)) .last ⌝ }
+{
+    match find_place(header, name, first, count) {
+        Place::At(k) => {
+            if k < last.len() {
+                last[k] = i;
+            }
+            Inserted::Names(count)
+        }
+        Place::Nowhere => {
+            if count < first.len() {
+                if count < last.len() {
+                    first[count] = i;
+                    last[count] = i;
+                    return Inserted::Names(count + 1);
+                }
+            }
+            Inserted::Full
+        }
+    }
+}
+
+// A listing with no names.
+fn free_listing(header: Header) -> Listing
+    ensures { λ r. ⌜ r ≡ tabled header empty ⌝ }
+{
+    Listing {
+        header: header,
+        first: [FREE; 720],
+        last: [FREE; 720],
+        count: 0,
+    }
+}
+
+// Whether the card with a number bears a name, where it stands.
+fn bears(header: &[u8], i: usize, name: &[u8]) -> bool
+    ensures { λ r. ⌜ r ≡ bearsOf (now (header .entry)) i (now (name .entry)) ⌝ }
+{
+    if i < header.len() / CARD {
+        let at = i * CARD;
+        let word = text::trimmed(text::first_of(&header[at..], KEYWORD), Cut::Blanks);
+        if text::same_bytes(word, b"HIERARCH") {
+            let own = header::entry_name(header, i);
+            let dotted = own.name;
+            let bytes = dotted.bytes;
+            return text::same_bytes(text::first_of(&bytes, dotted.len), name);
+        }
+        return text::same_bytes(word, name);
+    }
+    false
+}
+
+// The place among the first count whose card bears the name.
+fn find_place(header: &[u8], name: &[u8], first: &[usize], count: usize) -> Place
+    ensures { λ r. ⌜ r ≡ placeBy (now (header .entry)) (now (name .entry)) (take count (now (first .entry))) 0 ⌝ }
+{
+    let mut k: usize = 0;
+    while k < first.len() && k < count {
+        if bears(header, first[k], name) {
+            return Place::At(k);
+        }
+        k += 1;
+    }
+    Place::Nowhere
+}

@@ -1,0 +1,124 @@
+-- `rice::Cursor::block`: the FS field, its code, and the run of its pixels. Assumes nothing.
+use mathlib.Core.Path.{_≡_, ap, sym, subst, _∙_}
+use mathlib.Core.Bool.{true}
+use Prim.Native.Nat.{ℕ, _+_, _^_, _<_}
+use native.Mathlib.Omega.{arith}
+use borrow.Author.Needs.{needs}
+use denote.Ref.{now}
+use lib.ListN.{length}
+use Rattle.rice.specs.Widths.{fsBits, inWidth}
+use Rattle.rice.specs.Reads.{found, fieldRead, moved, takenOf}
+use Rattle.rice.specs.Blocks.{Outcome, codeOf}
+use Rattle.rice.specs.declared.Cursor.{Cursor}
+use Rattle.rice.specs.declared.width.Coded.the-variants.{Known}
+use Rattle.rice.proofs.Wrapping.{sizes}
+use Rattle.rice.proofs.Reading.{take-read, taken-found, taken-short, field-of}
+use Rattle.rice.proofs.FsCodes.{outcome, block-short, block-above, block-known, code-fits}
+use Rattle.rice.proofs.Cursor.block.Statement.{statement}
+use Rattle.rice.proofs.Cursor.block.Tie as tie
+
+fs-bits-requires : tie.Need-fs-bits-requires
+fs-bits-requires c κs = search needs
+
+take-bits-requires : tie.Need-take-bits-requires
+take-bits-requires c κs = search needs
+
+enum-known-field : tie.Need-enum-known-field
+enum-known-field c = search needs
+
+enum-told : tie.Need-enum-told
+enum-told c = search needs
+
+abbrev start : tie.After-take-bits → tie.Start
+start b = b .before .before .before
+
+-- what is taken is the FS field
+took : (b : tie.After-take-bits)
+    → b .take-bits .result ≡ takenOf (start b .args .self)
+    (fieldRead (now (start b .args .tile)) (start b .args .self .bit) (fsBits (start b .args .width)))
+took b =
+    let a = start b .args in
+    b .take-bits .ensures
+    ∙ take-read (now (a .tile)) (a .self) (start b .pre .0) (b .before .fs-bits .result)
+    (omega (arith, sizes (a .width) .field))
+    ∙ ap (λ (n : ℕ). takenOf (a .self) (fieldRead (now (a .tile)) (a .self .bit) n)) (b .before .fs-bits .ensures)
+
+returns : tie.Need-returns
+returns c =
+    let b = c .before .before in
+    let a = start b .args in
+    outcome (block-short (a .width) (now (a .tile)) (a .self) (now (a .part))
+    (taken-short _ _ (sym (took b) ∙ c .enum-told .given .1)))
+
+code-requires : tie.Need-code-requires
+code-requires c κs = search needs
+
+enum-known-code : tie.Need-enum-known-code
+enum-known-code c = search needs
+
+enum-told-2 : tie.Need-enum-told-2
+enum-told-2 c = search needs
+
+found-field : (k : tie.After-known-told)
+    → (fieldRead (now (start (k .before .before .before) .args .tile)) (start (k .before .before .before) .args .self .bit)
+    (fsBits (start (k .before .before .before) .args .width))
+    ≡ found (k .before .field .given .0 .0) (k .before .field .given .0 .1 .0 .bit))
+    × (k .before .field .given .0 .1 .0 ≡ moved (start (k .before .before .before) .args .self)
+    (k .before .field .given .0 .1 .0 .bit))
+found-field k = taken-found _ _ _ _ (sym (took (k .before .before .before)) ∙ k .before .field .given .1)
+
+returns-2 : tie.Need-returns-2
+returns-2 c =
+    let k = c .before .before .before in
+    let a = k .before .before .before .before .before .before .args in
+    let is = block-above (a .width) (now (a .tile)) (a .self) (now (a .part)) _ _ (found-field k .0) (found-field k .1)
+    (sym (c .before .before .code .ensures) ∙ c .enum-told2 .given .1)
+    in
+    (sym (ap (λ (o : Outcome). o .answer) is), sym (ap (λ (o : Outcome). o .content) is))
+
+known-code : (c : tie.After-known-told2)
+    → codeOf (c .before .before .before .before .before .before .before .before .before .before .args .width)
+    (c .before .before .before .before .before .field .given .0 .0) ≡ Known (c .before .code2 .given .0 .0)
+known-code c = sym (c .before .before .before .code .ensures) ∙ c .before .code2 .given .1
+
+fill-requires : tie.Need-fill-requires
+fill-requires c κs =
+    let k = c .before .before .before .before .before in
+    let a = k .before .before .before .before .before .before in (
+      a .pre .0,
+      field-of _ _ _ _ _ (found-field k .0) .within,
+      code-fits (a .args .width) _ _ (known-code (c .before)),
+      subst (λ (d : Cursor). inWidth (a .args .width) (d .last) ≡ true) (sym (found-field k .1)) (a .pre .1),
+      subst (λ (d : Cursor). d .done + length (now (a .args .part)) < 2 ^ 32) (sym (found-field k .1)) (a .pre .2),
+    )
+
+same-length : tie.Need-same-length
+same-length c = search needs
+
+returns-3 : tie.Need-returns-3
+returns-3 c =
+    let k = c .before .before .before .before .before .before .before in
+    let a = k .before .before .before .before .before .before .args in
+    let is = block-known (a .width) (now (a .tile)) (a .self) (now (a .part)) _ _ (found-field k .0) (found-field k .1) _
+    (known-code (c .before .before .before)) in (
+      c .before .fill .ensures .0 ∙ sym (ap (λ (o : Outcome). o .answer) is),
+      c .before .fill .ensures .1
+          ∙ sym (ap (λ (o : Outcome). o .content) is),
+    )
+
+pub block-spec : {M : Type 1} → statement M
+block-spec =
+    tie.close
+    (tie.spec
+    fs-bits-requires
+    take-bits-requires
+    enum-known-field
+    enum-told
+    returns
+    code-requires
+    enum-known-code
+    enum-told-2
+    returns-2
+    fill-requires
+    same-length
+    returns-3)

@@ -1,0 +1,14 @@
+pub mod Tables
+pub mod Fields
+pub mod ZeroRuns
+pub mod HeldBits
+pub mod Signs
+pub mod Moduli
+pub mod Wrapping
+pub mod FsCodes
+pub mod Reading
+pub mod Giving
+pub mod Filling
+pub mod Stepping
+pub mod Decoding
+pub mod Whole

@@ -1,0 +1,155 @@
+-- What holds at each width: its sizes, a pixel and its bits, and the bits of the pixel that follows. Assumes nothing.
+use mathlib.Core.Path.{_≡_, refl, sym, ap, ap₂, subst, _∙_}
+use mathlib.Core.Bool.{Bool, true, false}
+use Prim.Native.Nat.{ℕ, suc, _+_, _-_, _*_, _/_, _%_, _^_, _≤_, _<_}
+use native.Mathlib.Omega.{arith}
+use native.Mathlib.Nat.{mod-lt, mod-eq-of-lt, mod-eq-sub-mod, add-mod-mod, lt-of-lt-of-le, pos-of-ne-zero}
+use borrow.Author.Tests.{lt-ltb, le-ltb, ltb-true, ltb-false, eq-eqb, ne-eqb}
+use lib.Dec.{ltb, lit≤}
+use lib.Bits.{bitAnd, and-mask}
+use lib.IntN.{ℤ, pos, negsuc, _-ℤ_}
+use lib.Pow.{pow-pos}
+use mir.Syntax.{w32, w64}
+use mir.Val.{toZ, SFits}
+use mir.Facts.{toZ-pos}
+use Rattle.rice.specs.Widths.{bitsOf, fsBits, fsTop, startBytes, positives, pixelOf, inWidth, modulo, wrap, difference, following}
+use Rattle.rice.specs.declared.width.Width.{Width}
+use Rattle.rice.specs.declared.width.Width.the-variants.{Eight, Sixteen, ThirtyTwo}
+use Rattle.rice.proofs.Signs.{minus-pos, minus-neg}
+use Rattle.rice.proofs.Moduli.{modulo-add, modulo-again}
+
+-- what is fixed by a width, in bounds
+pub record Sizes (w : Width) : Type 0 where
+  pub some : positives w ≤ 2 ^ bitsOf w
+  pub low : positives w ≤ 2 ^ 31
+  pub start : startBytes w * 8 ≡ bitsOf w
+  pub high : 2 ^ bitsOf w ≤ positives w + 2 ^ 31
+  pub all : 2 ^ bitsOf w ≤ 2 ^ 32
+  pub width : bitsOf w ≤ 32
+  pub top : fsTop w ≤ 25
+  pub field : fsBits w ≤ 5
+
+made : (w : Width) → positives w ≤ 2 ^ bitsOf w → positives w ≤ 2 ^ 31 → startBytes w * 8 ≡ bitsOf w
+    → 2 ^ bitsOf w ≤ positives w + 2 ^ 31 → 2 ^ bitsOf w ≤ 2 ^ 32 → bitsOf w ≤ 32 → fsTop w ≤ 25 → fsBits w ≤ 5 → Sizes w
+made w a b c d e f g h = record { some = a; low = b; start = c; high = d; all = e; width = f; top = g; field = h }
+
+pub sizes : (w : Width) → Sizes w
+sizes Eight = made Eight (lit≤ tt) (lit≤ tt) refl (lit≤ tt) (lit≤ tt) (lit≤ tt) (lit≤ tt) (lit≤ tt)
+sizes Sixteen = made Sixteen (lit≤ tt) (lit≤ tt) refl (lit≤ tt) (lit≤ tt) (lit≤ tt) (lit≤ tt) (lit≤ tt)
+sizes ThirtyTwo = made ThirtyTwo (lit≤ tt) (lit≤ tt) refl (lit≤ tt) (lit≤ tt) (lit≤ tt) (lit≤ tt) (lit≤ tt)
+
+-- ---- a pixel and its bits
+
+module _ (w : Width) (v : ℕ) where
+  pub pixel-low : v < positives w → pixelOf w v ≡ pos v
+  unfolding pixelOf
+  pixel-low h = rw (lt-ltb v (positives w) h)
+
+  pub pixel-high : positives w ≤ v → v < 2 ^ bitsOf w → pixelOf w v ≡ negsuc (2 ^ bitsOf w - suc v)
+  unfolding pixelOf
+  pixel-high h k = rw (le-ltb v (positives w) h) (minus-neg v (2 ^ bitsOf w) k)
+
+  -- the bits of a pixel are the pixel modulo 2 ^ width
+  pixel-back : v < 2 ^ bitsOf w → (t : Bool) → ltb v (positives w) ≡ t → modulo (pixelOf w v) (2 ^ bitsOf w) ≡ v
+  unfolding modulo
+  pixel-back h true e = ap (λ (z : ℤ). modulo z (2 ^ bitsOf w)) (pixel-low (ltb-true v (positives w) e)) ∙ mod-eq-of-lt h
+  pixel-back h false e =
+      let some : 2 ^ bitsOf w - suc v < 2 ^ bitsOf w = omega arith in
+      ap (λ (z : ℤ). modulo z (2 ^ bitsOf w)) (pixel-high (ltb-false v (positives w) e) h)
+      ∙ ap (λ (n : ℕ). 2 ^ bitsOf w - 1 - n) (mod-eq-of-lt some) ∙ omega arith
+
+  pub pixel-modulo : v < 2 ^ bitsOf w → modulo (pixelOf w v) (2 ^ bitsOf w) ≡ v
+  pixel-modulo h = pixel-back h (ltb v (positives w)) refl
+
+-- a pixel of the width is the one with its bits
+pub in-width : (w : Width) (z : ℤ) → inWidth w z ≡ true → pixelOf w (modulo z (2 ^ bitsOf w)) ≡ z
+unfolding inWidth modulo
+in-width w (pos n) h =
+    let low : n < positives w = ltb-true n (positives w) h in
+    ap (pixelOf w) (mod-eq-of-lt (omega (arith, sizes w .some))) ∙ pixel-low w n low
+in-width w (negsuc n) h =
+    let few : n < 2 ^ bitsOf w - positives w = ltb-true n (2 ^ bitsOf w - positives w) h in
+    let rest : n % 2 ^ bitsOf w ≡ n = mod-eq-of-lt (omega arith) in
+    ap (λ (k : ℕ). pixelOf w (2 ^ bitsOf w - 1 - k)) rest ∙ pixel-high w (2 ^ bitsOf w - 1 - n) (omega arith) (omega arith)
+    ∙ ap negsuc (omega arith)
+
+-- 32 bits and the bits of a width
+pub modulo-width : (w : Width) (z : ℤ) → modulo z (2 ^ 32) % 2 ^ bitsOf w ≡ modulo z (2 ^ bitsOf w)
+modulo-width w z =
+    let all : 32 ≡ 32 - bitsOf w + bitsOf w = omega (arith, sizes w .width) in
+    ap (λ (n : ℕ). modulo z (2 ^ n) % 2 ^ bitsOf w) all ∙ modulo-again z (32 - bitsOf w) (bitsOf w)
+
+-- the running sum in the integers, wrapped, is the sum of residues
+pub following-bits : (w : Width) (v u : ℕ) → v < 2 ^ bitsOf w
+    → pixelOf w ((v + modulo (difference u) (2 ^ 32)) % 2 ^ bitsOf w) ≡ following w (pixelOf w v) u
+unfolding wrap
+following-bits w v u h =
+    let M = 2 ^ bitsOf w in
+    ap (pixelOf w)
+    (sym (modulo-add (pixelOf w v) (difference u) M (pow-pos (bitsOf w))
+    ∙ ap₂ (λ (a b : ℕ). (a + b) % M) (pixel-modulo w v h) (sym (modulo-width w (difference u)))
+    ∙ add-mod-mod v (modulo (difference u) (2 ^ 32)) M))
+
+-- ---- the difference that u means, modulo 2 ^ 32
+
+pub unmapped-even : (u : ℕ) → u % 2 ≡ 0 → u < 2 ^ 32 → u / 2 ≡ modulo (difference u) (2 ^ 32)
+unfolding difference modulo
+unmapped-even u h b = rw (eq-eqb (u % 2) 0 h) (sym (mod-eq-of-lt (omega arith)))
+
+pub unmapped-odd : (u : ℕ) → (u % 2 ≡ 0 → ⊥) → u < 2 ^ 32 → 2 ^ 32 - 1 - u / 2 ≡ modulo (difference u) (2 ^ 32)
+unfolding difference modulo
+unmapped-odd u h b =
+    let odd : 0 < u % 2 = pos-of-ne-zero h in
+    let half : (u + 1) / 2 ≡ suc (u / 2) = omega arith in
+    rw (ne-eqb (u % 2) 0 h, half) (ap (λ (n : ℕ). 2 ^ 32 - 1 - n) (sym (mod-eq-of-lt (omega arith))))
+
+-- ---- by what the code computes
+
+-- a mask of the width's bits
+pub and-width : (w : Width) (n mask : ℕ) → mask + 1 ≡ 2 ^ bitsOf w → bitAnd n mask ≡ n % 2 ^ bitsOf w
+and-width w n mask e = ap (bitAnd n) (omega arith) ∙ and-mask n (bitsOf w)
+
+pub and-width-lt : (w : Width) (n mask : ℕ) → mask + 1 ≡ 2 ^ bitsOf w → bitAnd n mask < 2 ^ bitsOf w
+and-width-lt w n mask e = rw (and-width w n mask e) (mod-lt n (pow-pos (bitsOf w)))
+
+-- a pixel made from its bits: turned so that they count from the lowest pixel, and moved down
+module _ (w : Width) (v mask below : ℕ) (m : mask + 1 ≡ 2 ^ bitsOf w) (b : below + positives w ≡ 2 ^ bitsOf w)
+    (small : v < 2 ^ bitsOf w) where
+  pixel-turned : (t : Bool) → ltb v (positives w) ≡ t → pos ((v + below) % 2 ^ bitsOf w) -ℤ pos below ≡ pixelOf w v
+  pixel-turned true e =
+      let low : v < positives w = ltb-true v (positives w) e in
+      let turned : (v + below) % 2 ^ bitsOf w ≡ v + below = mod-eq-of-lt (omega arith) in
+      ap (λ n. pos n -ℤ pos below) turned ∙ minus-pos (v + below) below (omega arith) ∙ ap pos (omega arith)
+      ∙ sym (pixel-low w v low)
+  pixel-turned false e =
+      let high : positives w ≤ v = ltb-false v (positives w) e in
+      let over : 2 ^ bitsOf w ≤ v + below = omega arith in
+      let turned : (v + below) % 2 ^ bitsOf w ≡ v + below - 2 ^ bitsOf w = mod-eq-sub-mod over
+      ∙ mod-eq-of-lt (omega (arith, sizes w)) in
+      ap (λ n. pos n -ℤ pos below) turned ∙ minus-neg (v + below - 2 ^ bitsOf w) below (omega (arith, sizes w))
+      ∙ ap negsuc (omega (arith, sizes w))
+      ∙ sym (pixel-high w v high small)
+
+  pixel-fits : (t : Bool) → ltb v (positives w) ≡ t → SFits w32 (pixelOf w v)
+  pixel-fits true e =
+      subst (SFits w32) (sym (pixel-low w v (ltb-true v (positives w) e)))
+      (record { sfits = omega (arith, sizes w, ltb-true v (positives w) e) })
+  pixel-fits false e =
+      subst (SFits w32) (sym (pixel-high w v (ltb-false v (positives w) e) small))
+      (record { sfits = omega (arith, sizes w, ltb-false v (positives w) e) })
+
+  pub pixel-32 : SFits w32 (pixelOf w v)
+  pixel-32 = pixel-fits (ltb v (positives w)) refl
+
+  pub turned-small : bitAnd (v + below) mask < 2 ^ 32
+  turned-small = lt-of-lt-of-le (and-width-lt w (v + below) mask m) (sizes w .all)
+
+  pub below-small : below ≤ 2 ^ 31
+  below-small = omega (arith, sizes w)
+
+  pub pixel-made : toZ w64 (bitAnd (v + below) mask) -ℤ toZ w64 below ≡ pixelOf w v
+  pixel-made =
+      ap₂ (λ x y. x -ℤ y)
+      (toZ-pos w64 (omega (arith, turned-small)) ∙ ap pos (and-width w (v + below) mask m))
+      (toZ-pos w64 {n = below} (omega (arith, below-small)))
+      ∙ pixel-turned (ltb v (positives w)) refl

@@ -1,0 +1,98 @@
+-- `rice::decode`: opening, then the steps. Assumes nothing.
+use mathlib.Core.Path.{_≡_, sym, _∙_}
+use native.Mathlib.Omega.{arith}
+use borrow.Author.Needs.{needs}
+use denote.Ref.{now}
+use lib.ListN.{length}
+use Rattle.rice.specs.Steps.{planOf}
+use Rattle.rice.specs.declared.width.Planned.the-variants.{Of}
+use Rattle.rice.proofs.Stepping.{plan-within}
+use Rattle.rice.proofs.Decoding.{open-zero, decode-limits, decode-count, decode-open, finished}
+use Rattle.rice.proofs.decode.Statement.{statement}
+use Rattle.rice.proofs.decode.Tie as tie
+
+abbrev start : tie.After-enum-told → tie.Start
+start k = k .before .before .before .before
+
+plan-requires : tie.Need-plan-requires
+plan-requires c κs = search needs
+
+enum-told : tie.Need-enum-told
+enum-told c = search needs
+
+enum-told-2 : tie.Need-enum-told-2
+enum-told-2 c = search needs
+
+returns : tie.Need-returns
+returns c =
+    let p = c .before .before in
+    let a = p .before .before .args in
+    finished (decode-limits (now (a .tile)) (a .nx) (a .nblock) (a .bits) (now (a .pixels))
+    (sym (p .plan .ensures) ∙ c .enum-told2 .given .1))
+
+plan : (k : tie.After-enum-told)
+    → planOf (length (now (start k .args .tile))) (start k .args .nx) (start k .args .nblock) (start k .args .bits)
+    ≡ Of (k .enum-told .given .0 .0)
+plan k = sym (k .before .before .plan .ensures) ∙ k .enum-told .given .1
+
+returns-2 : tie.Need-returns-2
+returns-2 c =
+    let a = c .before .before .before .before .before .args in
+    finished (decode-count (now (a .tile)) (a .nx) (a .nblock) (a .bits) (now (a .pixels)) _ (plan (c .before))
+    (c .if1 .taken))
+
+open-requires : tie.Need-open-requires
+open-requires c κs = search needs
+
+enum-known-why : tie.Need-enum-known-why
+enum-known-why c = search needs
+
+enum-known-start : tie.Need-enum-known-start
+enum-known-start c = search needs
+
+run-requires : tie.Need-run-requires
+run-requires c κs =
+    let o = c .before .before .before .before in
+    let k = o .before .before in
+    let a = start k .args in
+    let limits = plan-within _ _ _ (a .bits) (plan k) in
+    let zero = open-zero (now (a .tile)) (a .nx) (a .nblock) (a .bits)
+    (sym (o .«open» .ensures) ∙ c .before .before .start .given .1) in
+    (omega (arith, zero), limits .few, omega (arith, limits .few, o .before .if1 .left))
+
+returns-3 : tie.Need-returns-3
+returns-3 c =
+    let o = c .before .before .before in
+    let k = o .before .before in
+    let a = start k .args in
+    finished (decode-open (now (a .tile)) (a .nx) (a .nblock) (a .bits) (now (a .pixels)) _ (plan k)
+    (o .before .if1 .left) _ (sym (o .«open» .ensures) ∙ c .before .why .given .1))
+
+same-length : tie.Need-same-length
+same-length c = search needs
+
+returns-4 : tie.Need-returns-4
+returns-4 c =
+    let o = c .before .before .before .before .before .before in
+    let k = o .before .before in
+    let a = start k .args in
+    let f = finished (decode-open (now (a .tile)) (a .nx) (a .nblock) (a .bits) (now (a .pixels)) _ (plan k)
+    (o .before .if1 .left) _ (sym (o .«open» .ensures) ∙ c .before .before .before .before .start .given .1)) in
+    (c .before .run .ensures .0 ∙ f .0, c .before .run .ensures .1 ∙ f .1)
+
+pub decode-spec : {M : Type 1} → statement M
+decode-spec =
+    tie.close
+    (tie.spec
+    plan-requires
+    enum-told
+    enum-told-2
+    returns
+    returns-2
+    open-requires
+    enum-known-why
+    enum-known-start
+    run-requires
+    returns-3
+    same-length
+    returns-4)

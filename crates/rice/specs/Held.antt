@@ -1,0 +1,52 @@
+-- What the private functions owe each other: bits of the tile that are held in a word of 64.
+use mathlib.Core.Path.{_≡_}
+use mathlib.Core.List.{List}
+use Prim.Native.Nat.{ℕ, _+_, _-_, _*_, _^_, _≤_, _<_}
+use lib.Count.{leadingZeros}
+use lib.ListN.{getD}
+use Rattle.rice.specs.Tile.{bitsIn, fieldAt}
+use Rattle.rice.specs.Reads.{Read, found, short}
+use Rattle.rice.specs.declared.Cursor.{Cursor}
+use Rattle.rice.specs.declared.width.Code.{Code}
+use Rattle.rice.specs.declared.width.Code.the-variants.{Same, Raw, Split}
+use Rattle.rice.specs.declared.ahead.Ahead.{Ahead}
+use Rattle.rice.specs.declared.ahead.Got.{Got}
+use Rattle.rice.specs.declared.ahead.Got.the-variants.{Bits, Short}
+
+-- a table of how many bits each byte has up to its leading one
+pub record Counts (t : List ℕ) : Type 0 where
+  pub rule : (x : ℕ) → x < 256 → leadingZeros 8 x + getD t x 0 ≡ 8
+
+-- the n bits from place p on at the top of a word, with zeros below them
+abbrev pub heldOf : List ℕ → ℕ → ℕ → ℕ
+heldOf s p n = fieldAt s p n * 2 ^ (64 - n)
+
+-- a cursor with nothing held
+abbrev pub bareAt : Cursor → Ahead
+bareAt c = record { cursor = c; held = 0; count = 0 }
+
+-- what is held are the tile's bits from the cursor's place on
+pub record Holds (s : List ℕ) (a : Ahead) : Type 0 where
+  pub few : a .count ≤ 64
+  pub within : a .cursor .bit + a .count ≤ bitsIn s
+  pub held : a .held ≡ heldOf s (a .cursor .bit) (a .count)
+
+-- a read finds u, and what is ahead stands after it
+abbrev pub After : List ℕ → Read → ℕ → Ahead → Type 0
+After s r u a = (r ≡ found u (a .cursor .bit)) × Holds s a
+
+-- an answer to a read, where there is one
+abbrev pub Found : List ℕ → Read → Got → Type 0
+Found s r (Bits u a) = After s r u a
+Found s r Short = Unit {0}
+
+-- an answer to a read
+abbrev pub Gives : List ℕ → Read → Got → Type 0
+Gives s r (Bits u a) = After s r u a
+Gives s r Short = r ≡ short
+
+-- a code of one of the widths
+abbrev pub CodeFits : Code → Type 0
+CodeFits Same = Unit {0}
+CodeFits (Raw n) = n ≤ 32
+CodeFits (Split fs) = fs ≤ 24

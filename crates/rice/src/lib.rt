@@ -1,0 +1,314 @@
+// One tile of Rice-coded pixels, decoded whole or block by block (document 01, "One tile"; FITS Standard 10.4.1).
+ghost use mathlib.Core.Path.{_≡_};
+ghost use mathlib.Core.Bool.{true};
+ghost use Prim.Native.Nat.{_+_, _-_, _*_, _^_, _<_, _≤_, min, suc};
+ghost use lib.ListN.{length};
+ghost use lib.Seq.{sets};
+ghost use Rattle.rice.specs.Tile.{bitsIn};
+ghost use Rattle.rice.specs.Widths.{inWidth};
+ghost use Rattle.rice.specs.Reads.{moved, takeOf, skipOf, mostBytes};
+ghost use Rattle.rice.specs.Held.{CodeFits};
+ghost use Rattle.rice.specs.Blocks.{runFrom, filledOf, blockOf};
+ghost use Rattle.rice.specs.Steps.{planOf, stands, stepOf, openOf, stepsOf, decodeOf};
+
+mod ahead; // a cursor with the next bits at hand
+mod bits; // fields of bits and runs of zeros
+mod table; // how many bits a byte has up to its leading one
+mod width; // the three widths
+
+use ahead::Got;
+use refusal::Refusal;
+use width::Code;
+use width::Coded;
+use width::Planned;
+use width::Width;
+
+// The most pixels of a tile and of a block, bytes of a tile, and bits that are taken at once.
+pub const MOST_PIXELS: usize = 1_048_576;
+
+pub const MOST_BLOCK: usize = 65_536;
+
+pub const MOST_BYTES: usize = 8_388_608;
+
+pub const MOST_BITS: usize = 32;
+
+// The place of the next block's first bit, how many pixels are done, and the last of them.
+pub struct Cursor {
+    pub bit: usize,
+    pub done: usize,
+    pub last: i32,
+}
+
+// A number, and the cursor after it; or it cannot be had.
+pub enum Taken {
+    Bits(u64, Cursor),
+    Short,
+}
+
+// What opening a tile comes to.
+pub enum Opened {
+    At(Cursor),
+    Refused(Refusal),
+}
+
+// What a step comes to: nothing is left; the cursor at the next block; a refusal, after so many pixels of the step.
+pub enum Stepped {
+    Done,
+    Next(Cursor),
+    Refused(Refusal, usize),
+}
+
+// What decoding a tile whole comes to: the bits used; a refusal, after so many pixels.
+pub enum Decoded {
+    Whole(usize),
+    Refused(Refusal, usize),
+}
+
+// The cursor at the first block of a tile.
+pub fn open(tile: &[u8], nx: usize, nblock: usize, bits: usize) -> Opened
+    ensures { λ r. ⌜ r ≡ openOf (now (tile .entry)) nx nblock bits ⌝ }
+{
+    let Planned::Of(width) = plan(tile.len(), nx, nblock, bits) else {
+        return Opened::Refused(Refusal::Limits);
+    };
+    let n = width.start_bytes() * 8;
+    if n <= tile.len() * 8 {
+        let last = width.pixel(bits::field(tile, 0, n));
+        Opened::At(Cursor {
+            bit: n,
+            done: 0,
+            last,
+        })
+    } else {
+        Opened::Refused(Refusal::TileEnds)
+    }
+}
+
+// A tile decoded whole.
+pub fn decode(tile: &[u8], nx: usize, nblock: usize, bits: usize, pixels: &mut [i32]) -> Decoded
+    ensures { λ r. ⌜ r ≡ decodeOf (now (tile .entry)) nx nblock bits (now (pixels .entry)) .answer ⌝ }
+    ensures { λ _. ⌜ now (pixels .exit) ≡ decodeOf (now (tile .entry)) nx nblock bits (now (pixels .entry)) .content ⌝ }
+{
+    let Planned::Of(_) = plan(tile.len(), nx, nblock, bits) else {
+        return Decoded::Refused(Refusal::Limits, 0);
+    };
+    if pixels.len() != nx {
+        return Decoded::Refused(Refusal::PixelCount, 0);
+    }
+    match open(tile, nx, nblock, bits) {
+        Opened::Refused(why) => Decoded::Refused(why, 0),
+        Opened::At(start) => start.run(tile, nx, nblock, bits, pixels),
+    }
+}
+
+impl Cursor {
+    // The next n bits.
+    pub fn take_bits(self, tile: &[u8], n: usize) -> Taken
+        ensures { λ r. ⌜ r ≡ takeOf (now (tile .entry)) self n ⌝ }
+    {
+        if MOST_BYTES < tile.len() {
+            return Taken::Short;
+        }
+        if MOST_BITS < n {
+            return Taken::Short;
+        }
+        let bit = self.bit;
+        let total = tile.len() * 8;
+        if total < bit {
+            return Taken::Short;
+        }
+        if total - bit < n {
+            return Taken::Short;
+        }
+        Taken::Bits(bits::field(tile, bit, n), self.at(bit + n))
+    }
+
+    // Past the zeros that come next and the one after them, with the number of zeros.
+    pub fn skip_zeros(self, tile: &[u8]) -> Taken
+        ensures { λ r. ⌜ r ≡ skipOf (now (tile .entry)) self ⌝ }
+    {
+        if MOST_BYTES < tile.len() {
+            return Taken::Short;
+        }
+        let bit = self.bit;
+        let total = tile.len() * 8;
+        if total < bit {
+            return Taken::Short;
+        }
+        let left = total - bit;
+        let n = bits::zeros(tile, bit, left);
+        if n < left {
+            Taken::Bits(n as u64, self.at(bit + n + 1))
+        } else {
+            Taken::Short
+        }
+    }
+
+    // One block, from the cursor, into the pixels from the cursor's place on.
+    pub fn step(
+        self,
+        tile: &[u8],
+        nx: usize,
+        nblock: usize,
+        bits: usize,
+        pixels: &mut [i32],
+    ) -> Stepped
+        ensures { λ r. ⌜ r ≡ stepOf (now (tile .entry)) nx nblock bits self (now (pixels .entry)) .answer ⌝ }
+        ensures { λ _. ⌜ now (pixels .exit) ≡ stepOf (now (tile .entry)) nx nblock bits self (now (pixels .entry)) .content ⌝ }
+    {
+        let Planned::Of(width) = plan(tile.len(), nx, nblock, bits) else {
+            return Stepped::Refused(Refusal::Limits, 0);
+        };
+        if pixels.len() != nx {
+            return Stepped::Refused(Refusal::PixelCount, 0);
+        }
+        if !self.stands(tile, width, nx, nblock) {
+            return Stepped::Refused(Refusal::BadCursor, 0);
+        }
+        let done = self.done;
+        if done == nx {
+            return Stepped::Done;
+        }
+        let end = block_end(done, nx, nblock);
+        self.block(tile, width, &mut pixels[done..end])
+    }
+
+    // The cursor at another place.
+    fn at(self, bit: usize) -> Self
+        ensures { λ r. ⌜ r ≡ moved self bit ⌝ }
+    {
+        let mut c = self;
+        c.bit = bit;
+        c
+    }
+
+    // Step after step, to the end.
+    fn run(self, tile: &[u8], nx: usize, nblock: usize, bits: usize, pixels: &mut [i32]) -> Decoded
+        requires { ⌜ (self .done ≤ nx) × (nx ≤ 2 ^ 20) × (length (now pixels) ≤ 2 ^ 20) ⌝ }
+        ensures { λ r. ⌜ r ≡ stepsOf (now (tile .entry)) nx nblock bits (suc nx) self (now (pixels .entry)) .answer ⌝ }
+        ensures { λ _. ⌜ now (pixels .exit) ≡ stepsOf (now (tile .entry)) nx nblock bits (suc nx) self (now (pixels .entry)) .content ⌝ }
+    {
+        let mut c = self;
+        loop {
+            match c.step(tile, nx, nblock, bits, pixels) {
+                Stepped::Done => {
+                    return Decoded::Whole(c.bit);
+                }
+                Stepped::Refused(why, n) => {
+                    let written = c.done + n;
+                    return Decoded::Refused(why, written);
+                }
+                Stepped::Next(next) => {
+                    c = next;
+                }
+            }
+        }
+    }
+
+    // Whether the cursor keeps its rules.
+    fn stands(self, tile: &[u8], width: Width, nx: usize, nblock: usize) -> bool
+        requires { ⌜ (length (now tile) ≤ mostBytes) × (0 < nblock) ⌝ }
+        ensures { λ r. ⌜ r ≡ stands width (now (tile .entry)) nx nblock self ⌝ }
+    {
+        let bit = self.bit;
+        let done = self.done;
+        if bit < width.start_bytes() * 8 {
+            return false;
+        }
+        if tile.len() * 8 < bit {
+            return false;
+        }
+        if nx < done {
+            return false;
+        }
+        if done != nx {
+            if done % nblock != 0 {
+                return false;
+            }
+        }
+        let last = self.last;
+        width.holds(last)
+    }
+
+    // One block: its FS field, and its pixels into the part that is lent for them.
+    fn block(self, tile: &[u8], width: Width, part: &mut [i32]) -> Stepped
+        requires { ⌜ (length (now tile) ≤ mostBytes) × (inWidth width (self .last) ≡ true) × (self .done + length (now part) < 2 ^ 32) ⌝ }
+        ensures { λ r. ⌜ r ≡ blockOf width (now (tile .entry)) self (now (part .entry)) .answer ⌝ }
+        ensures { λ _. ⌜ now (part .exit) ≡ blockOf width (now (tile .entry)) self (now (part .entry)) .content ⌝ }
+    {
+        let Taken::Bits(field, start) = self.take_bits(tile, width.fs_bits()) else {
+            return Stepped::Refused(Refusal::TileEnds, 0);
+        };
+        let Coded::Known(code) = width.code(field) else {
+            return Stepped::Refused(Refusal::FsAboveTop, 0);
+        };
+        start.fill(tile, width, code, part)
+    }
+
+    // The pixels of a block, into the part that is lent for them.
+    fn fill(self, tile: &[u8], width: Width, code: Code, part: &mut [i32]) -> Stepped
+        requires { ⌜ (length (now tile) ≤ mostBytes) × (self .bit ≤ bitsIn (now tile)) × CodeFits code × (inWidth width (self .last) ≡ true) × (self .done + length (now part) < 2 ^ 32) ⌝ }
+        ensures { λ r. ⌜ r ≡ filledOf self (length (now (part .entry))) (runFrom width code (now (tile .entry)) self (length (now (part .entry)))) ⌝ }
+        ensures { λ _. ⌜ now (part .exit) ≡ sets (now (part .entry)) 0 (runFrom width code (now (tile .entry)) self (length (now (part .entry))) .pixels) ⌝ }
+    {
+        let table = table::nonzero_count();
+        let mut a = ahead::bare(self);
+        let last = self.last;
+        let mut v = width.bits_of(last);
+        let mask = width.mask();
+        let below = width.negatives();
+        let mut i = 0;
+        while i < part.len() {
+            let Got::Bits(u, next) = a.difference(tile, &table, code) else {
+                return Stepped::Refused(Refusal::TileEnds, i);
+            };
+            v = width.next_by(mask, v, u);
+            let pixel = width.pixel_by(mask, below, v);
+            part[i] = pixel;
+            a = next;
+            i += 1;
+        }
+        let last = width.pixel(v);
+        let done = self.done + i;
+        let end = a.cursor;
+        Stepped::Next(Cursor {
+            bit: end.bit,
+            done,
+            last,
+        })
+    }
+}
+
+// The width, where the tile's length, nx, nblock and the width are within their limits.
+fn plan(len: usize, nx: usize, nblock: usize, bits: usize) -> Planned
+    ensures { λ r. ⌜ r ≡ planOf len nx nblock bits ⌝ }
+{
+    if nx < 1 {
+        return Planned::None;
+    }
+    if MOST_PIXELS < nx {
+        return Planned::None;
+    }
+    if nblock < 1 {
+        return Planned::None;
+    }
+    if MOST_BLOCK < nblock {
+        return Planned::None;
+    }
+    if MOST_BYTES < len {
+        return Planned::None;
+    }
+    width::width_of(bits)
+}
+
+// Where the block that starts at pixel `done` ends.
+fn block_end(done: usize, nx: usize, nblock: usize) -> usize
+    requires { ⌜ done ≤ nx ⌝ }
+    ensures { λ r. ⌜ r ≡ min (done + nblock) nx ⌝ }
+{
+    if nx - done < nblock {
+        nx
+    } else {
+        done + nblock
+    }
+}

@@ -1,0 +1,48 @@
+//! Finds the published sources and the archive, and says whether the archive has tiles.
+
+use std::path::{Path, PathBuf};
+use std::{env, fs};
+
+/// A path from the environment, or one below the project's root.
+fn place(variable: &str, default: &str) -> PathBuf {
+    println!("cargo:rerun-if-env-changed={variable}");
+    let path = env::var_os(variable).map(PathBuf::from);
+    let path = path.unwrap_or_else(|| Path::new(&env::var("CARGO_MANIFEST_DIR").unwrap()).join("..").join(default));
+    path.canonicalize().unwrap_or_else(|e| panic!("{variable}: {}: {e}", path.display()))
+}
+
+/// The module tree, over the files where they lie.
+fn tree(source: &Path) -> String {
+    let file = |name: &str| source.join(name).display().to_string();
+    format!(
+        "#[path = {:?}] pub mod card;\n\
+         #[path = {:?}] pub mod error;\n\
+         pub mod hdu {{\n\
+             pub use crate::card::Value;\n\
+             #[path = {:?}] pub mod header;\n\
+         }}\n\
+         #[path = {:?}] mod rice;\n",
+        file("card.rs"),
+        file("error.rs"),
+        file("hdu/header/mod.rs"),
+        file("hdu/data/bintable/tile_compressed/rice.rs"),
+    )
+}
+
+fn main() {
+    let source = place("WIDREKAS_FITSRS", "../shared/docs/src").join("src");
+    println!("cargo:rerun-if-changed={}", source.display());
+    let out = PathBuf::from(env::var_os("OUT_DIR").unwrap());
+    fs::write(out.join("tree.rs"), tree(&source)).unwrap();
+
+    let archive = place("WIDREKAS_ARCHIVE", "target/staticlib/libabi.a");
+    println!("cargo:rerun-if-changed={}", archive.display());
+    println!("cargo:rustc-link-search=native={}", archive.parent().unwrap().display());
+    println!("cargo:rustc-link-lib=static=abi");
+    let bytes = fs::read(&archive).unwrap();
+    println!("cargo:rustc-check-cfg=cfg(tiles)");
+    let function = b"widrekas_decode";
+    if bytes.windows(function.len()).any(|w| w == function) {
+        println!("cargo:rustc-cfg=tiles");
+    }
+}

@@ -1,0 +1,195 @@
+//! Headers as document 01 has them: joining, equal names, order.
+
+use crate::faults::Fault;
+use crate::model::Model;
+use crate::reading::{Card, Entry, Header, Value};
+
+/// The entries so far, and which of them a CONTINUE joins.
+struct Listing {
+    entries: Vec<Entry>,
+    dotted: Vec<bool>,
+    open: Option<usize>,
+}
+
+fn ends_open(value: &Value) -> bool {
+    matches!(value, Value::Text(t) if t.last() == Some(&b'&'))
+}
+
+impl Model {
+    /// A header's entries, from what each of its cards is.
+    pub fn header(self, cards: &[[u8; 80]], read: impl Fn(&[u8; 80]) -> Card) -> Header {
+        let mut list = Listing { entries: Vec::new(), dotted: Vec::new(), open: None };
+        let base = usize::from(self.has(Fault::RefusedFromOne));
+        let mut refused = None;
+        let mut ended = false;
+        for (at, bytes) in cards.iter().enumerate() {
+            match read(bytes) {
+                Card::End => {
+                    ended = true;
+                    if !self.has(Fault::EndPassed) {
+                        break;
+                    }
+                }
+                Card::Refused(_) if self.has(Fault::RefusedPassed) => (),
+                Card::Refused(_)
+                    if self.has(Fault::OrphanUnread) && list.open.is_none() && bytes.starts_with(b"CONTINUE") => {}
+                Card::Refused(number) => {
+                    refused = Some(Header::Refused(number, at + base));
+                    if !self.has(Fault::RefusedLast) {
+                        break;
+                    }
+                }
+                Card::Value(entry) => self.put(&mut list, entry, false),
+                Card::Hierarch(entry) => self.put(&mut list, entry, true),
+                Card::Continue(text, comment) => self.go_on(&mut list, text, comment),
+                Card::Xtension(text) => {
+                    let name = b"XTENSION".to_vec();
+                    self.put(&mut list, Entry { name, value: Value::Text(text), comment: None, unit: None }, false);
+                    list.open = None;
+                }
+                Card::Comment(_) => self.close_if(&mut list, Fault::CommentCloses),
+                Card::History(_) => self.close_if(&mut list, Fault::HistoryCloses),
+                Card::Space => self.close_if(&mut list, Fault::SpaceCloses),
+                Card::Undefined(_) => {
+                    self.close_if(&mut list, Fault::UndefinedCloses);
+                    if self.has(Fault::UndefinedEntry) {
+                        let name = bytes[..8].trim_ascii().to_vec();
+                        self.put(&mut list, Entry { name, value: Value::Undefined, comment: None, unit: None }, false);
+                    }
+                }
+            }
+        }
+        if let Some(refused) = refused {
+            return refused;
+        }
+        if !ended && !self.has(Fault::EndNotNeeded) {
+            let last = usize::from(self.has(Fault::NoEndLastCard));
+            return Header::Refused(10, cards.len().saturating_sub(last));
+        }
+        for entry in &mut list.entries {
+            if self.has(Fault::AmpersandAtEnd) && ends_open(&entry.value) {
+                if let Value::Text(t) = &mut entry.value {
+                    t.pop();
+                }
+            }
+        }
+        Header::Entries(list.entries)
+    }
+
+    fn close_if(self, list: &mut Listing, fault: Fault) {
+        if self.has(fault) {
+            list.open = None;
+        }
+    }
+
+    fn put(self, list: &mut Listing, entry: Entry, dotted: bool) {
+        let stays = if dotted { Fault::HierarchStaysOpen } else { Fault::ValueStaysOpen };
+        if !self.has(stays) {
+            list.open = None;
+        }
+        if entry.value == Value::Undefined && self.has(Fault::UndefinedValueNone) {
+            return;
+        }
+        if matches!(entry.value, Value::Invalid(_)) && self.has(Fault::InvalidNone) {
+            return;
+        }
+        let open = ends_open(&entry.value) && !(dotted && self.has(Fault::HierarchNotOpen));
+        let same = |e: &Entry| {
+            if self.has(Fault::NamesSmall) {
+                e.name.eq_ignore_ascii_case(&entry.name)
+            } else {
+                e.name == entry.name
+            }
+        };
+        let found = (0..list.entries.len())
+            .find(|&i| same(&list.entries[i]) && !(self.has(Fault::DottedApart) && list.dotted[i] != dotted))
+            .filter(|_| !self.has(Fault::EqualTwice));
+        let at = match found {
+            Some(_) if self.has(Fault::FirstCounts) => return,
+            Some(i) if self.has(Fault::LastPlace) => {
+                list.entries.remove(i);
+                list.dotted.remove(i);
+                list.open = list.open.filter(|&o| o != i).map(|o| if o > i { o - 1 } else { o });
+                list.entries.push(entry);
+                list.dotted.push(dotted);
+                list.entries.len() - 1
+            }
+            Some(i) => {
+                list.entries[i] = entry;
+                i
+            }
+            None => {
+                list.entries.push(entry);
+                list.dotted.push(dotted);
+                list.entries.len() - 1
+            }
+        };
+        if open {
+            list.open = Some(at);
+        }
+    }
+
+    fn go_on(self, list: &mut Listing, text: Vec<u8>, comment: Option<Vec<u8>>) {
+        let last = || list.entries.iter().rposition(|e| matches!(e.value, Value::Text(_)));
+        let orphan = if self.has(Fault::OrphanJoins) { last() } else { None };
+        let Some(at) = list.open.or(orphan) else {
+            if self.has(Fault::OrphanEntry) {
+                let name = b"CONTINUE".to_vec();
+                list.entries.push(Entry { name, value: Value::Text(text), comment, unit: None });
+                list.dotted.push(false);
+            }
+            return;
+        };
+        let entry = &mut list.entries[at];
+        let Value::Text(joined) = &mut entry.value else {
+            return;
+        };
+        if joined.last() == Some(&b'&') && !self.has(Fault::AmpersandStays) {
+            joined.pop();
+        }
+        while self.has(Fault::BothAmpersands) && joined.last() == Some(&b'&') {
+            joined.pop();
+        }
+        let empty = text.is_empty() || (text == b" " && !self.has(Fault::OneSpaceJoins));
+        if (empty && !self.has(Fault::SpacesBeforeStay)) || self.has(Fault::SpacesBeforeCut) {
+            while joined.last() == Some(&b' ') {
+                joined.pop();
+            }
+        }
+        if !empty {
+            joined.extend_from_slice(&text);
+        }
+        let open = match self.0 {
+            Fault::OpenByLast => text.last() == Some(&b'&'),
+            Fault::OpenNever => false,
+            Fault::OpenAlways => true,
+            _ => joined.last() == Some(&b'&'),
+        };
+        entry.comment = self.comments(entry.comment.take(), comment);
+        entry.unit = unit(&entry.comment);
+        list.open = open.then_some(at);
+    }
+
+    fn comments(self, a: Option<Vec<u8>>, c: Option<Vec<u8>>) -> Option<Vec<u8>> {
+        let (Some(a), Some(c)) = (&a, &c) else {
+            return a.or(c);
+        };
+        let between: &[u8] = match self.0 {
+            Fault::CommentLast => return Some(c.clone()),
+            Fault::CommentFirst => return Some(a.clone()),
+            Fault::CommentEmptySkipped if a.is_empty() => return Some(c.clone()),
+            Fault::CommentEmptySkipped if c.is_empty() => return Some(a.clone()),
+            Fault::CommentSpace => b" ",
+            Fault::CommentStraight => b"",
+            _ => b"\n",
+        };
+        Some([a, between, c].concat())
+    }
+}
+
+/// The unit of a comment that may be joined.
+fn unit(comment: &Option<Vec<u8>>) -> Option<Vec<u8>> {
+    let rest = comment.as_deref()?.strip_prefix(b"[")?;
+    let end = rest.iter().position(|&b| b == b']')?;
+    Some(rest[..end].to_vec())
+}

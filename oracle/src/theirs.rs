@@ -1,0 +1,166 @@
+//! The published Rust's answers.
+
+use crate::reading::{Card, Decimal, Entry, Header, Tile, Value};
+use fitsrs::card as published;
+use fitsrs::error::Error;
+use std::convert::TryFrom;
+use std::panic::{catch_unwind, set_hook, take_hook, AssertUnwindSafe};
+use std::sync::atomic::{AtomicBool, Ordering};
+
+/// Whether the Rust is at work, whose panics are answers.
+static AT_WORK: AtomicBool = AtomicBool::new(false);
+
+/// Panics of the Rust print nothing; all others do.
+pub fn silence() {
+    let other = take_hook();
+    set_hook(Box::new(move |info| {
+        if !AT_WORK.load(Ordering::Relaxed) {
+            other(info);
+        }
+    }));
+}
+
+/// What the Rust answers, or nothing where it panics.
+fn caught<T>(work: impl FnOnce() -> T) -> Option<T> {
+    AT_WORK.store(true, Ordering::Relaxed);
+    let answer = catch_unwind(AssertUnwindSafe(work)).ok();
+    AT_WORK.store(false, Ordering::Relaxed);
+    answer
+}
+
+/// A published text in our bytes: a replaced character is 127.
+fn bytes(text: &str) -> Vec<u8> {
+    if text.is_ascii() {
+        return text.as_bytes().to_vec();
+    }
+    text.chars().map(|c| if c == char::REPLACEMENT_CHARACTER { 127 } else { c as u8 }).collect()
+}
+
+fn optional(text: &Option<String>) -> Option<Vec<u8>> {
+    text.as_deref().map(bytes)
+}
+
+/// The refusal that a message tells, or 0.
+fn number(error: &Error) -> u8 {
+    match error {
+        Error::Utf8 => 1,
+        Error::StaticError("invalid character in value") => 2,
+        Error::StaticError("missing single quote at end") => 3,
+        Error::StaticError("missing single quote at start") => 4,
+        Error::StaticError("Complex values not yet supported") => 5,
+        Error::StaticError("Missing END card") => 10,
+        Error::DynamicError(m) if m.starts_with("Key/value separator '=' not found") => 6,
+        Error::DynamicError(m) if m.starts_with("Empty keyword in HIERARCH") => 7,
+        Error::DynamicError(m) if m.starts_with("XTENSION value must be enclosed") => 8,
+        _ => 0,
+    }
+}
+
+fn entry(name: &str, value: &published::Value) -> Entry {
+    let (kind, comment) = match value {
+        published::Value::Integer { value, comment } => (Value::Integer(*value), optional(comment)),
+        published::Value::Float { value, comment } => (Value::Decimal(Decimal::float(*value)), optional(comment)),
+        published::Value::Logical { value, comment } => (Value::Logical(*value), optional(comment)),
+        published::Value::String { value, comment } => (Value::Text(bytes(value)), optional(comment)),
+        published::Value::Undefined => (Value::Undefined, None),
+        published::Value::Invalid(text) => (Value::Invalid(bytes(text)), None),
+    };
+    Entry { name: bytes(name), value: kind, comment, unit: value.unit().map(bytes) }
+}
+
+fn told(read: Result<published::Card, Error>) -> Card {
+    match read {
+        Ok(published::Card::Value { name, value }) => Card::Value(entry(&name, &value)),
+        Ok(published::Card::Hierarch { name, value }) => Card::Hierarch(entry(&name, &value)),
+        Ok(published::Card::Continuation { string, comment }) => {
+            Card::Continue(bytes(string.as_deref().unwrap_or_default()), optional(&comment))
+        }
+        Ok(published::Card::Xtension { x, .. }) => Card::Xtension(bytes(x.as_str())),
+        Ok(published::Card::Comment(text)) => Card::Comment(bytes(&text)),
+        Ok(published::Card::History(text)) => Card::History(bytes(&text)),
+        Ok(published::Card::Space) => Card::Space,
+        Ok(published::Card::End) => Card::End,
+        Ok(published::Card::Undefined(text)) => Card::Undefined(bytes(&text)),
+        Err(error) => Card::Refused(number(&error)),
+    }
+}
+
+/// One card, or nothing where the Rust panics.
+pub fn card(card: &[u8; 80]) -> Option<Card> {
+    caught(|| told(published::Card::try_from(card)))
+}
+
+/// One header of the cards up to END, or nothing where the Rust panics.
+pub fn header(cards: &[[u8; 80]]) -> Option<Header> {
+    caught(|| {
+        let mut read = Vec::with_capacity(cards.len());
+        for (at, card) in cards.iter().enumerate() {
+            match published::Card::try_from(card) {
+                Ok(published::Card::End) => {
+                    read.push(published::Card::End);
+                    break;
+                }
+                Ok(card) => read.push(card),
+                Err(error) => return Header::Refused(number(&error), at),
+            }
+        }
+        match fitsrs::header(read) {
+            Ok(header) => Header::Entries(header.iter().map(|(name, value)| entry(name, value)).collect()),
+            Err(error) => Header::Refused(number(&error), cards.len()),
+        }
+    })
+}
+
+/// The pixels in the Rust's buffer.
+fn pixels(raw: &[u8], width: usize) -> Vec<i32> {
+    match width {
+        8 => raw.iter().map(|&b| b as i32).collect(),
+        16 => raw.chunks_exact(2).map(|c| i16::from_le_bytes([c[0], c[1]]) as i32).collect(),
+        _ => raw.chunks_exact(4).map(|c| i32::from_le_bytes([c[0], c[1], c[2], c[3]])).collect(),
+    }
+}
+
+/// One tile, decoded in one call, or nothing where the Rust panics. What was written before a fault is told by
+/// two runs over buffers that are filled differently.
+pub fn tile(tile: &[u8], nx: usize, nblock: usize, width: usize) -> Option<Tile> {
+    let size = width / 8;
+    let run = |fill: u8| {
+        caught(|| {
+            let mut raw = vec![fill; nx * size];
+            let mut decoder = fitsrs::Decoder::new(tile, width, nblock as i32, nx as i32);
+            let read = decoder.read(&mut raw);
+            (read.is_ok(), raw, tile.len() - decoder.left())
+        })
+    };
+    let (ok, raw, bytes) = run(0)?;
+    if ok {
+        return Some(Tile { refused: 0, pixels: pixels(&raw, width), bytes });
+    }
+    let (_, other, _) = run(255)?;
+    let same = raw.iter().zip(&other).take_while(|(a, b)| a == b).count();
+    Some(Tile { refused: 16, pixels: pixels(&raw[..same / size * size], width), bytes: 0 })
+}
+
+/// The whole bytes used after each block, read with a buffer of one block at a time, with all the pixels; it ends at
+/// the first block that fails.
+#[cfg_attr(not(tiles), allow(dead_code))]
+pub fn blocks(tile: &[u8], nx: usize, nblock: usize, width: usize) -> Option<(Vec<usize>, Vec<i32>)> {
+    let size = width / 8;
+    caught(|| {
+        let mut decoder = fitsrs::Decoder::new(tile, width, nblock as i32, nx as i32);
+        let mut places = Vec::new();
+        let mut all = Vec::new();
+        let mut done = 0;
+        while done < nx {
+            let n = nblock.min(nx - done);
+            let mut raw = vec![0; n * size];
+            if decoder.read(&mut raw).is_err() {
+                break;
+            }
+            all.extend(pixels(&raw, width));
+            places.push(tile.len() - decoder.left());
+            done += n;
+        }
+        (places, all)
+    })
+}

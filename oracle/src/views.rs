@@ -1,0 +1,200 @@
+//! Wrong views of an answer: each one, put in our answer's place, must be told apart, so every part of it is looked at.
+
+use crate::reading::{Card, Decimal, Entry, Header, Tile, Value};
+
+/// A change of an answer, which does nothing where it does not apply.
+pub type View<T> = (&'static str, fn(&mut T));
+
+fn entry(card: &mut Card, change: impl Fn(&mut Entry)) {
+    if let Card::Value(e) | Card::Hierarch(e) = card {
+        change(e);
+    }
+}
+
+fn value(card: &mut Card, change: impl Fn(&mut Value)) {
+    entry(card, |e| change(&mut e.value));
+}
+
+fn entries(header: &mut Header, change: impl Fn(&mut Vec<Entry>)) {
+    if let Header::Entries(e) = header {
+        change(e);
+    }
+}
+
+fn shorten(text: &mut Vec<u8>) {
+    text.pop();
+}
+
+fn shorten_some(text: &mut Option<Vec<u8>>) {
+    if let Some(text) = text {
+        text.pop();
+    }
+}
+
+fn raise(pixel: Option<&mut i32>) {
+    if let Some(pixel) = pixel {
+        *pixel = pixel.wrapping_add(1);
+    }
+}
+
+pub const CARDS: &[View<Card>] = &[
+    ("a refusal is one higher", |c| {
+        if let Card::Refused(n) = c {
+            *n += 1;
+        }
+    }),
+    ("a refusal is a space card", |c| {
+        if let Card::Refused(_) = c {
+            *c = Card::Space;
+        }
+    }),
+    ("a name loses its last byte", |c| entry(c, |e| shorten(&mut e.name))),
+    ("a comment is lost", |c| entry(c, |e| e.comment = None)),
+    ("a comment loses its last byte", |c| entry(c, |e| shorten_some(&mut e.comment))),
+    ("a unit is lost", |c| entry(c, |e| e.unit = None)),
+    ("a unit loses its last byte", |c| entry(c, |e| shorten_some(&mut e.unit))),
+    ("an integer is one higher", |c| {
+        value(c, |v| {
+            if let Value::Integer(z) = v {
+                *z = z.wrapping_add(1);
+            }
+        })
+    }),
+    ("a decimal is the float beside it", |c| {
+        value(c, |v| {
+            if let Value::Decimal(d) = v {
+                *d = Decimal { bits: d.bits ^ 1, record: None };
+            }
+        })
+    }),
+    ("a truth value is turned", |c| {
+        value(c, |v| {
+            if let Value::Logical(t) = v {
+                *t = !*t;
+            }
+        })
+    }),
+    ("a string loses its last byte", |c| {
+        value(c, |v| {
+            if let Value::Text(t) = v {
+                t.pop();
+            }
+        })
+    }),
+    ("an invalid text loses its last byte", |c| {
+        value(c, |v| {
+            if let Value::Invalid(t) = v {
+                t.pop();
+            }
+        })
+    }),
+    ("an undefined value is an empty string", |c| {
+        value(c, |v| {
+            if *v == Value::Undefined {
+                *v = Value::Text(Vec::new());
+            }
+        })
+    }),
+    ("a HIERARCH card is a value card", |c| {
+        if let Card::Hierarch(e) = c {
+            *c = Card::Value(e.clone());
+        }
+    }),
+    ("a CONTINUE text loses its last byte", |c| {
+        if let Card::Continue(t, _) = c {
+            t.pop();
+        }
+    }),
+    ("a CONTINUE comment is lost", |c| {
+        if let Card::Continue(_, k) = c {
+            *k = None;
+        }
+    }),
+    ("a comment card is a history card", |c| {
+        if let Card::Comment(t) = c {
+            *c = Card::History(t.clone());
+        }
+    }),
+    ("a comment or history card loses its last byte", |c| {
+        if let Card::Comment(t) | Card::History(t) = c {
+            t.pop();
+        }
+    }),
+    ("a space card is a comment", |c| {
+        if *c == Card::Space {
+            *c = Card::Comment(Vec::new());
+        }
+    }),
+    ("END is a space card", |c| {
+        if *c == Card::End {
+            *c = Card::Space;
+        }
+    }),
+    ("an undefined card loses its last byte", |c| {
+        if let Card::Undefined(t) = c {
+            t.pop();
+        }
+    }),
+];
+
+pub const HEADERS: &[View<Header>] = &[
+    ("the first entry is lost", |h| {
+        entries(h, |e| {
+            if !e.is_empty() {
+                e.remove(0);
+            }
+        })
+    }),
+    ("the last entry is lost", |h| entries(h, |e| e.truncate(e.len().saturating_sub(1)))),
+    ("the entries stand in the other order", |h| entries(h, |e| e.reverse())),
+    ("two names change places", |h| {
+        entries(h, |e| {
+            if let [a, b, ..] = &mut e[..] {
+                std::mem::swap(&mut a.name, &mut b.name);
+            }
+        })
+    }),
+    ("two values change places", |h| {
+        entries(h, |e| {
+            if let [a, b, ..] = &mut e[..] {
+                std::mem::swap(&mut a.value, &mut b.value);
+            }
+        })
+    }),
+    ("comments are lost", |h| entries(h, |e| e.iter_mut().for_each(|e| e.comment = None))),
+    ("units are lost", |h| entries(h, |e| e.iter_mut().for_each(|e| e.unit = None))),
+    ("a refusal names the card before", |h| {
+        if let Header::Refused(_, at) = h {
+            *at = at.wrapping_sub(1);
+        }
+    }),
+    ("a refusal has another number", |h| {
+        if let Header::Refused(n, _) = h {
+            *n += 1;
+        }
+    }),
+    ("a refused header is empty", |h| {
+        if let Header::Refused(..) = h {
+            *h = Header::Entries(Vec::new());
+        }
+    }),
+];
+
+pub const TILES: &[View<Tile>] = &[
+    ("the first pixel is one higher", |t| raise(t.pixels.first_mut())),
+    ("the last pixel is one higher", |t| raise(t.pixels.last_mut())),
+    ("the last pixel is lost", |t| t.pixels.truncate(t.pixels.len().saturating_sub(1))),
+    ("a fault writes one pixel more", |t| {
+        if t.refused != 0 {
+            t.pixels.push(0);
+        }
+    }),
+    ("one byte more is used", |t| {
+        if t.refused == 0 {
+            t.bytes += 1;
+        }
+    }),
+    ("one byte less is used", |t| t.bytes = t.bytes.saturating_sub(1)),
+    ("a fault passes", |t| t.refused = 0),
+    ("a decoded tile is refused", |t| t.refused = 16),
+];
