@@ -1,0 +1,127 @@
+// Decodes the tiles of document 01's "Readings at the edges", whole and block by block, with nblock 32, and prints a line for each: the
+// tile's bytes, its width and number of pixels, and its pixels with the bits used, or the refusal with the pixels written.
+use libc::STDOUT_FILENO;
+use refusal::Refusal;
+use rice::Decoded;
+use rice::Opened;
+use rice::Stepped;
+
+// The pixels of a block.
+const NBLOCK: usize = 32;
+
+// The hexadecimal digits of a byte.
+const HEX_DIGITS: usize = 2;
+
+fn main() {
+    two(b"\x0a\x00", 8, 2);
+    two(b"\x0a\x32", 8, 2);
+    one(b"\x00\x28", 8, 1);
+    one(b"\x0a\xff\xe0", 8, 1);
+    two(b"\x0a\x30", 8, 2);
+    one(b"\x00\x00\x00\x05\xd0\x00\x00\x00\x10", 32, 1);
+    one(b"\x00\x00\x00\x00\xd8", 32, 1);
+    one(b"", 8, 1);
+    one(b"\x0a", 8, 0);
+    one(b"\x0a", 9, 1);
+    two(b"\xff\x00\x00", 16, 2);
+}
+
+// A tile of one pixel, or of a number of pixels that is refused.
+fn one(tile: &[u8], bits: usize, nx: usize) {
+    let mut pixels = [7i32; 1];
+    row(tile, bits, nx, &mut pixels);
+}
+
+// A tile of two pixels.
+fn two(tile: &[u8], bits: usize, nx: usize) {
+    let mut pixels = [7i32; 2];
+    row(tile, bits, nx, &mut pixels);
+}
+
+fn row(tile: &[u8], bits: usize, nx: usize, pixels: &mut [i32]) {
+    put_tile(tile);
+    put(b"width ");
+    put_number(bits);
+    put(b" nx ");
+    put_number(nx);
+    put(b" =>");
+    match rice::decode(tile, nx, NBLOCK, bits, pixels) {
+        Decoded::Whole(used) => {
+            put_pixels(pixels);
+            put(b", ");
+            put_number(used);
+            put(b" bits");
+        }
+        Decoded::Refused(why, written) => {
+            put_refusal(why, written);
+            put_pixels(pixels);
+        }
+    }
+    put_step(tile, bits, nx, pixels);
+    put(b"\n");
+}
+
+// The first step from opening, and what a second one then says.
+fn put_step(tile: &[u8], bits: usize, nx: usize, pixels: &mut [i32]) {
+    let Opened::At(cursor) = rice::open(tile, nx, NBLOCK, bits) else {
+        put(b"; not opened");
+        return;
+    };
+    let Stepped::Next(next) = cursor.step(tile, nx, NBLOCK, bits, pixels) else {
+        put(b"; no step");
+        return;
+    };
+    put(b"; step to ");
+    put_number(next.bit);
+    if let Stepped::Done = next.step(tile, nx, NBLOCK, bits, pixels) {
+        put(b", done");
+    }
+}
+
+fn put_tile(tile: &[u8]) {
+    let mut i = 0;
+    while i < tile.len() {
+        io::print_hex(STDOUT_FILENO, tile[i] as u64, HEX_DIGITS);
+        put_space();
+        i += 1;
+    }
+}
+
+fn put_pixels(pixels: &[i32]) {
+    let mut i = 0;
+    while i < pixels.len() {
+        put_space();
+        put_pixel(pixels[i]);
+        i += 1;
+    }
+}
+
+fn put_pixel(z: i32) {
+    if z < 0 {
+        put(b"-");
+        let less = -1 - z;
+        io::print_decimal(STDOUT_FILENO, less as u64 + 1);
+        return;
+    }
+    io::print_decimal(STDOUT_FILENO, z as u64);
+}
+
+fn put_refusal(why: Refusal, written: usize) {
+    put(b" refused ");
+    put_number(why.number() as usize);
+    put(b" after ");
+    put_number(written);
+    put(b", left");
+}
+
+fn put_space() {
+    put(b" ");
+}
+
+fn put_number(n: usize) {
+    io::print_decimal(STDOUT_FILENO, n as u64);
+}
+
+fn put(s: &[u8]) {
+    io::write_all(STDOUT_FILENO, s);
+}
