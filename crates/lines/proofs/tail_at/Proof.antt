@@ -1,0 +1,84 @@
+-- `lines::tail_at` meets its contract, by the sizes of a decimal.
+use mathlib.Core.Path.{sym, ap, ap₂, _∙_}
+use mathlib.Core.Bool.{Bool}
+use mir.Syntax.{w64}
+use mir.Facts.{toZ-ofZ}
+use Rattle.text.specs.Text.{textOf}
+use Rattle.numbers.specs.declared.Size.{Size}
+use Prim.Native.Nat.{ℕ}
+use mathlib.Core.List.{[], _∷_, _++_}
+use lib.IntN.{natAbs}
+use Rattle.lines.specs.Lines.{lineFeed, decimalDigits}
+use Rattle.lines.specs.Parts.{tailAt}
+use borrow.Author.Needs.{needs}
+use Rattle.lines.proofs.tail_at.Statement.{statement}
+use Rattle.lines.proofs.tail_at.Tie as tie
+
+enum-known-size : tie.Need-enum-known-size
+enum-known-size c = search needs
+
+size-of-requires : tie.Need-size-of-requires
+size-of-requires c κs = search needs
+
+number-text-requires : tie.Need-number-text-requires
+number-text-requires c κs = search needs
+
+returns : tie.Need-returns
+returns c =
+    let same = toZ-ofZ {w = w64} {z = c .before .before .before .before .size .given .0 .0} (record { sfits = c .before .before .before .known-told .given .0 .1 }) in
+    c .number-text .ensures
+    ∙ ap (λ (n : ℕ). textOf (decimalDigits n ++ lineFeed ∷ [])) (c .before .size-of .ensures ∙ ap natAbs same)
+    ∙ sym (ap₂ (λ (s : Size) (t : Bool). textOf (tailAt s t)) (c .before .before .before .before .size .given .1) (c .before .before .if1 .taken))
+
+slice-aggregate-text-of : tie.Need-slice-aggregate-text-of
+slice-aggregate-text-of c = search needs
+
+text-of-requires : tie.Need-text-of-requires
+text-of-requires c κs = search needs
+
+enum-told : tie.Need-enum-told
+enum-told c = search needs
+
+slice-aggregate-text-of-2 : tie.Need-slice-aggregate-text-of-2
+slice-aggregate-text-of-2 c = search needs
+
+text-of-requires-2 : tie.Need-text-of-requires-2
+text-of-requires-2 c κs = search needs
+
+enum-told-2 : tie.Need-enum-told-2
+enum-told-2 c = search needs
+
+slice-aggregate-text-of-3 : tie.Need-slice-aggregate-text-of-3
+slice-aggregate-text-of-3 c = search needs
+
+text-of-requires-3 : tie.Need-text-of-requires-3
+text-of-requires-3 c κs = search needs
+
+returns-2 : tie.Need-returns-2
+returns-2 c = c .text-of .ensures ∙ sym (ap₂ (λ (s : Size) (t : Bool). textOf (tailAt s t)) (c .before .before .before .before .size .given .1) (c .before .before .if1 .left))
+
+returns-3 : tie.Need-returns-3
+returns-3 c = c .text-of2 .ensures ∙ sym (ap (λ (s : Size). textOf (tailAt s (c .before .before .before .before .args .some))) (c .before .before .enum-told .given .1))
+
+returns-4 : tie.Need-returns-4
+returns-4 c = c .text-of3 .ensures ∙ sym (ap (λ (s : Size). textOf (tailAt s (c .before .before .before .before .args .some))) (c .before .before .enum-told2 .given .1))
+
+pub tail-at-spec : {M : Type 1} → statement M
+tail-at-spec =
+    tie.close
+    (tie.spec
+    enum-known-size
+    size-of-requires
+    number-text-requires
+    returns
+    slice-aggregate-text-of
+    text-of-requires
+    enum-told
+    slice-aggregate-text-of-2
+    text-of-requires-2
+    enum-told-2
+    slice-aggregate-text-of-3
+    text-of-requires-3
+    returns-2
+    returns-3
+    returns-4)
