@@ -1,12 +1,12 @@
--- `cards::print_names` is safe and ends: the place is one of the table's.
+-- `printing::print_names` is safe and ends: the place is one of the table's.
 use Prim.Native.Nat.{_-_, _≤_, _<_}
 use native.Mathlib.Omega.{arith}
 use mathlib.Core.Path.{_≡_}
 use borrow.Author.Tests.{ltb-true}
 use lib.ListN.{length}
 use borrow.Author.Needs.{needs}
-use Rattle.cards.proofs.print_names.Statement.{statement}
-use Rattle.cards.proofs.print_names.Tie as tie
+use Rattle.printing.proofs.print_names.Statement.{statement}
+use Rattle.printing.proofs.print_names.Tie as tie
 
 abbrev Inv-loop : tie.InvT-loop
 Inv-loop header first last count text₀ line₀ k₀ text line k = (k ≤ 720) × (length text ≡ 57600) × (length line ≡ 57760)
