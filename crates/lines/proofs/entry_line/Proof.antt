@@ -24,15 +24,18 @@ middle-told m k e =
 
 line-told : (m : tie.After-middle-of) (x : List ℕ)
     → x ≡ bytesAt (middleOf (start m .args .value)) (bytesOf (start m .args .digits)) (start m .args .text .now)
-    → bytesOf (start m .args .name) ++ bytesOf (m .before .before .before .before .before .head-of .result) ++ x ++ bytesOf (m .before .before .before .joint-of .result) ++ bytesOf (m .before .tail-of .result)
+    → bytesOf (start m .args .name) ++ bytesOf (m .before .before .before .before .before .head-of .result) ++ x
+    ++ bytesOf (m .before .before .before .joint-of .result) ++ bytesOf (m .before .tail-of .result)
     ≡ entryLine (bytesOf (start m .args .name)) (start m .args .value) (bytesOf (start m .args .digits)) (start m .args .text .now)
 line-told m x e =
     let a = start m .args in
-    let shown = m .before .before .before .before .before .before .before .first-of .ensures in
+    let joints = m .before .before .before in
+    let heads = m .before .before .before .before .before in
+    let shown = heads .before .before .first-of .ensures in
     entry-parts (bytesOf (a .name)) (a .value) (bytesOf (a .digits)) (a .text .now) x
-    (m .before .before .before .before .before .head-of .ensures ∙ ap (λ (t : Bool). textOf (headOf (a .value) t)) (m .before .before .before .before .before .before .is-some .ensures))
+    (heads .head-of .ensures ∙ ap (λ (t : Bool). textOf (headOf (a .value) t)) (heads .before .is-some .ensures))
     e
-    (m .before .before .before .joint-of .ensures ∙ ap (λ (t : Bool). textOf (jointOf (a .value) t)) (m .before .before .before .before .is-some2 .ensures ∙ ap isSome shown))
+    (joints .joint-of .ensures ∙ ap (λ (t : Bool). textOf (jointOf (a .value) t)) (joints .before .is-some2 .ensures ∙ ap isSome shown))
     (m .before .tail-of .ensures ∙ ap (λ (t : Bool). textOf (tailOf (a .value) t)) (m .before .before .is-some3 .ensures ∙ ap isSome shown))
 
 slice-aggregate-first-of : tie.Need-slice-aggregate-first-of

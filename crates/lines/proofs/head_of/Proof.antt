@@ -1,5 +1,5 @@
 -- `lines::head_of` meets its contract, by the kinds of value.
-use mathlib.Core.Path.{sym, ap, _∙_}
+use mathlib.Core.Path.{_≡_, sym, ap, _∙_}
 use mathlib.Core.Bool.{Bool}
 use mathlib.Core.List.{List}
 use lib.IntN.{ℤ}
@@ -13,6 +13,10 @@ use Rattle.lines.specs.Parts.{oneOf, headOf}
 use borrow.Author.Needs.{needs}
 use Rattle.lines.proofs.head_of.Statement.{statement}
 use Rattle.lines.proofs.head_of.Tie as tie
+
+-- the kind that an arm knows is the value's
+by-kind : (s : tie.Start) {v : Value} → s .args .value ≡ v → textOf (headOf v (s .args .some)) ≡ textOf (headOf (s .args .value) (s .args .some))
+by-kind s e = sym (ap (λ (v : Value). textOf (headOf v (s .args .some))) e)
 
 enum-known-value : tie.Need-enum-known-value
 enum-known-value c = search needs
@@ -85,25 +89,26 @@ one-of-requires-4 c κs = search needs
 
 returns : tie.Need-returns
 returns c =
-    let same = toZ-ofZ {w = w64} {z = c .before .before .before .before .before .value .given .0 .0} (record { sfits = c .before .before .before .before .known-told .given .0 .1 }) in
+    let told = c .before .before .before .before in
+    let same = toZ-ofZ {w = w64} {z = told .before .value .given .0 .0} (record { sfits = told .known-told .given .0 .1 }) in
     c .one-of .ensures
     ∙ ap (λ (t : Bool). textOf (oneOf t (ascii " I -") (ascii " I "))) (c .before .before .before .is-minus .ensures ∙ ap isMinus same)
-    ∙ sym (ap (λ (v : Value). textOf (headOf v (c .before .before .before .before .before .before .before .args .some))) (c .before .before .before .before .before .value .given .1))
+    ∙ by-kind (c .before .before .before .before .before .before .before) (c .before .before .before .before .before .value .given .1)
 
 returns-2 : tie.Need-returns-2
-returns-2 c = c .one-of2 .ensures ∙ sym (ap (λ (v : Value). textOf (headOf v (c .before .before .before .before .before .before .args .some))) (c .before .before .before .before .value2 .given .1))
+returns-2 c = c .one-of2 .ensures ∙ by-kind (c .before .before .before .before .before .before) (c .before .before .before .before .value2 .given .1)
 
 returns-3 : tie.Need-returns-3
-returns-3 c = c .text-of .ensures ∙ sym (ap (λ (v : Value). textOf (headOf v (c .before .before .before .before .args .some))) (c .before .before .enum-told .given .1))
+returns-3 c = c .text-of .ensures ∙ by-kind (c .before .before .before .before) (c .before .before .enum-told .given .1)
 
 returns-4 : tie.Need-returns-4
-returns-4 c = c .one-of3 .ensures ∙ sym (ap (λ (v : Value). textOf (headOf v (c .before .before .before .before .before .args .some))) (c .before .before .before .enum-told2 .given .1))
+returns-4 c = c .one-of3 .ensures ∙ by-kind (c .before .before .before .before .before) (c .before .before .before .enum-told2 .given .1)
 
 returns-5 : tie.Need-returns-5
-returns-5 c = c .text-of2 .ensures ∙ sym (ap (λ (v : Value). textOf (headOf v (c .before .before .before .before .args .some))) (c .before .before .enum-told3 .given .1))
+returns-5 c = c .text-of2 .ensures ∙ by-kind (c .before .before .before .before) (c .before .before .enum-told3 .given .1)
 
 returns-6 : tie.Need-returns-6
-returns-6 c = c .one-of4 .ensures ∙ sym (ap (λ (v : Value). textOf (headOf v (c .before .before .before .before .before .args .some))) (c .before .before .before .enum-told4 .given .1))
+returns-6 c = c .one-of4 .ensures ∙ by-kind (c .before .before .before .before .before) (c .before .before .before .enum-told4 .given .1)
 
 pub head-of-spec : {M : Type 1} → statement M
 head-of-spec =

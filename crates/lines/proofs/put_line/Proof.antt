@@ -15,11 +15,17 @@ use Rattle.lines.proofs.put_line.Tie as tie
 abbrev line : tie.Start → List ℕ
 line s = bytesOf (s .args .a) ++ bytesOf (s .args .b) ++ s .args .middle .now ++ bytesOf (s .args .d) ++ bytesOf (s .args .e)
 
-abbrev lengths : (s : tie.Start) → length (line s) ≡ length (bytesOf (s .args .a)) + length (bytesOf (s .args .b)) + length (s .args .middle .now) + length (bytesOf (s .args .d)) + length (bytesOf (s .args .e))
+lengths : (s : tie.Start)
+    → length (line s)
+    ≡ length (bytesOf (s .args .a)) + length (bytesOf (s .args .b)) + length (s .args .middle .now)
+    + length (bytesOf (s .args .d)) + length (bytesOf (s .args .e))
 lengths s = length-five (bytesOf (s .args .a)) (bytesOf (s .args .b)) (s .args .middle .now) (bytesOf (s .args .d)) (bytesOf (s .args .e))
 
-room : (c : tie.Else2) → length (line (c .before .before .before .before .before .before .before .before)) ≤ length (c .before .before .before .before .before .before .before .before .args .out .now)
-room c = omega (arith, lengths (c .before .before .before .before .before .before .before .before))
+abbrev start : tie.Else2 → tie.Start
+start c = c .before .before .before .before .before .before .before .before
+
+room : (c : tie.Else2) → length (line (start c)) ≤ length (start c .args .out .now)
+room c = omega (arith, lengths (start c))
 
 held-requires : tie.Need-held-requires
 held-requires c κs = search needs
@@ -77,13 +83,19 @@ same-length c = search needs
 
 returns-3 : tie.Need-returns-3
 returns-3 c =
-    let a = c .before .before .before .before .before .before .before .before .before .before .before .before .before .before .before .before .before .before .before .before .before .before .before .before .before .before .before .before .args in
-    let p₁ = put-next (put-none (a .out .now)) (bytesOf (a .a)) (c .before .before .before .before .before .before .before .before .before .before .before .before .before .before .before .before .before .before .put-text .ensures .0) (c .before .before .before .before .before .before .before .before .before .before .before .before .before .before .before .before .before .before .put-text .ensures .1) in
-    let p₂ = put-next p₁ (bytesOf (a .b)) (c .before .before .before .before .before .before .before .before .before .before .before .before .before .before .put-text2 .ensures .0) (c .before .before .before .before .before .before .before .before .before .before .before .before .before .before .put-text2 .ensures .1) in
-    let p₃ = put-next p₂ (a .middle .now) (c .before .before .before .before .before .before .before .before .before .before .put .ensures .0) (c .before .before .before .before .before .before .before .before .before .before .put .ensures .1) in
-    let p₄ = put-next p₃ (bytesOf (a .d)) (c .before .before .before .before .before .before .put-text3 .ensures .0) (c .before .before .before .before .before .before .put-text3 .ensures .1) in
-    let p₅ = put-next p₄ (bytesOf (a .e)) (c .before .before .put-text4 .ensures .0) (c .before .before .put-text4 .ensures .1) in
-    let e = laid-fits (line (c .before .before .before .before .before .before .before .before .before .before .before .before .before .before .before .before .before .before .before .before .before .before .before .before .before .before .before .before)) (a .out .now) (room (c .before .before .before .before .before .before .before .before .before .before .before .before .before .before .before .before .before .before .before .before)) in
+    let at-e = c .before .before in
+    let at-d = at-e .before .before .before .before in
+    let at-middle = at-d .before .before .before .before in
+    let at-b = at-middle .before .before .before .before in
+    let at-a = at-b .before .before .before .before in
+    let fits = at-a .before .before in
+    let a = start fits .args in
+    let p₁ = put-next (put-none (a .out .now)) (bytesOf (a .a)) (at-a .put-text .ensures .0) (at-a .put-text .ensures .1) in
+    let p₂ = put-next p₁ (bytesOf (a .b)) (at-b .put-text2 .ensures .0) (at-b .put-text2 .ensures .1) in
+    let p₃ = put-next p₂ (a .middle .now) (at-middle .put .ensures .0) (at-middle .put .ensures .1) in
+    let p₄ = put-next p₃ (bytesOf (a .d)) (at-d .put-text3 .ensures .0) (at-d .put-text3 .ensures .1) in
+    let p₅ = put-next p₄ (bytesOf (a .e)) (at-e .put-text4 .ensures .0) (at-e .put-text4 .ensures .1) in
+    let e = laid-fits (line (start fits)) (a .out .now) (room fits) in
     (ap Written (p₅ .end) ∙ sym (ap (λ (o : Outcome). o .answer) e), p₅ .content ∙ sym (ap (λ (o : Outcome). o .content) e))
 
 pub put-line-spec : {M : Type 1} → statement M

@@ -41,11 +41,16 @@ same-length c = search needs
 
 returns : tie.Need-returns
 returns c =
-    let a = c .before .before .before .before .before .before .before .before .before .before .before .before .args in
+    let last = c .before .before .before .before .before in
+    let texts = last .before .before in
+    let a = texts .before .before .before .before .before .args in
     let out = a .out .now in
     let p = c .before .before .put-line .ensures in
-    let number = c .before .before .before .before .before .before .before .number-text .ensures ∙ ap (λ (n : ℕ). textOf (decimalDigits n ++ 32 ∷ [])) (c .before .before .before .before .before .before .before .before .number .ensures) in
-    let e = refused-parts (a .why) (a .card) (c .before .before .before .before .before .before .before .before .before .text-of .ensures) number (c .before .before .before .before .before .empty-text .ensures) (c .before .before .before .before .before .before .number-text2 .ensures) in
+    let number =
+    texts .number-text .ensures ∙ ap (λ (n : ℕ). textOf (decimalDigits n ++ 32 ∷ [])) (texts .before .number .ensures) in
+    let e =
+    refused-parts (a .why) (a .card) (texts .before .before .text-of .ensures) number
+    (last .empty-text .ensures) (last .before .number-text2 .ensures) in
     (p .0 ∙ ap (λ (l : List ℕ). laid l out .answer) e, p .1 ∙ ap (λ (l : List ℕ). laid l out .content) e)
 
 pub refused-line-spec : {M : Type 1} → statement M

@@ -1,5 +1,5 @@
 -- `lines::tail_at` meets its contract, by the sizes of a decimal.
-use mathlib.Core.Path.{sym, ap, ap₂, _∙_}
+use mathlib.Core.Path.{_≡_, sym, ap, ap₂, _∙_}
 use mathlib.Core.Bool.{Bool}
 use mir.Syntax.{w64}
 use mir.Facts.{toZ-ofZ}
@@ -14,6 +14,13 @@ use borrow.Author.Needs.{needs}
 use Rattle.lines.proofs.tail_at.Statement.{statement}
 use Rattle.lines.proofs.tail_at.Tie as tie
 
+-- the size that an arm knows is the decimal's, and so with the digits that are there or not
+by-size : (s : tie.Start) {v : Size} → s .args .size ≡ v → textOf (tailAt v (s .args .some)) ≡ textOf (tailAt (s .args .size) (s .args .some))
+by-size s e = sym (ap (λ (v : Size). textOf (tailAt v (s .args .some))) e)
+
+by-both : {u v : Size} {t some : Bool} → u ≡ v → t ≡ some → textOf (tailAt v some) ≡ textOf (tailAt u t)
+by-both e f = sym (ap₂ (λ (v : Size) (t : Bool). textOf (tailAt v t)) e f)
+
 enum-known-size : tie.Need-enum-known-size
 enum-known-size c = search needs
 
@@ -25,10 +32,11 @@ number-text-requires c κs = search needs
 
 returns : tie.Need-returns
 returns c =
-    let same = toZ-ofZ {w = w64} {z = c .before .before .before .before .size .given .0 .0} (record { sfits = c .before .before .before .known-told .given .0 .1 }) in
+    let told = c .before .before .before in
+    let same = toZ-ofZ {w = w64} {z = told .before .size .given .0 .0} (record { sfits = told .known-told .given .0 .1 }) in
     c .number-text .ensures
     ∙ ap (λ (n : ℕ). textOf (decimalDigits n ++ lineFeed ∷ [])) (c .before .size-of .ensures ∙ ap natAbs same)
-    ∙ sym (ap₂ (λ (s : Size) (t : Bool). textOf (tailAt s t)) (c .before .before .before .before .size .given .1) (c .before .before .if1 .taken))
+    ∙ by-both (c .before .before .before .before .size .given .1) (c .before .before .if1 .taken)
 
 slice-aggregate-text-of : tie.Need-slice-aggregate-text-of
 slice-aggregate-text-of c = search needs
@@ -55,13 +63,13 @@ text-of-requires-3 : tie.Need-text-of-requires-3
 text-of-requires-3 c κs = search needs
 
 returns-2 : tie.Need-returns-2
-returns-2 c = c .text-of .ensures ∙ sym (ap₂ (λ (s : Size) (t : Bool). textOf (tailAt s t)) (c .before .before .before .before .size .given .1) (c .before .before .if1 .left))
+returns-2 c = c .text-of .ensures ∙ by-both (c .before .before .before .before .size .given .1) (c .before .before .if1 .left)
 
 returns-3 : tie.Need-returns-3
-returns-3 c = c .text-of2 .ensures ∙ sym (ap (λ (s : Size). textOf (tailAt s (c .before .before .before .before .args .some))) (c .before .before .enum-told .given .1))
+returns-3 c = c .text-of2 .ensures ∙ by-size (c .before .before .before .before) (c .before .before .enum-told .given .1)
 
 returns-4 : tie.Need-returns-4
-returns-4 c = c .text-of3 .ensures ∙ sym (ap (λ (s : Size). textOf (tailAt s (c .before .before .before .before .args .some))) (c .before .before .enum-told2 .given .1))
+returns-4 c = c .text-of3 .ensures ∙ by-size (c .before .before .before .before) (c .before .before .enum-told2 .given .1)
 
 pub tail-at-spec : {M : Type 1} → statement M
 tail-at-spec =

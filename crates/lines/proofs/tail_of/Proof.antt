@@ -1,5 +1,5 @@
 -- `lines::tail_of` meets its contract, by the kinds of value.
-use mathlib.Core.Path.{sym, ap, _∙_}
+use mathlib.Core.Path.{_≡_, sym, ap, _∙_}
 use Prim.Native.Nat.{ℕ}
 use mathlib.Core.List.{[], _∷_, _++_}
 use lib.IntN.{natAbs}
@@ -12,6 +12,10 @@ use Rattle.lines.specs.Parts.{tailOf}
 use borrow.Author.Needs.{needs}
 use Rattle.lines.proofs.tail_of.Statement.{statement}
 use Rattle.lines.proofs.tail_of.Tie as tie
+
+-- the kind that an arm knows is the value's
+by-kind : (s : tie.Start) {v : Value} → s .args .value ≡ v → textOf (tailOf v (s .args .some)) ≡ textOf (tailOf (s .args .value) (s .args .some))
+by-kind s e = sym (ap (λ (v : Value). textOf (tailOf v (s .args .some))) e)
 
 enum-known-value : tie.Need-enum-known-value
 enum-known-value c = search needs
@@ -66,25 +70,26 @@ text-of-requires-4 c κs = search needs
 
 returns : tie.Need-returns
 returns c =
-    let same = toZ-ofZ {w = w64} {z = c .before .before .before .value .given .0 .0} (record { sfits = c .before .before .known-told .given .0 .1 }) in
+    let told = c .before .before in
+    let same = toZ-ofZ {w = w64} {z = told .before .value .given .0 .0} (record { sfits = told .known-told .given .0 .1 }) in
     c .number-text .ensures
     ∙ ap (λ (n : ℕ). textOf (decimalDigits n ++ lineFeed ∷ [])) (c .before .size-of .ensures ∙ ap natAbs same)
-    ∙ sym (ap (λ (v : Value). textOf (tailOf v (c .before .before .before .before .before .args .some))) (c .before .before .before .value .given .1))
+    ∙ by-kind (c .before .before .before .before .before) (c .before .before .before .value .given .1)
 
 returns-2 : tie.Need-returns-2
-returns-2 c = c .tail-at .ensures ∙ sym (ap (λ (v : Value). textOf (tailOf v (c .before .before .before .before .args .some))) (c .before .before .value2 .given .1))
+returns-2 c = c .tail-at .ensures ∙ by-kind (c .before .before .before .before) (c .before .before .value2 .given .1)
 
 returns-3 : tie.Need-returns-3
-returns-3 c = c .text-of .ensures ∙ sym (ap (λ (v : Value). textOf (tailOf v (c .before .before .before .before .args .some))) (c .before .before .enum-told .given .1))
+returns-3 c = c .text-of .ensures ∙ by-kind (c .before .before .before .before) (c .before .before .enum-told .given .1)
 
 returns-4 : tie.Need-returns-4
-returns-4 c = c .text-of2 .ensures ∙ sym (ap (λ (v : Value). textOf (tailOf v (c .before .before .before .before .args .some))) (c .before .before .enum-told2 .given .1))
+returns-4 c = c .text-of2 .ensures ∙ by-kind (c .before .before .before .before) (c .before .before .enum-told2 .given .1)
 
 returns-5 : tie.Need-returns-5
-returns-5 c = c .text-of3 .ensures ∙ sym (ap (λ (v : Value). textOf (tailOf v (c .before .before .before .before .args .some))) (c .before .before .enum-told3 .given .1))
+returns-5 c = c .text-of3 .ensures ∙ by-kind (c .before .before .before .before) (c .before .before .enum-told3 .given .1)
 
 returns-6 : tie.Need-returns-6
-returns-6 c = c .text-of4 .ensures ∙ sym (ap (λ (v : Value). textOf (tailOf v (c .before .before .before .before .args .some))) (c .before .before .enum-told4 .given .1))
+returns-6 c = c .text-of4 .ensures ∙ by-kind (c .before .before .before .before) (c .before .before .enum-told4 .given .1)
 
 pub tail-of-spec : {M : Type 1} → statement M
 tail-of-spec =
