@@ -1,4 +1,4 @@
-//! Finds the published sources and the archive, and says whether the archive has tiles.
+//! Finds the published sources and the archive.
 
 use std::path::{Path, PathBuf};
 use std::{env, fs};
@@ -39,10 +39,4 @@ fn main() {
     println!("cargo:rerun-if-changed={}", archive.display());
     println!("cargo:rustc-link-search=native={}", archive.parent().unwrap().display());
     println!("cargo:rustc-link-lib=static=abi");
-    let bytes = fs::read(&archive).unwrap();
-    println!("cargo:rustc-check-cfg=cfg(tiles)");
-    let function = b"widrekas_decode";
-    if bytes.windows(function.len()).any(|w| w == function) {
-        println!("cargo:rustc-cfg=tiles");
-    }
 }

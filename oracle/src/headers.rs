@@ -187,9 +187,9 @@ pub fn aside(header: &[[u8; 80]]) -> Option<&'static str> {
     up_to_end(header).iter().find_map(cards::aside)
 }
 
-/// Our reading: our cards, joined by the model.
+/// Our reading.
 fn mine(header: &[[u8; 80]]) -> Header {
-    Model(Fault::None).header(header, ours::card)
+    ours::header(header)
 }
 
 /// Whether the Rust's answer is another one.

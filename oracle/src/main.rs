@@ -77,8 +77,6 @@ fn main() {
     let number = |at: usize, default: u64| words.get(at).and_then(|w| w.parse().ok()).unwrap_or(default);
     let (seed, many) = (number(2, 1), number(3, 200_000) as usize);
     println!("boundary version {}, seed {seed}, {many} random cases a part", ours::version());
-    let tiles = if cfg!(tiles) { "ours" } else { "the model's, since the archive has none" };
-    println!("cards: ours; headers: our cards, joined by the model; tiles: {tiles}");
     let bad = match words.get(1).map(String::as_str) {
         Some("power") => power::run(seed, many) as u64,
         Some("stored") => {

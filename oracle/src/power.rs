@@ -4,9 +4,9 @@ use crate::faults::{Fault, Subject, FAULTS};
 use crate::model::Model;
 use crate::reading::{shown, Card, Header, Tile};
 use crate::views::{self, View};
-use crate::{cards, headers, theirs, tiles};
+use crate::{cards, headers, ours, theirs, tiles};
 
-/// A wrong variant: a misreading in the model, or a wrong view of an answer.
+/// A wrong variant: a misreading in the model, or a wrong view of our answer.
 enum Variant<T: 'static> {
     Misreading(Fault),
     View(fn(&mut T)),
@@ -31,13 +31,14 @@ impl<T: Clone> Hunt<T> {
         &mut self,
         part: &str,
         read: impl Fn(Model) -> T,
+        ours: impl FnOnce() -> T,
         differs: impl Fn(&T) -> bool,
         show: impl Fn() -> String,
     ) -> bool {
         self.seen += 1;
         let seen = self.seen;
         let told = &mut self.told;
-        let right = read(Model(Fault::None));
+        let right = ours();
         self.left.retain(|(variant, words)| {
             let answer = match variant {
                 Variant::Misreading(fault) => read(Model(*fault)),
@@ -82,7 +83,13 @@ pub fn run(seed: u64, many: usize) -> usize {
         }
         let rust = theirs::card(card);
         let differs = |answer: &Card| rust.as_ref() != Some(answer);
-        hunt.case(part, |m| m.card(card), differs, || format!("\"{}\"", shown(card.trim_ascii_end())))
+        hunt.case(
+            part,
+            |m| m.card(card),
+            || ours::card(card),
+            differs,
+            || format!("\"{}\"", shown(card.trim_ascii_end())),
+        )
     });
     left += hunt.end("cards");
 
@@ -97,6 +104,7 @@ pub fn run(seed: u64, many: usize) -> usize {
         hunt.case(
             part,
             |m| m.header(header, |c| plain.card(c)),
+            || ours::header(header),
             differs,
             || {
                 let cards: Vec<String> = header.iter().take(6).map(|c| shown(c.trim_ascii_end())).collect();
@@ -116,6 +124,7 @@ pub fn run(seed: u64, many: usize) -> usize {
         hunt.case(
             part,
             |m| m.tile(&case.tile, case.nx, case.nblock, case.width),
+            || ours::tile(&case.tile, case.nx, case.nblock, case.width),
             differs,
             || {
                 let head: Vec<String> = case.tile.iter().take(12).map(|b| format!("{b:02x}")).collect();

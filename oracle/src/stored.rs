@@ -6,8 +6,11 @@
 //! comment and one that begins with [ where there is a unit.
 //!
 //! `tiles.bin` holds one tile behind the other: the width in a byte, nx, nblock and the tile's length in three bytes
-//! each, the highest first, then the tile. `tiles.txt` holds a line for each: the whole bytes used, or the word refused,
-//! the number and how many pixels were written; then a line of the pixels.
+//! each, the highest first, then the tile. `tiles.txt` holds three lines for each. The first has the word whole, and the
+//! whole bytes used, or the word refused, the number and how many pixels were written. The second has the word pixels
+//! and those pixels. The third has the word blocks, and the whole bytes used after each block where one block is read at
+//! a time; where a block fails, the word refused, the number and how many of its pixels were written; and the word apart
+//! where the pixels of the blocks are not those of the second line.
 
 use crate::faults::{Fault, Subject, FAULTS};
 use crate::model::Model;
@@ -26,6 +29,10 @@ const REFUSALS: usize = 24;
 /// How many headers and tiles there are in all.
 const HEADERS: usize = 3_000;
 const TILES: usize = 1_000;
+
+/// The most bytes and pixels of a stored tile.
+const TILE_BYTES: usize = 2_000;
+const TILE_PIXELS: usize = 256;
 
 /// Misreadings that the stored list cannot show: a header's entries hold no commentary and no undefined card, and a
 /// float gives back no record of more than 17 digits.
@@ -265,7 +272,8 @@ fn choose_tiles(seed: u64) -> (Vec<Case>, usize) {
     let mut taken = Vec::new();
     let mut random = Random::new(seed);
     tiles::cases(seed, true, 20_000, &mut |part, case| {
-        if case.tile.len() > 2_000
+        if case.tile.len() > TILE_BYTES
+            || case.nx > TILE_PIXELS
             || (part.starts_with("every") && !random.once_in(300))
             || tiles::aside(case).is_some()
         {
@@ -285,6 +293,24 @@ fn choose_tiles(seed: u64) -> (Vec<Case>, usize) {
         true
     });
     (taken, left.iter().filter(|l| l.1 < WITNESSES).count())
+}
+
+/// What is printed of a tile, read whole and block by block.
+fn told(case: &Case) -> String {
+    let whole = theirs::tile(&case.tile, case.nx, case.nblock, case.width).expect("the Rust panics");
+    let (places, parts) = theirs::blocks(&case.tile, case.nx, case.nblock, case.width).expect("the Rust panics");
+    let refused = |written: usize| format!(" refused {} {written}", whole.refused);
+    let numbers = |list: &mut dyn Iterator<Item = String>| list.map(|n| format!(" {n}")).collect::<String>();
+    let first = if whole.refused == 0 { format!(" {}", whole.bytes) } else { refused(whole.pixels.len()) };
+    let pixels = numbers(&mut whole.pixels.iter().map(i32::to_string));
+    let mut blocks = numbers(&mut places.iter().map(usize::to_string));
+    if parts.len() < case.nx {
+        blocks += &refused(whole.pixels.len() - parts.len());
+    }
+    if parts[..] != whole.pixels[..parts.len()] {
+        blocks += " apart";
+    }
+    format!("whole{first}\npixels{pixels}\nblocks{blocks}\n")
 }
 
 fn three(n: usize) -> [u8; 3] {
@@ -336,18 +362,12 @@ pub fn write(folder: &Path, seed: u64) -> io::Result<usize> {
     let (taken, bare) = choose_tiles(seed);
     let (mut input, mut lines) = (Vec::new(), Vec::new());
     for case in &taken {
-        let rust = theirs::tile(&case.tile, case.nx, case.nblock, case.width).expect("the Rust panics");
         input.push(case.width as u8);
         for n in [case.nx, case.nblock, case.tile.len()] {
             input.extend(three(n));
         }
         input.extend_from_slice(&case.tile);
-        let first = match rust.refused {
-            0 => rust.bytes.to_string(),
-            n => format!("refused {n} {}", rust.pixels.len()),
-        };
-        let pixels: Vec<String> = rust.pixels.iter().map(i32::to_string).collect();
-        lines.extend_from_slice(format!("{first}\n{}\n", pixels.join(" ")).as_bytes());
+        lines.extend_from_slice(told(case).as_bytes());
     }
     fs::write(folder.join("tiles.bin"), &input)?;
     fs::write(folder.join("tiles.txt"), &lines)?;

@@ -143,7 +143,6 @@ pub fn tile(tile: &[u8], nx: usize, nblock: usize, width: usize) -> Option<Tile>
 
 /// The whole bytes used after each block, read with a buffer of one block at a time, with all the pixels; it ends at
 /// the first block that fails.
-#[cfg_attr(not(tiles), allow(dead_code))]
 pub fn blocks(tile: &[u8], nx: usize, nblock: usize, width: usize) -> Option<(Vec<usize>, Vec<i32>)> {
     let size = width / 8;
     caught(|| {

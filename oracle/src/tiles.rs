@@ -4,8 +4,8 @@ use crate::faults::Fault;
 use crate::model::Model;
 use crate::random::Random;
 use crate::tally::Outcome;
-use crate::theirs;
 use crate::unpacking::field_of;
+use crate::{ours, theirs};
 
 /// One tile with its numbers.
 #[derive(Clone, Debug, PartialEq)]
@@ -239,93 +239,57 @@ pub fn aside(case: &Case) -> Option<&'static str> {
     (read.refused == 17).then_some("an FS above its top")
 }
 
-#[cfg(tiles)]
-mod both {
-    use super::*;
-    use crate::ours;
+fn different(case: &Case) -> bool {
+    let mine = ours::tile(&case.tile, case.nx, case.nblock, case.width);
+    let blocks = ours::blocks(&case.tile, case.nx, case.nblock, case.width);
+    let whole = blocks.1.len() / case.nblock * case.nblock;
+    let apart = mine != Model(Fault::None).tile(&case.tile, case.nx, case.nblock, case.width)
+        || (mine.refused == 0 && blocks.1 != mine.pixels)
+        || (mine.refused != 0 && blocks.1[..] != mine.pixels[..whole]);
+    apart
+        || (aside(case).is_none()
+            && (theirs::tile(&case.tile, case.nx, case.nblock, case.width) != Some(mine)
+                || theirs::blocks(&case.tile, case.nx, case.nblock, case.width) != Some(blocks)))
+}
 
-    fn different(case: &Case) -> bool {
-        let mine = ours::tile(&case.tile, case.nx, case.nblock, case.width);
-        let blocks = ours::blocks(&case.tile, case.nx, case.nblock, case.width);
-        let whole = blocks.1.len() / case.nblock * case.nblock;
-        let apart = mine != Model(Fault::None).tile(&case.tile, case.nx, case.nblock, case.width)
-            || (mine.refused == 0 && blocks.1 != mine.pixels)
-            || (mine.refused != 0 && blocks.1[..] != mine.pixels[..whole]);
-        apart
-            || (aside(case).is_none()
-                && (theirs::tile(&case.tile, case.nx, case.nblock, case.width) != Some(mine)
-                    || theirs::blocks(&case.tile, case.nx, case.nblock, case.width) != Some(blocks)))
-    }
-
-    fn smallest(case: &Case) -> Case {
-        let mut best = case.clone();
-        loop {
-            let mut next = Vec::new();
-            for n in [best.tile.len() / 2, best.tile.len().saturating_sub(1)] {
-                next.push(Case { tile: best.tile[..n].to_vec(), ..best.clone() });
-            }
-            for n in [best.nx / 2, best.nx - 1] {
-                next.push(Case { nx: n.max(1), ..best.clone() });
-            }
-            for i in 0..best.tile.len().min(200) {
-                let mut c = best.clone();
-                c.tile[i] = 0;
-                next.push(c);
-            }
-            match next.into_iter().find(|c| *c != best && different(c)) {
-                Some(c) => best = c,
-                None => return best,
-            }
+fn smallest(case: &Case) -> Case {
+    let mut best = case.clone();
+    loop {
+        let mut next = Vec::new();
+        for n in [best.tile.len() / 2, best.tile.len().saturating_sub(1)] {
+            next.push(Case { tile: best.tile[..n].to_vec(), ..best.clone() });
         }
-    }
-
-    /// One case.
-    pub fn compare(case: &Case) -> Outcome {
-        if different(case) {
-            return Outcome::Different;
+        for n in [best.nx / 2, best.nx - 1] {
+            next.push(Case { nx: n.max(1), ..best.clone() });
         }
-        aside(case).map_or(Outcome::Same, Outcome::Aside)
-    }
-
-    /// A case that differs, in its smallest form, with both answers, whole and block by block.
-    pub fn explain(case: &Case) -> String {
-        let small = smallest(case);
-        format!(
-            "{small:02x?}\n    Rust {:?}\n         {:?}\n    ours {:?}\n         {:?}",
-            theirs::tile(&small.tile, small.nx, small.nblock, small.width),
-            theirs::blocks(&small.tile, small.nx, small.nblock, small.width),
-            ours::tile(&small.tile, small.nx, small.nblock, small.width),
-            ours::blocks(&small.tile, small.nx, small.nblock, small.width),
-        )
+        for i in 0..best.tile.len().min(200) {
+            let mut c = best.clone();
+            c.tile[i] = 0;
+            next.push(c);
+        }
+        match next.into_iter().find(|c| *c != best && different(c)) {
+            Some(c) => best = c,
+            None => return best,
+        }
     }
 }
 
-#[cfg(tiles)]
-pub use both::{compare, explain};
-
-#[cfg(not(tiles))]
-pub use alone::{compare, explain};
-
-/// Where the archive has no tiles, the model stands in for them.
-#[cfg(not(tiles))]
-mod alone {
-    use super::*;
-
-    pub fn compare(case: &Case) -> Outcome {
-        if let Some(reason) = aside(case) {
-            return Outcome::Aside(reason);
-        }
-        let model = Model(Fault::None).tile(&case.tile, case.nx, case.nblock, case.width);
-        if theirs::tile(&case.tile, case.nx, case.nblock, case.width) == Some(model) {
-            Outcome::Same
-        } else {
-            Outcome::Different
-        }
+/// One case.
+pub fn compare(case: &Case) -> Outcome {
+    if different(case) {
+        return Outcome::Different;
     }
+    aside(case).map_or(Outcome::Same, Outcome::Aside)
+}
 
-    pub fn explain(case: &Case) -> String {
-        let model = Model(Fault::None).tile(&case.tile, case.nx, case.nblock, case.width);
-        let rust = theirs::tile(&case.tile, case.nx, case.nblock, case.width);
-        format!("{case:02x?}\n    Rust  {rust:?}\n    model {model:?}")
-    }
+/// A case that differs, in its smallest form, with both answers, whole and block by block.
+pub fn explain(case: &Case) -> String {
+    let small = smallest(case);
+    format!(
+        "{small:02x?}\n    Rust {:?}\n         {:?}\n    ours {:?}\n         {:?}",
+        theirs::tile(&small.tile, small.nx, small.nblock, small.width),
+        theirs::blocks(&small.tile, small.nx, small.nblock, small.width),
+        ours::tile(&small.tile, small.nx, small.nblock, small.width),
+        ours::blocks(&small.tile, small.nx, small.nblock, small.width),
+    )
 }

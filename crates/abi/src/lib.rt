@@ -1,43 +1,13 @@
-// The C boundary: functions over slices and numbers, which take anything.
+// The C boundary: functions over slices and numbers, which take anything. A slice is a pointer and a length there.
 ghost use mathlib.Core.Path.{_≡_};
-ghost use mathlib.Core.List.{_++_};
-ghost use Prim.Native.Nat.{_+_, _≤_};
-ghost use mathlib.Core.Bool.{false};
-ghost use lib.IntN.{pos};
-ghost use lib.ListN.{length};
 ghost use Rattle.value.specs.Units.{unitOf};
-ghost use Rattle.abi.specs.Records.{spliced, told, classNumber, sizeTold, valueTold, cardTold, bitOf, byteOf, headOf, recordOf};
-ghost use Rattle.abi.specs.Records.{said, recordAfter, numberAfter, answerOf, leftOf, numberLeft, unitEnd};
-use card::Card;
-use card::CardAnswer;
-use card::CardRead;
-use numbers::Size;
-use numbers::Value;
-use refusal::Refusal;
-use text::Text;
-use value::UnitPlace;
-
-// What a card's value comes to in numbers: its kind, whether it is true or negative, and its integer or power of ten.
-pub struct Told {
-    pub kind: u8,
-    pub flag: bool,
-    pub number: i64,
-}
-
-// The bytes of a card.
-const CARD: usize = 80;
-
-// The bytes of a card's record, and where its texts stand, 80 bytes each.
-const RECORD: usize = 248;
-
-const NAME: usize = 8;
-
-const TEXT: usize = 88;
-
-const COMMENT: usize = 168;
-
-// The answer to a slice of another length than the one asked for: no refusal has this number.
-const WRONG_LENGTH: u8 = 255;
+ghost use Rattle.card_record.specs.Records.{answerOf, leftOf, numberLeft, unitEnd};
+ghost use Rattle.header.specs.Answers.{lookupOf, entryOf};
+ghost use Rattle.listing.specs.Listing.{listOf};
+ghost use Rattle.header_record.specs.Headers.{isFit, entryAnswer, entryText, entryComment, entryDigits, entryNumbers, entryNumber};
+ghost use Rattle.header_record.specs.Headers.{isRoom, listAnswer, listFirst, listLast, listCount};
+ghost use Rattle.rice.specs.Steps.{openOf, stepOf, decodeOf};
+ghost use Rattle.tile_record.specs.Tiles.{cursorOf, openSaid, cursorAfter, stepSaid, steppedTo, writtenAfter, decodeSaid, countOf};
 
 // The version of this boundary.
 #[no_mangle]
@@ -47,6 +17,8 @@ pub extern "C" fn widrekas_version() -> u32
     1
 }
 
+// ---- cards
+
 // Reads a card of 80 bytes into a record of 248 bytes and a number, and answers 0.
 // Otherwise it answers the refusal's number, or 255 where a slice has another length, and both stay as they are.
 #[no_mangle]
@@ -55,16 +27,7 @@ pub extern "C" fn widrekas_card(card: &[u8], out: &mut [u8], number: &mut i64) -
     ensures { λ _. ⌜ now (out .exit) ≡ leftOf (now (card .entry)) (now (out .entry)) ⌝ }
     ensures { λ _. ⌜ now (number .exit) ≡ numberLeft (now (card .entry)) (now (out .entry)) (now (number .entry)) ⌝ }
 {
-    if card.len() != CARD {
-        return WRONG_LENGTH;
-    }
-    if out.len() != RECORD {
-        return WRONG_LENGTH;
-    }
-    let copy = text::text_of(card);
-    let bytes = copy.bytes;
-    let read = card::read_card(&bytes);
-    write_card(read, out, number)
+    card_record::read_into(card, out, number)
 }
 
 // The end of the unit that a comment names, which starts at byte 1; 0 where it names none.
@@ -72,203 +35,131 @@ pub extern "C" fn widrekas_card(card: &[u8], out: &mut [u8], number: &mut i64) -
 pub extern "C" fn widrekas_unit(comment: &[u8]) -> usize
     ensures { λ r. ⌜ r ≡ unitEnd (unitOf (now (comment .entry))) ⌝ }
 {
-    let place = value::unit(comment);
-    match place {
-        UnitPlace::Between(_, end) => end,
-        UnitPlace::Nowhere => 0,
-    }
+    card_record::unit_end(comment)
 }
 
-// ---- a card in numbers
+// ---- headers
 
-// The number of a card's class.
-fn class_number(card: Card) -> u8
-    ensures { λ r. ⌜ r ≡ classNumber card ⌝ }
+// Looks a name up in a header. Answers 0, with seven numbers: 0, the value's kind, whether it is true or negative, whether there is
+// a comment, and the lengths of the text, the comment and the digits; the text and the comment at the front of their buffers; a
+// decimal's digits, then zeros, in 80 bytes; and the integer or the power of ten. Otherwise it answers the refusal's number, and all
+// stays as it is, but that a refusal of the header leaves the card's number in the first of the seven. 255 where digits or numbers
+// have another length.
+#[no_mangle]
+pub extern "C" fn widrekas_lookup(
+    header: &[u8],
+    name: &[u8],
+    text: &mut [u8],
+    comment: &mut [u8],
+    digits: &mut [u8],
+    out: &mut [usize],
+    number: &mut i64,
+) -> u8
+    ensures { λ r. ⌜ r ≡ entryAnswer (isFit (now (digits .entry)) (now (out .entry))) (lookupOf (now (header .entry)) (now (name .entry)) (now (text .entry)) (now (comment .entry))) ⌝ }
+    ensures { λ _. ⌜ now (text .exit) ≡ entryText (isFit (now (digits .entry)) (now (out .entry))) (lookupOf (now (header .entry)) (now (name .entry)) (now (text .entry)) (now (comment .entry))) (now (text .entry)) ⌝ }
+    ensures { λ _. ⌜ now (comment .exit) ≡ entryComment (isFit (now (digits .entry)) (now (out .entry))) (lookupOf (now (header .entry)) (now (name .entry)) (now (text .entry)) (now (comment .entry))) (now (comment .entry)) ⌝ }
+    ensures { λ _. ⌜ now (digits .exit) ≡ entryDigits (isFit (now (digits .entry)) (now (out .entry))) (lookupOf (now (header .entry)) (now (name .entry)) (now (text .entry)) (now (comment .entry))) (now (digits .entry)) ⌝ }
+    ensures { λ _. ⌜ now (out .exit) ≡ entryNumbers (isFit (now (digits .entry)) (now (out .entry))) (lookupOf (now (header .entry)) (now (name .entry)) (now (text .entry)) (now (comment .entry))) (now (out .entry)) ⌝ }
+    ensures { λ _. ⌜ now (number .exit) ≡ entryNumber (isFit (now (digits .entry)) (now (out .entry))) (lookupOf (now (header .entry)) (now (name .entry)) (now (text .entry)) (now (comment .entry))) (now (number .entry)) ⌝ }
 {
-    match card {
-        Card::Value(_) => 1,
-        Card::Continuation => 2,
-        Card::Xtension => 3,
-        Card::Comment => 4,
-        Card::History => 5,
-        Card::Hierarch(_) => 6,
-        Card::Space => 7,
-        Card::End => 8,
-        Card::Undefined => 9,
-    }
+    header_record::lookup_into(header, name, text, comment, digits, out, number)
 }
 
-fn card_told(card: Card) -> Told
-    ensures { λ r. ⌜ r ≡ cardTold card ⌝ }
+// Reads the entry at a card's number, whatever stands elsewhere in the header, and answers as a lookup does.
+#[no_mangle]
+pub extern "C" fn widrekas_entry(
+    header: &[u8],
+    card: usize,
+    text: &mut [u8],
+    comment: &mut [u8],
+    digits: &mut [u8],
+    out: &mut [usize],
+    number: &mut i64,
+) -> u8
+    ensures { λ r. ⌜ r ≡ entryAnswer (isFit (now (digits .entry)) (now (out .entry))) (entryOf (now (header .entry)) card (now (text .entry)) (now (comment .entry))) ⌝ }
+    ensures { λ _. ⌜ now (text .exit) ≡ entryText (isFit (now (digits .entry)) (now (out .entry))) (entryOf (now (header .entry)) card (now (text .entry)) (now (comment .entry))) (now (text .entry)) ⌝ }
+    ensures { λ _. ⌜ now (comment .exit) ≡ entryComment (isFit (now (digits .entry)) (now (out .entry))) (entryOf (now (header .entry)) card (now (text .entry)) (now (comment .entry))) (now (comment .entry)) ⌝ }
+    ensures { λ _. ⌜ now (digits .exit) ≡ entryDigits (isFit (now (digits .entry)) (now (out .entry))) (entryOf (now (header .entry)) card (now (text .entry)) (now (comment .entry))) (now (digits .entry)) ⌝ }
+    ensures { λ _. ⌜ now (out .exit) ≡ entryNumbers (isFit (now (digits .entry)) (now (out .entry))) (entryOf (now (header .entry)) card (now (text .entry)) (now (comment .entry))) (now (out .entry)) ⌝ }
+    ensures { λ _. ⌜ now (number .exit) ≡ entryNumber (isFit (now (digits .entry)) (now (out .entry))) (entryOf (now (header .entry)) card (now (text .entry)) (now (comment .entry))) (now (number .entry)) ⌝ }
 {
-    match card {
-        Card::Value(v) => value_told(v),
-        Card::Hierarch(v) => value_told(v),
-        Card::Continuation => no_value(),
-        Card::Xtension => no_value(),
-        Card::Comment => no_value(),
-        Card::History => no_value(),
-        Card::Space => no_value(),
-        Card::End => no_value(),
-        Card::Undefined => no_value(),
-    }
+    header_record::entry_into(header, card, text, comment, digits, out, number)
 }
 
-// A card without a value.
-fn no_value() -> Told
-    ensures { λ r. ⌜ r ≡ told 0 false (pos 0) ⌝ }
+// Lists a header's names in the order of their first cards. Answers 0, with the number of names and, for each, the number of the
+// first card that bears it and of the last; the places behind them hold 720. Otherwise it answers the refusal's number, with the
+// card's number as the count; or 255 where a slice has another length than 720. All else stays as it is.
+#[no_mangle]
+pub extern "C" fn widrekas_list(
+    header: &[u8],
+    first: &mut [usize],
+    last: &mut [usize],
+    count: &mut usize,
+) -> u8
+    ensures { λ r. ⌜ r ≡ listAnswer (isRoom (now (first .entry)) (now (last .entry))) (listOf (now (header .entry))) ⌝ }
+    ensures { λ _. ⌜ now (first .exit) ≡ listFirst (isRoom (now (first .entry)) (now (last .entry))) (listOf (now (header .entry))) (now (first .entry)) ⌝ }
+    ensures { λ _. ⌜ now (last .exit) ≡ listLast (isRoom (now (first .entry)) (now (last .entry))) (listOf (now (header .entry))) (now (last .entry)) ⌝ }
+    ensures { λ _. ⌜ now (count .exit) ≡ listCount (isRoom (now (first .entry)) (now (last .entry))) (listOf (now (header .entry))) (now (count .entry)) ⌝ }
 {
-    Told {
-        kind: 0,
-        flag: false,
-        number: 0,
-    }
+    header_record::list_into(header, first, last, count)
 }
 
-fn value_told(value: Value) -> Told
-    ensures { λ r. ⌜ r ≡ valueTold value ⌝ }
+// ---- tiles
+
+// Opens a tile of nx pixels in blocks of nblock, of 8, 16 or 32 bits each. Answers 0, with the cursor at the first block; or the
+// refusal's number, and the cursor stays as it is.
+#[no_mangle]
+pub extern "C" fn widrekas_open(
+    tile: &[u8],
+    nx: usize,
+    nblock: usize,
+    bits: usize,
+    bit: &mut usize,
+    done: &mut usize,
+    last: &mut i32,
+) -> u8
+    ensures { λ r. ⌜ r ≡ openSaid (openOf (now (tile .entry)) nx nblock bits) ⌝ }
+    ensures { λ _. ⌜ cursorOf (now (bit .exit)) (now (done .exit)) (now (last .exit)) ≡ cursorAfter (openOf (now (tile .entry)) nx nblock bits) (cursorOf (now (bit .entry)) (now (done .entry)) (now (last .entry))) ⌝ }
 {
-    match value {
-        Value::Integer(z) => Told {
-            kind: 1,
-            flag: false,
-            number: z,
-        },
-        Value::Float(minus, size) => size_told(minus, size),
-        Value::Logical(t) => Told {
-            kind: 5,
-            flag: t,
-            number: 0,
-        },
-        Value::String => Told {
-            kind: 6,
-            flag: false,
-            number: 0,
-        },
-        Value::Undefined => Told {
-            kind: 7,
-            flag: false,
-            number: 0,
-        },
-        Value::Invalid => Told {
-            kind: 8,
-            flag: false,
-            number: 0,
-        },
-    }
+    tile_record::open_into(tile, nx, nblock, bits, bit, done, last)
 }
 
-fn size_told(minus: bool, size: Size) -> Told
-    ensures { λ r. ⌜ r ≡ sizeTold minus size ⌝ }
+// One block, from a cursor, into the pixels from the cursor's place on. Answers 0, with the cursor at the next block; 254 where
+// nothing is left; or the refusal's number, with the number of pixels of the step that were written. Whatever is not named stays
+// as it is.
+#[no_mangle]
+pub extern "C" fn widrekas_step(
+    tile: &[u8],
+    nx: usize,
+    nblock: usize,
+    bits: usize,
+    bit: &mut usize,
+    done: &mut usize,
+    last: &mut i32,
+    pixels: &mut [i32],
+    written: &mut usize,
+) -> u8
+    ensures { λ r. ⌜ r ≡ stepSaid (stepOf (now (tile .entry)) nx nblock bits (cursorOf (now (bit .entry)) (now (done .entry)) (now (last .entry))) (now (pixels .entry)) .answer) ⌝ }
+    ensures { λ _. ⌜ cursorOf (now (bit .exit)) (now (done .exit)) (now (last .exit)) ≡ steppedTo (stepOf (now (tile .entry)) nx nblock bits (cursorOf (now (bit .entry)) (now (done .entry)) (now (last .entry))) (now (pixels .entry)) .answer) (cursorOf (now (bit .entry)) (now (done .entry)) (now (last .entry))) ⌝ }
+    ensures { λ _. ⌜ now (pixels .exit) ≡ stepOf (now (tile .entry)) nx nblock bits (cursorOf (now (bit .entry)) (now (done .entry)) (now (last .entry))) (now (pixels .entry)) .content ⌝ }
+    ensures { λ _. ⌜ now (written .exit) ≡ writtenAfter (stepOf (now (tile .entry)) nx nblock bits (cursorOf (now (bit .entry)) (now (done .entry)) (now (last .entry))) (now (pixels .entry)) .answer) (now (written .entry)) ⌝ }
 {
-    match size {
-        Size::Finite(power) => Told {
-            kind: 2,
-            flag: minus,
-            number: power,
-        },
-        Size::Infinite => Told {
-            kind: 3,
-            flag: minus,
-            number: 0,
-        },
-        Size::Nan => Told {
-            kind: 4,
-            flag: minus,
-            number: 0,
-        },
-    }
+    tile_record::step_into(tile, nx, nblock, bits, bit, done, last, pixels, written)
 }
 
-// ---- the record
-
-// 1 for true and 0 for false.
-fn bit(t: bool) -> u8
-    ensures { λ r. ⌜ r ≡ bitOf t ⌝ }
+// Decodes a tile whole. Answers 0, and the count is the bits used; or the refusal's number, and the count is the pixels written.
+#[no_mangle]
+pub extern "C" fn widrekas_decode(
+    tile: &[u8],
+    nx: usize,
+    nblock: usize,
+    bits: usize,
+    pixels: &mut [i32],
+    count: &mut usize,
+) -> u8
+    ensures { λ r. ⌜ r ≡ decodeSaid (decodeOf (now (tile .entry)) nx nblock bits (now (pixels .entry)) .answer) ⌝ }
+    ensures { λ _. ⌜ now (pixels .exit) ≡ decodeOf (now (tile .entry)) nx nblock bits (now (pixels .entry)) .content ⌝ }
+    ensures { λ _. ⌜ now (count .exit) ≡ countOf (decodeOf (now (tile .entry)) nx nblock bits (now (pixels .entry)) .answer) ⌝ }
 {
-    if t { 1 } else { 0 }
-}
-
-// A length in a byte.
-fn byte(n: usize) -> u8
-    ensures { λ r. ⌜ r ≡ byteOf n ⌝ }
-{
-    if n < 255 { n as u8 } else { 255 }
-}
-
-// The eight numbers in front of a record.
-fn head(read: CardRead, class: u8, value: Told) -> [u8; 8]
-    ensures { λ r. ⌜ r ≡ headOf read class value ⌝ }
-{
-    let name = read.name;
-    let text = read.text;
-    let comment = read.comment;
-    [
-        class,
-        value.kind,
-        bit(value.flag),
-        bit(read.commented),
-        byte(name.len),
-        byte(text.len),
-        byte(comment.len),
-        0,
-    ]
-}
-
-// A card's record.
-fn write_record(card: Card, read: CardRead, out: &mut [u8])
-    requires { ⌜ length (now out) ≡ 248 ⌝ }
-    ensures { λ _. ⌜ now (out .exit) ≡ recordOf card read ⌝ }
-{
-    let front = head(read, class_number(card), card_told(card));
-    let name = read.name;
-    let name_bytes = name.bytes;
-    let text = read.text;
-    let text_bytes = text.bytes;
-    let comment = read.comment;
-    let comment_bytes = comment.bytes;
-    fill(out, &front, &name_bytes, &text_bytes, &comment_bytes);
-}
-
-// What a card was read as, in lent memory.
-fn write_card(read: CardRead, out: &mut [u8], number: &mut i64) -> u8
-    requires { ⌜ length (now out) ≡ 248 ⌝ }
-    ensures { λ r. ⌜ r ≡ said (read .answer) ⌝ }
-    ensures { λ _. ⌜ now (out .exit) ≡ recordAfter (read .answer) read (now (out .entry)) ⌝ }
-    ensures { λ _. ⌜ now (number .exit) ≡ numberAfter (read .answer) (now (number .entry)) ⌝ }
-{
-    let answer = read.answer;
-    match answer {
-        CardAnswer::Refused(why) => why.number(),
-        CardAnswer::Read(c) => {
-            write_record(c, read, out);
-            let value = card_told(c);
-            let z = value.number;
-            *number = z;
-            0
-        }
-    }
-}
-
-// A record's four parts, one behind the other.
-fn fill(out: &mut [u8], front: &[u8; 8], name: &[u8; 80], text: &[u8; 80], comment: &[u8; 80])
-    requires { ⌜ length (now out) ≡ 248 ⌝ }
-    ensures { λ _. ⌜ now (out .exit) ≡ now (front .entry) ++ now (name .entry) ++ now (text .entry) ++ now (comment .entry) ⌝ }
-{
-    put(front, out, 0);
-    put(name, out, NAME);
-    put(text, out, TEXT);
-    put(comment, out, COMMENT);
-}
-
-// The bytes of s put into a slice from a place on; what stands before and behind stays.
-fn put(s: &[u8], out: &mut [u8], at: usize)
-    requires { ⌜ at + length (now s) ≤ length (now out) ⌝ }
-    ensures { λ _. ⌜ now (out .exit) ≡ spliced (now (out .entry)) at (now (s .entry)) ⌝ }
-{
-    let mut i = 0;
-    while i < s.len() {
-        out[at + i] = s[i];
-        i += 1;
-    }
+    tile_record::decode_into(tile, nx, nblock, bits, pixels, count)
 }

@@ -12,7 +12,7 @@ use Rattle.text.specs.Bytes.{isSpace}
 use Rattle.text.specs.Trim.{trimEnd, consTrimmed}
 use Rattle.text.proofs.Trimming.{end-shorter}
 use Rattle.joining.specs.Words.{stem, addsNothing, joinText}
-use Rattle.header.specs.Passes.{spliced}
+use Rattle.overlay.specs.Overlay.{spliced}
 
 -- the front of a list with another laid over it, up to the other's end
 pub take-spliced : (d s : List ℕ) (at : ℕ) → at ≤ length d → take (at + length s) (spliced d at s) ≡ take at d ++ s

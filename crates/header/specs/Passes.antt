@@ -85,10 +85,6 @@ refusedHeader (Refused why i) = L.Header why i
 abbrev pub wordsIn : Bool → Lengths → List ℕ → List ℕ → Words
 wordsIn joins l text comment = record { text = take (l .text) text; comment = commentOf (l .commented) (take (l .comment) comment); joins = joins }
 
--- a list with another laid over it from a place on
-abbrev pub spliced : List ℕ → ℕ → List ℕ → List ℕ
-spliced d at s = take at d ++ s ++ drop (at + length s) d
-
 -- the words of an entry's own card stand in scratch
 pub record Begun (value : Value) (read : CardRead) (r : Lengths) (texts comments : List ℕ) : Type 0 where
   pub words : (joins : Bool) → wordsIn joins r texts comments ≡ heldOf value joins read .words

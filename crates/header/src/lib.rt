@@ -11,7 +11,7 @@ ghost use Rattle.joining.specs.Roles.{neutral, hasText, hasDigits, isString, co
 ghost use Rattle.joining.specs.Lookup.{joinOn, whole};
 ghost use Rattle.header.specs.Reading.{rolesOf, isBadLength, isEnd, headerOf};
 ghost use Rattle.header.specs.Answers.{unread, given, lookupOf, entryOf, entryHead, written, namelessOf, entryNameOf};
-ghost use Rattle.header.specs.Passes.{Begun, Joined, Room, JoinedOn, kindOf, refusalIn, foundAt, scanOf, refusedScan, refusedHeader, wordsIn, spliced};
+ghost use Rattle.header.specs.Passes.{Begun, Joined, Room, JoinedOn, kindOf, refusalIn, foundAt, scanOf, refusedScan, refusedHeader, wordsIn};
 use card::Card;
 use card::CardAnswer;
 use card::CardRead;
@@ -155,7 +155,7 @@ fn no_name() -> EntryName
 }
 
 // A refusal, with no reading beside it.
-pub fn unread(answer: LookupAnswer) -> Looked
+fn unread(answer: LookupAnswer) -> Looked
     ensures { λ r. ⌜ r ≡ unread answer ⌝ }
 {
     Looked {
@@ -179,7 +179,7 @@ fn refused_header(header: Header) -> LookupAnswer
 // ---- reading
 
 // 0, not a multiple of a card, or beyond the longest.
-pub fn is_bad_length(n: usize) -> bool
+fn is_bad_length(n: usize) -> bool
     ensures { λ r. ⌜ r ≡ isBadLength n ⌝ }
 {
     if n == 0 {
@@ -318,25 +318,13 @@ fn refused_scan(why: Refusal, i: usize) -> Scan
 
 // ---- joining
 
-// The bytes of a slice put into another from a place on; what stands before and behind stays.
-fn put_at(s: &[u8], out: &mut [u8], at: usize)
-    requires { ⌜ at + length (now s) ≤ length (now out) ⌝ }
-    ensures { λ _. ⌜ now (out .exit) ≡ spliced (now (out .entry)) at (now (s .entry)) ⌝ }
-{
-    let mut i = 0;
-    while i < s.len() {
-        out[at + i] = s[i];
-        i += 1;
-    }
-}
-
 // A text put at the front where it is there, and how long it then is.
 fn put_if(there: bool, s: &[u8], out: &mut [u8]) -> usize
     requires { ⌜ length (now s) ≤ length (now out) ⌝ }
     ensures { λ r. ⌜ (take r (now (out .exit)) ≡ cond there (now (s .entry)) []) × (r ≤ length (now (s .entry))) ⌝ }
 {
     if there {
-        put_at(s, out, 0);
+        overlay::put_at(s, out, 0);
         return s.len();
     }
     0
@@ -378,7 +366,7 @@ fn join_text(held: &mut [u8], n: usize, t: &[u8]) -> usize
     if adds_nothing(t) {
         return text::trim_end(&held[..m], Cut::Spaces).len();
     }
-    put_at(t, held, m);
+    overlay::put_at(t, held, m);
     m + t.len()
 }
 
@@ -389,7 +377,7 @@ fn join_comment(held: &mut [u8], n: usize, c: &[u8]) -> usize
 {
     held[n] = LINE_FEED;
     let m = n + 1;
-    put_at(c, held, m);
+    overlay::put_at(c, held, m);
     m + c.len()
 }
 
@@ -557,8 +545,8 @@ fn read_held(
     if comment.len() < m {
         return unread(LookupAnswer::Refused(Refusal::BufferShort));
     }
-    put_at(&texts[..n], text, 0);
-    put_at(&comments[..m], comment, 0);
+    overlay::put_at(&texts[..n], text, 0);
+    overlay::put_at(&comments[..m], comment, 0);
     Looked {
         answer: LookupAnswer::Found(value),
         digits: digits_of(value, read),

@@ -6,7 +6,7 @@ use mathlib.Core.List.{List, [], _++_}
 use borrow.Author.Tests.{le-leb, lt-leb}
 use lib.ListN.{length, take, drop, length-append}
 use lib.Seq.{take-append-seam, drop-append-add, drop-drop}
-use Rattle.header.specs.Passes.{spliced}
+use Rattle.overlay.specs.Overlay.{spliced}
 use Rattle.lines.specs.declared.Line.the-variants.{Written, Short}
 use Rattle.lines.specs.Lines.{Outcome, laid}
 

@@ -7,7 +7,7 @@ ghost use lib.IntN.{natAbs};
 ghost use lib.ListN.{length};
 ghost use Rattle.refusal.specs.Numbers.{numberOf};
 ghost use Rattle.text.specs.Text.{size, textOf, bytesOf};
-ghost use Rattle.header.specs.Passes.{spliced};
+ghost use Rattle.overlay.specs.Overlay.{spliced};
 ghost use Rattle.lines.specs.Lines.{decimalDigits, isMinus, lineFeed, entryLine, countLine, refusedLine, laid};
 ghost use Rattle.lines.specs.Parts.{oneOf, isSome, headOf, middleOf, jointAt, jointOf, tailAt, tailOf};
 use numbers::Size;
@@ -236,12 +236,8 @@ fn put(s: &[u8], out: &mut [u8], at: usize) -> usize
     ensures { λ r. ⌜ r ≡ at + length (now (s .entry)) ⌝ }
     ensures { λ _. ⌜ now (out .exit) ≡ spliced (now (out .entry)) at (now (s .entry)) ⌝ }
 {
-    let mut i = 0;
-    while i < s.len() {
-        out[at + i] = s[i];
-        i += 1;
-    }
-    at + i
+    overlay::put_at(s, out, at);
+    at + s.len()
 }
 
 // A text put into a slice from a place on, and the place behind it.

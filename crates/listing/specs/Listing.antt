@@ -12,10 +12,8 @@ use Rattle.text.specs.Text.{filled}
 use Rattle.joining.specs.Roles.{Role, entry, more, neutral, last}
 use Rattle.header.specs.declared.Header.{Header}
 use Rattle.header.specs.declared.Header.the-variants.{Accepted, Refused}
-use Rattle.header.specs.declared.Looked.{Looked}
-use Rattle.header.specs.declared.LookupAnswer.the-variants as L
 use Rattle.header.specs.Reading.{rolesOf, headerOf}
-use Rattle.header.specs.Answers.{Outcome, untouched, entryOf}
+use Rattle.header.specs.Answers.{Outcome, entryOf}
 use Rattle.listing.specs.declared.Listing.{Listing}
 
 -- the places of the table, and the mark of a free one: no card has this number
@@ -82,6 +80,6 @@ byHeader (Refused why i) roles = tabled (Refused why i) empty
 unfoldable pub listOf : List ℕ → Listing
 listOf h = byHeader (headerOf h) (rolesOf h)
 
--- the entry at a place of a table of last entries, which may be made up
+-- the entry at a place of a table of last entries, which may be made up; a place that it lacks is free
 unfoldable pub placeOfEntry : List ℕ → List ℕ → ℕ → List ℕ → List ℕ → Outcome
-placeOfEntry h lasts k text comment = cond (ltb k (length lasts)) (entryOf h (getD lasts k 0) text comment) (untouched (L.Refused (refusal 12)) text comment)
+placeOfEntry h lasts k text comment = entryOf h (getD lasts k free) text comment

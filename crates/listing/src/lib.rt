@@ -6,7 +6,6 @@ ghost use Rattle.listing.specs.Listing.{empty, tabled, listOf, placeOfEn
 ghost use Rattle.listing.specs.Inserting.{bearsOf, placeBy, insertOf};
 use header::Header;
 use header::Looked;
-use header::LookupAnswer;
 use refusal::Refusal;
 use text::Cut;
 use text::Place;
@@ -70,7 +69,7 @@ pub fn list(header: &[u8]) -> Listing
     }
 }
 
-// The entry at a place of a listing's last entries, joined and read into the lent buffers.
+// The entry at a place of a listing's last entries, joined and read into the lent buffers. A place that the listing lacks is free.
 pub fn entry(
     header: &[u8],
     lasts: &[usize],
@@ -85,7 +84,7 @@ pub fn entry(
     if place < lasts.len() {
         return header::read_entry(header, lasts[place], text, comment);
     }
-    header::unread(LookupAnswer::Refused(Refusal::NameNotFound))
+    header::read_entry(header, FREE, text, comment)
 }
 
 // The entry of card i put at its name's place among the first count, or behind them where a place is free.

@@ -5,6 +5,10 @@ use refusal::Refusal;
 use rice::Decoded;
 use rice::Opened;
 use rice::Stepped;
+use tile_printing::put;
+use tile_printing::put_number;
+use tile_printing::put_pixels;
+use tile_printing::put_space;
 
 // The pixels of a block.
 const NBLOCK: usize = 32;
@@ -87,41 +91,10 @@ fn put_tile(tile: &[u8]) {
     }
 }
 
-fn put_pixels(pixels: &[i32]) {
-    let mut i = 0;
-    while i < pixels.len() {
-        put_space();
-        put_pixel(pixels[i]);
-        i += 1;
-    }
-}
-
-fn put_pixel(z: i32) {
-    if z < 0 {
-        put(b"-");
-        let less = -1 - z;
-        io::print_decimal(STDOUT_FILENO, less as u64 + 1);
-        return;
-    }
-    io::print_decimal(STDOUT_FILENO, z as u64);
-}
-
 fn put_refusal(why: Refusal, written: usize) {
     put(b" refused ");
     put_number(why.number() as usize);
     put(b" after ");
     put_number(written);
     put(b", left");
-}
-
-fn put_space() {
-    put(b" ");
-}
-
-fn put_number(n: usize) {
-    io::print_decimal(STDOUT_FILENO, n as u64);
-}
-
-fn put(s: &[u8]) {
-    io::write_all(STDOUT_FILENO, s);
 }

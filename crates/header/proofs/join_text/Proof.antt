@@ -8,7 +8,8 @@ use lib.Seq.{length-take-le}
 use Rattle.text.specs.Bytes.{isSpace}
 use Rattle.text.specs.Trim.{trimEnd}
 use Rattle.text.proofs.Trimming.{end-shorter}
-use Rattle.header.specs.Passes.{spliced}
+use Rattle.overlay.specs.Overlay.{spliced}
+use Rattle.overlay.proofs.Laying.{fits}
 use Rattle.header.proofs.Buffers.{joined-cut, joined-put}
 use borrow.Author.Needs.{needs}
 use Rattle.header.proofs.join_text.Statement.{statement}
@@ -60,7 +61,7 @@ returns-2 c =
     let put = c .before .before in
     let test = put .before .before .before in
     let a = test .before .before .before .args in (
-      ap (take (a .n - 1 + length (a .t .now))) (put .put-at .ensures)
+      ap (take (a .n - 1 + length (a .t .now))) (put .put-at .ensures ∙ fits (a .held .now) (a .n - 1) (a .t .now) (omega (arith, test .before .before .before .pre)))
           ∙ joined-put (a .held .now) (a .t .now) (a .n) (test .before .before .before .pre .0) (test .before .before .before .pre .1) (sym (test .adds-nothing .ensures) ∙ put .before .before .if1 .left),
       omega arith,
     )

@@ -6,7 +6,8 @@ use mathlib.Core.Path.{_≡_, sym, ap, ap₂, _∙_}
 use mathlib.Core.Bool.{Bool, cond}
 use mathlib.Core.List.{List, []}
 use lib.ListN.{length, take}
-use Rattle.header.specs.Passes.{spliced}
+use Rattle.overlay.specs.Overlay.{spliced}
+use Rattle.overlay.proofs.Laying.{fits}
 use Rattle.header.proofs.Buffers.{take-spliced}
 use borrow.Author.Needs.{needs}
 use Rattle.header.proofs.put_if.Statement.{statement}
@@ -24,7 +25,7 @@ returns c =
     let a = put .before .before .before .before .before .args in
     let s = a .s .now in
     let d = a .out .now in
-    (ap₂ take (sym (zero-add (length s))) (put .put-at .ensures) ∙ take-spliced d s 0 (omega arith) ∙ sym (ap (λ (b : Bool). cond b s []) (put .before .before .if1 .taken)), omega arith)
+    (ap₂ take (sym (zero-add (length s))) (put .put-at .ensures ∙ fits d 0 s (omega arith)) ∙ take-spliced d s 0 (omega arith) ∙ sym (ap (λ (b : Bool). cond b s []) (put .before .before .if1 .taken)), omega arith)
 
 returns-2 : tie.Need-returns-2
 returns-2 c = search needs

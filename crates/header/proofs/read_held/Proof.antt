@@ -16,7 +16,9 @@ use Rattle.header.specs.declared.Lengths.{Lengths}
 use Rattle.header.specs.declared.Looked.{Looked}
 use Rattle.header.specs.Reading.{rolesOf}
 use Rattle.header.specs.Answers.{Outcome, untouched, over, written}
-use Rattle.header.specs.Passes.{wordsIn, spliced}
+use Rattle.header.specs.Passes.{wordsIn}
+use Rattle.overlay.specs.Overlay.{spliced}
+use Rattle.overlay.proofs.Laying.{fits}
 use Rattle.header.proofs.Buffers.{spliced-front}
 use Rattle.header.proofs.Writing.{heldIn, short-text, short-comment, both-fit}
 use borrow.Author.Needs.{needs}
@@ -131,10 +133,7 @@ slice-aggregate-put-at c =
     sym (length-take-le (end jo .text) (texts jo) (text-fits jo))
 
 put-at-requires : tie.Need-put-at-requires
-put-at-requires c κs =
-    let else1 = c .before .before .before in
-    let jo = joined (else1 .before) in
-    omega (arith, length-take-le (end jo .text) (texts jo) (text-fits jo), else1 .if1 .left)
+put-at-requires c κs = search needs
 
 array-share-prefix-comments : tie.Need-array-share-prefix-comments
 array-share-prefix-comments c = count-fits (c .before .before .before .before .before .before .before)
@@ -145,10 +144,7 @@ slice-aggregate-put-at-2 c =
     sym (length-take-le (cl .comment-length .result) (comments (joined cl)) (count-fits cl))
 
 put-at-requires-2 : tie.Need-put-at-requires-2
-put-at-requires-2 c κs =
-    let else2 = c .before .before .before .before .before .before .before in
-    let cl = else2 .before .before in
-    omega (arith, length-take-le (cl .comment-length .result) (comments (joined cl)) (count-fits cl), else2 .if2 .left)
+put-at-requires-2 c κs = search needs
 
 digits-of-requires : tie.Need-digits-of-requires
 digits-of-requires c κs = search needs
@@ -172,8 +168,12 @@ returns-3 c =
     let o = both-fit (a .value) (own jo .digits) (a .joins) (end jo) (texts jo) (comments jo) (a .text .now) (a .comment .now) (text-fits jo) (comment-fits jo) (else2 .before .if1 .left) (rw is at (else2 .if2 .left)) ∙ is-written jo in (
       (λ j. record { answer = L.Found (a .value); digits = c .digits-of .ensures j; commented = end jo .commented; text = n; comment = is j }) ∙ ap (λ (x : Outcome). x .answer) o,
       (
-        put .put-at .ensures ∙ spliced-front (a .text .now) (take n (texts jo)) ∙ ap (λ (x : Outcome). x .text) o,
-        put2 .put-at2 .ensures ∙ spliced-front (a .comment .now) (take (cl .comment-length .result) (comments jo)) ∙ ap (λ (k : ℕ). over (take k (comments jo)) (a .comment .now)) is ∙ ap (λ (x : Outcome). x .comment) o,
+        put .put-at .ensures
+            ∙ fits (a .text .now) 0 (take n (texts jo)) (omega (arith, length-take-le n (texts jo) (text-fits jo), else2 .before .if1 .left))
+            ∙ spliced-front (a .text .now) (take n (texts jo)) ∙ ap (λ (x : Outcome). x .text) o,
+        put2 .put-at2 .ensures
+            ∙ fits (a .comment .now) 0 (take (cl .comment-length .result) (comments jo)) (omega (arith, length-take-le (cl .comment-length .result) (comments jo) (count-fits cl), else2 .if2 .left))
+            ∙ spliced-front (a .comment .now) (take (cl .comment-length .result) (comments jo)) ∙ ap (λ (k : ℕ). over (take k (comments jo)) (a .comment .now)) is ∙ ap (λ (x : Outcome). x .comment) o,
       ),
     )
 

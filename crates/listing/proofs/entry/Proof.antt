@@ -1,24 +1,28 @@
 -- `listing::entry` meets its contract: a place of the list, or none.
-use Prim.Native.Nat.{ℕ, _<_, _≤_}
-use mathlib.Core.Path.{_≡_, sym, ap, _∙_}
-use mathlib.Core.List.{List}
-use borrow.Author.Tests.{lt-ltb, le-ltb}
-use lib.ListN.{length, getD}
-use Rattle.refusal.specs.Numbers.{refusal}
-use Rattle.header.specs.declared.LookupAnswer.the-variants as L
-use Rattle.header.specs.Answers.{Outcome, untouched, entryOf}
-use Rattle.listing.specs.Listing.{placeOfEntry}
+use Prim.Native.Nat.{ℕ, zero, suc, _<_, _≤_}
+use mathlib.Core.Path.{_≡_, refl, sym, ap, _∙_}
+use mathlib.Core.List.{List, [], _∷_}
+use lib.ListN.{length, getD, List·getD-eq-default}
+use Rattle.header.specs.Answers.{Outcome, entryOf}
+use Rattle.listing.specs.Listing.{free, placeOfEntry}
+use native.Mathlib.Nat.{not-suc-le-zero, le-of-suc-le-suc}
 use borrow.Author.Needs.{needs}
 use Rattle.listing.proofs.entry.Statement.{statement}
 use Rattle.listing.proofs.entry.Tie as tie
 
+-- within a list no default is taken
+within : (l : List ℕ) (k a b : ℕ) → k < length l → getD l k a ≡ getD l k b
+within [] k a b p = absurd (not-suc-le-zero p)
+within (x ∷ l) zero a b p = refl
+within (x ∷ l) (suc k) a b p = within l k a b (le-of-suc-le-suc p)
+
 here : (h lasts : List ℕ) (k : ℕ) (text comment : List ℕ) → k < length lasts → entryOf h (getD lasts k 0) text comment ≡ placeOfEntry h lasts k text comment
 unfolding placeOfEntry
-here h lasts k text comment p = rw (lt-ltb k (length lasts) p)
+here h lasts k text comment p = ap (λ (i : ℕ). entryOf h i text comment) (within lasts k 0 free p)
 
-nowhere : (h lasts : List ℕ) (k : ℕ) (text comment : List ℕ) → length lasts ≤ k → untouched (L.Refused (refusal 12)) text comment ≡ placeOfEntry h lasts k text comment
+nowhere : (h lasts : List ℕ) (k : ℕ) (text comment : List ℕ) → length lasts ≤ k → entryOf h free text comment ≡ placeOfEntry h lasts k text comment
 unfolding placeOfEntry
-nowhere h lasts k text comment p = rw (le-ltb k (length lasts) p)
+nowhere h lasts k text comment p = ap (λ (i : ℕ). entryOf h i text comment) (sym (List·getD-eq-default lasts free p))
 
 mul-read-entry : tie.Need-mul-read-entry
 mul-read-entry c = search needs
@@ -43,14 +47,22 @@ returns c =
     let o = here (a .header .now) (a .lasts .now) (a .place) (a .text .now) (a .comment .now) (inside .if1 .taken) in
     (read .read-entry .ensures .0 ∙ ap (λ (x : Outcome). x .answer) o, (read .read-entry .ensures .1 .0 ∙ ap (λ (x : Outcome). x .text) o, read .read-entry .ensures .1 .1 ∙ ap (λ (x : Outcome). x .comment) o))
 
-unread-requires : tie.Need-unread-requires
-unread-requires c κs = search needs
+read-entry-requires-2 : tie.Need-read-entry-requires-2
+read-entry-requires-2 c κs = search needs
+
+same-length-3 : tie.Need-same-length-3
+same-length-3 c = search needs
+
+same-length-4 : tie.Need-same-length-4
+same-length-4 c = search needs
 
 returns-2 : tie.Need-returns-2
 returns-2 c =
-    let a = c .before .before .before .before .before .before .args in
-    let o = nowhere (a .header .now) (a .lasts .now) (a .place) (a .text .now) (a .comment .now) (c .before .if1 .left) in
-    (c .unread .ensures ∙ ap (λ (x : Outcome). x .answer) o, (ap (λ (x : Outcome). x .text) o, ap (λ (x : Outcome). x .comment) o))
+    let read = c .before .before .before .before in
+    let outside = read .before .before .before in
+    let a = outside .before .before .before .before .before .args in
+    let o = nowhere (a .header .now) (a .lasts .now) (a .place) (a .text .now) (a .comment .now) (outside .if1 .left) in
+    (read .read-entry2 .ensures .0 ∙ ap (λ (x : Outcome). x .answer) o, (read .read-entry2 .ensures .1 .0 ∙ ap (λ (x : Outcome). x .text) o, read .read-entry2 .ensures .1 .1 ∙ ap (λ (x : Outcome). x .comment) o))
 
 pub entry-spec : {M : Type 1} → statement M
 entry-spec =
@@ -62,5 +74,7 @@ entry-spec =
     same-length
     same-length-2
     returns
-    unread-requires
+    read-entry-requires-2
+    same-length-3
+    same-length-4
     returns-2)

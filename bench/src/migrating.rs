@@ -1,0 +1,175 @@
+//! The calls of docs/MIGRATING.md, both sides run on one header and held to each other.
+
+use crate::theirs;
+use fitsrs::card::{Card, Value};
+use widrekas::{tile, Header, Refusal};
+
+const CARDS: [&str; 12] = [
+    "SIMPLE  =                    T / a FITS file",
+    "BITPIX  =                    8",
+    "NAXIS   =                    0",
+    "KIT     = 'FKM-&'",
+    "CONTINUE  '75' /[mm] ring",
+    "DEPTH   =               1.5D-3 /[mm] groove",
+    "COOLED  =                    F",
+    "EMPTY   =",
+    "ODD     = what",
+    "HIERARCH BENCH NO = 7",
+    "HISTORY  rebuilt",
+    "END",
+];
+
+fn string(value: &Value) -> Option<&str> {
+    match value {
+        Value::String { value, .. } => Some(value),
+        _ => None,
+    }
+}
+
+/// Headers.
+fn headers() {
+    let bytes: Vec<u8> = CARDS.iter().flat_map(|card| format!("{card:80}").into_bytes()).collect();
+    let old = theirs::header(&bytes);
+    let new = Header::parse_file(&bytes).expect("the header");
+
+    let kit: Option<&Value> = old.get("KIT");
+    let entry = new.get("KIT");
+    assert_eq!(kit.and_then(string), entry.as_ref().and_then(|e| e.value.as_str()));
+    assert_eq!(kit.and_then(Value::unit), entry.as_ref().and_then(|e| e.unit()).as_ref().and_then(|u| u.to_str()));
+
+    let number: Result<i64, _> = old.get_parsed("BITPIX");
+    assert_eq!(number.ok(), new.get("BITPIX").and_then(|e| e.value.as_i64()));
+    let depth: Result<f64, _> = old.get_parsed("DEPTH");
+    assert_eq!(depth.ok(), new.get("DEPTH").and_then(|e| e.value.as_f64()));
+    let cooled: Result<bool, _> = old.get_parsed("COOLED");
+    assert_eq!(cooled.ok(), new.get("COOLED").and_then(|e| e.value.as_bool()));
+    let kit: Result<String, _> = old.get_parsed("KIT");
+    assert_eq!(kit.ok().as_deref(), new.get("KIT").as_ref().and_then(|e| e.value.as_str()));
+    let none: Result<Option<i64>, _> = old.get_parsed("NONE");
+    assert_eq!(none, Ok(new.get("NONE").and_then(|e| e.value.as_i64())));
+    let empty: Result<Option<i64>, _> = old.get_parsed("EMPTY");
+    assert_eq!(empty, Ok(new.get("EMPTY").and_then(|e| e.value.as_i64())));
+    // get_parsed gives an invalid text as a string, as_str does not.
+    let odd: Result<String, _> = old.get_parsed("ODD");
+    let text = match new.get("ODD").map(|e| e.value) {
+        Some(widrekas::Value::String(text) | widrekas::Value::Invalid(text)) => text.to_str().map(String::from),
+        _ => None,
+    };
+    assert_eq!(odd.ok(), text);
+
+    let names: Vec<&str> = old.keywords().map(String::as_str).collect();
+    assert!(names.iter().eq(new.keywords().filter_map(|name| name.to_str()).collect::<Vec<_>>().iter()));
+    assert_eq!(old.iter().count(), new.entries().count());
+    assert_eq!(old.cards().count(), new.cards().count());
+    let lines: Vec<&String> = old.history().collect();
+    let history = new.cards().filter_map(|card| match card {
+        widrekas::Card::History(text) => text.to_str().map(String::from),
+        _ => None,
+    });
+    assert!(history.eq(lines.into_iter().cloned()));
+
+    let card: &[u8; 80] = bytes.first_chunk().expect("a card");
+    assert!(matches!(Card::try_from(card), Ok(Card::Value { name, .. }) if name == "SIMPLE"));
+    assert!(matches!(widrekas::Card::read(card), Ok(widrekas::Card::Value { name, .. }) if name == "SIMPLE"));
+
+    let complex: [u8; 80] = *format!("{:80}", "WCS     = (1.0, 2.0)").as_bytes().first_chunk().expect("a card");
+    assert!(Card::try_from(&complex).is_err() && widrekas::Card::read(&complex).is_err());
+
+    // The six kinds of values.
+    for ((name, value), (other, entry)) in old.iter().zip(new.entries()) {
+        let same = match (value, &entry.value) {
+            (Value::Integer { value, .. }, widrekas::Value::Integer(other)) => value == other,
+            (Value::Float { value, .. }, widrekas::Value::Float(decimal)) => *value == decimal.to_f64(),
+            (Value::Logical { value, .. }, widrekas::Value::Logical(other)) => value == other,
+            (Value::String { value, .. }, widrekas::Value::String(text)) => text == value.as_str(),
+            (Value::Undefined, widrekas::Value::Undefined) => true,
+            (Value::Invalid(value), widrekas::Value::Invalid(text)) => text == value.as_str(),
+            _ => false,
+        };
+        assert!(other == name && same, "{name}: {value:?}, {entry:?}");
+    }
+
+    let found = old.get("KIT").and_then(|value| old.get_keyword(value));
+    let name = new.entries().find(|(_, e)| e.value.as_str() == Some("FKM-75")).map(|(name, _)| name.to_string());
+    assert_eq!(found, name.as_deref());
+}
+
+/// fitsrs' reading of a file's cards: one that cannot be parsed is undefined.
+fn undefined_instead(bytes: &[u8]) -> Vec<Card> {
+    let cards = bytes.chunks_exact(80).filter_map(|card| card.first_chunk());
+    let read = |card: &[u8; 80]| Card::try_from(card).unwrap_or(Card::Undefined(String::from_utf8_lossy(card).into()));
+    cards.map(read).collect()
+}
+
+/// The header as fitsrs' file reader takes it, and the refusals that were met, as the guide has it.
+fn read_on(file: &[u8]) -> Result<(Header, Vec<Refusal>), Refusal> {
+    let mut bytes = file[..file.len().min(widrekas::LONGEST)].to_vec();
+    let mut met = Vec::new();
+    loop {
+        match Header::parse_file(&bytes) {
+            Err(refusal @ Refusal { number: 1..=8, card: Some(card) }) => {
+                let card = &mut bytes[card * 80..][..80];
+                if refusal.number == 1 {
+                    card.iter_mut().filter(|byte| **byte >= 128).for_each(|byte| *byte = 127);
+                } else {
+                    card.fill(b' ');
+                }
+                met.push(refusal);
+            }
+            read => return read.map(|header| (header, met)),
+        }
+    }
+}
+
+/// A header with cards that are refused.
+fn refused_cards() {
+    let cards = [
+        "KIT     = 'FKM-&'",
+        "WCS     = (1.0, 2.0)",
+        "CONTINUE  '75&'",
+        "NOTE    = 'not closed",
+        "HIERARCH no equals sign",
+        "CONTINUE  ' ring' / joined",
+        "TEMP    =                -20.5 /[K] in ~C",
+        "SIZE    = 12",
+        "END",
+    ];
+    let mut bytes: Vec<u8> = cards.iter().flat_map(|card| format!("{card:80}").into_bytes()).collect();
+    // A degree sign, as Latin-1 has it.
+    bytes.iter_mut().filter(|byte| **byte == b'~').for_each(|byte| *byte = 0xb0);
+    let old = fitsrs::header(undefined_instead(&bytes)).expect("fitsrs reads on");
+    let (new, met) = read_on(&bytes).expect("the rest is read");
+    let told: Vec<(u8, Option<usize>)> = met.iter().map(|refusal| (refusal.number, refusal.card)).collect();
+    assert_eq!(told, [(5, Some(1)), (3, Some(3)), (6, Some(4)), (1, Some(6))]);
+    assert!(old.keywords().eq(new.keywords().map(|name| name.to_string()).collect::<Vec<_>>().iter()));
+    assert_eq!(old.get("KIT").and_then(string), Some("FKM-75 ring"));
+    assert_eq!(new.get("KIT").as_ref().and_then(|e| e.value.as_str()), Some("FKM-75 ring"));
+    let Some(Value::Float { comment: Some(comment), .. }) = old.get("TEMP") else { panic!("fitsrs has no TEMP") };
+    let other = new.get("TEMP").and_then(|e| e.comment).map(|text| text.to_string().replace('\u{7f}', "\u{fffd}"));
+    assert_eq!(Some(comment), other.as_ref());
+    assert_eq!(new.get("SIZE").and_then(|e| e.value.as_i64()), old.get_parsed("SIZE").ok());
+}
+
+/// Tiles.
+fn tiles() {
+    // Start value 10, an FS field of 1, then the differences 0, -1, 1 and 0.
+    let bytes = [0, 10, 0x1a, 0x60];
+    let (nx, nblock, bits) = (4, 32, 16);
+    let mut raw = [0; 8];
+    theirs::decode(&bytes, nblock, bits, &mut raw);
+    let mut pixels = [0; 4];
+    let used = tile::decode(&bytes, tile::Shape { nx, nblock, bits }, &mut pixels);
+    let old: Vec<i32> = raw.chunks_exact(2).map(|c| i32::from(i16::from_ne_bytes([c[0], c[1]]))).collect();
+    let mut stepped = [0; 4];
+    let mut tile = tile::Tile::open(&bytes, tile::Shape { nx, nblock, bits }).expect("the tile");
+    while tile.step(&mut stepped).expect("a block").is_some() {}
+    assert!(stepped == pixels && tile.cursor().bit == 27);
+    assert!(used == Ok(27) && old == [10, 9, 10, 10] && old == pixels, "{used:?} {old:?} {pixels:?}");
+}
+
+/// Stops the program where the two sides answer differently.
+pub fn check() {
+    headers();
+    refused_cards();
+    tiles();
+}

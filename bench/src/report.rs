@@ -1,0 +1,238 @@
+//! The text of the figures.
+
+use crate::picture;
+use std::collections::HashMap;
+use std::fmt::Write;
+use std::path::Path;
+use std::{fs, io};
+
+/// A job as it was printed.
+pub struct Row {
+    pub group: String,
+    pub name: String,
+    pub unit: String,
+    units: f64,
+    /// Nanoseconds for a unit, by side.
+    times: HashMap<String, f64>,
+    /// Our time over another side's: the 10th percentile, the median, the 90th percentile.
+    pub ratios: HashMap<String, [f64; 3]>,
+    /// Instructions of one run of the job that was counted, for a unit, by side.
+    counts: HashMap<String, f64>,
+}
+
+/// All that was printed.
+#[derive(Default)]
+pub struct Figures {
+    facts: HashMap<String, String>,
+    pub rows: Vec<Row>,
+}
+
+impl Figures {
+    fn row(&mut self, group: &str, name: &str) -> Option<&mut Row> {
+        self.rows.iter_mut().find(|row| row.group == group && row.name == name)
+    }
+
+    /// Takes one line in; none where it is not of a known form.
+    fn take(&mut self, line: &str) -> Option<()> {
+        let words: Vec<&str> = line.split('\t').collect();
+        let number = |word: &str| word.parse::<f64>().ok();
+        match words[..] {
+            ["job", group, name, unit, units] => self.rows.push(Row {
+                group: group.into(),
+                name: name.into(),
+                unit: unit.into(),
+                units: number(units)?,
+                times: HashMap::new(),
+                ratios: HashMap::new(),
+                counts: HashMap::new(),
+            }),
+            ["time", group, name, side, time] => {
+                self.row(group, name)?.times.insert(side.into(), number(time)?);
+            }
+            ["ratio", group, name, side, low, middle, high] => {
+                self.row(group, name)?.ratios.insert(side.into(), [number(low)?, number(middle)?, number(high)?]);
+            }
+            ["count", group, name, side, units, instructions] => {
+                self.row(group, name)?.counts.insert(side.into(), number(instructions)? / number(units)?);
+            }
+            [fact, value] => {
+                self.facts.insert(fact.into(), value.into());
+            }
+            _ => return None,
+        }
+        Some(())
+    }
+
+    fn fact(&self, name: &str) -> &str {
+        self.facts.get(name).map_or("unknown", String::as_str)
+    }
+
+    pub fn of<'a>(&'a self, group: &'a str) -> impl Iterator<Item = &'a Row> + 'a {
+        self.rows.iter().filter(move |row| row.group == group)
+    }
+}
+
+/// A number with as many places as it deserves.
+fn shown(x: f64) -> String {
+    match x {
+        x if x >= 100.0 => format!("{x:.0}"),
+        x if x >= 10.0 => format!("{x:.1}"),
+        x => format!("{x:.2}"),
+    }
+}
+
+/// A number with commas between thousands, where it is large.
+fn counted(x: f64) -> String {
+    if x < 1000.0 {
+        return shown(x);
+    }
+    let digits = format!("{x:.0}");
+    let mut all = String::new();
+    for (at, digit) in digits.chars().enumerate() {
+        if at > 0 && (digits.len() - at) % 3 == 0 {
+            all.push(',');
+        }
+        all.push(digit);
+    }
+    all
+}
+
+fn ratio(row: Option<&Row>, side: &str) -> String {
+    match row.and_then(|row| row.ratios.get(side)) {
+        Some([low, middle, high]) => format!("{} ({} to {})", shown(*middle), shown(*low), shown(*high)),
+        None => "-".to_string(),
+    }
+}
+
+/// How many jobs have a median below 1, of how many.
+fn faster(figures: &Figures, groups: &[&str], side: &str) -> (usize, usize) {
+    let rows = || figures.rows.iter().filter(|row| groups.contains(&row.group.as_str()));
+    let below = rows().filter(|row| row.ratios.get(side).is_some_and(|ratio| ratio[1] < 1.0)).count();
+    (below, rows().count())
+}
+
+fn tiles(text: &mut String, figures: &Figures) -> std::fmt::Result {
+    let pixels = figures.of("large").next().map_or(0.0, |row| row.units);
+    writeln!(text, "## Rice tiles\n")?;
+    writeln!(
+        text,
+        "The whole decoder through the C boundary (`widrekas_decode`), blocks of 32, tiles made by CFITSIO's encoder. Noise is named by the bits\n\
+         that a pixel takes; raw is noise of the whole width. Our pixels are 32-bit numbers at every width, the others' are of the width.\n"
+    )?;
+    writeln!(text, "| Tile | rows of 4,096: ours / fitsrs | ours / CFITSIO | one tile of {} pixels: ours / fitsrs | ours / CFITSIO |", counted(pixels))?;
+    writeln!(text, "|---|---|---|---|---|")?;
+    for row in figures.of("rows") {
+        let large = figures.of("large").find(|large| large.name == row.name);
+        let [a, b] = ["fitsrs", "cfitsio"].map(|side| ratio(Some(row), side));
+        let [c, d] = ["fitsrs", "cfitsio"].map(|side| ratio(large, side));
+        writeln!(text, "| {} | {a} | {b} | {c} | {d} |", row.name)?;
+    }
+    writeln!(text)
+}
+
+fn ratios(text: &mut String, figures: &Figures, group: &str) -> std::fmt::Result {
+    writeln!(text, "| What | ours / fitsrs | ours / CFITSIO |\n|---|---|---|")?;
+    for row in figures.of(group) {
+        writeln!(text, "| {} | {} | {} |", row.name, ratio(Some(row), "fitsrs"), ratio(Some(row), "cfitsio"))?;
+    }
+    writeln!(text)
+}
+
+fn growth(text: &mut String, figures: &Figures, group: &str, what: &str) -> std::fmt::Result {
+    let unit = figures.of(group).next().map_or("", |row| row.unit.as_str());
+    writeln!(text, "| {what} | ours, ns a {unit} | fitsrs | CFITSIO |\n|---|---|---|---|")?;
+    for row in figures.of(group) {
+        let size =
+            row.name
+                .parse()
+                .map_or(row.name.clone(), |size: f64| if size < 1000.0 { row.name.clone() } else { counted(size) });
+        let [a, b, c] =
+            ["ours", "fitsrs", "cfitsio"].map(|side| row.times.get(side).map_or("-".into(), |t| counted(*t)));
+        writeln!(text, "| {size} | {a} | {b} | {c} |")?;
+    }
+    writeln!(text)
+}
+
+fn instructions(text: &mut String, figures: &Figures) -> std::fmt::Result {
+    writeln!(
+        text,
+        "## Instructions\n\nOne run of a job under `valgrind --tool=callgrind`, after one that is not counted.\n"
+    )?;
+    writeln!(text, "| Job | for a | ours | fitsrs | CFITSIO |\n|---|---|---|---|---|")?;
+    for row in figures.rows.iter().filter(|row| !row.counts.is_empty()) {
+        let [a, b, c] =
+            ["ours", "fitsrs", "cfitsio"].map(|side| row.counts.get(side).map_or("-".into(), |n| counted(*n)));
+        writeln!(text, "| {} | {} | {a} | {b} | {c} |", row.name, row.unit)?;
+    }
+    if let Some(program) = figures.facts.get("cards") {
+        let program: f64 = program.parse().unwrap_or(0.0);
+        writeln!(
+            text,
+            "\nThe program `cards` on the header of 720 cards, whole run with printing: {} instructions.",
+            counted(program)
+        )?;
+    }
+    writeln!(text)
+}
+
+fn text(figures: &Figures) -> Result<String, std::fmt::Error> {
+    let mut text = String::new();
+    let all = &mut text;
+    writeln!(all, "# Speed\n")?;
+    writeln!(
+        all,
+        "Written by `bench/run`. Ratios are our time over theirs, below 1 where ours is faster: the median of {} rounds, with the 10th and 90th\n\
+         percentile. One process runs the three sides in turn on the same inputs, pinned to one core of {}; release builds;\n\
+         fitsrs 0.4.1 as published, CFITSIO {} from Debian's package. Before the rounds and after each of them the sides' results are\n\
+         compared, and a difference stops the run.\n",
+        figures.fact("rounds"),
+        figures.fact("machine"),
+        figures.fact("cfitsio"),
+    )?;
+    writeln!(all, "![Our time over theirs, for every job](speed.svg)\n")?;
+    let counts = |groups: &[&str]| {
+        let ((a, all), (b, _)) = (faster(figures, groups, "fitsrs"), faster(figures, groups, "cfitsio"));
+        format!("faster than fitsrs in {a} and than CFITSIO in {b} of {all} jobs")
+    };
+    writeln!(all, "Rice tiles: {}. Headers read whole: {}.", counts(&["rows", "large"]), counts(&["headers"]))?;
+    writeln!(all, "Lookups: {}.\n", counts(&["lookups"]))?;
+    tiles(all, figures)?;
+    writeln!(
+        all,
+        "## Headers\n\n\
+         From bytes in memory. Ours: `widrekas_list`, which tests every card and lists the names; then the same with every entry read by\n\
+         `widrekas_entry`; then the crate `widrekas`, which also copies every name, text and comment. fitsrs: `Card::try_from` for each card and\n\
+         `Header::parse`, after which all values are there. CFITSIO: the bytes opened as a file (`fits_open_memfile`), every card's name, value\n\
+         text and comment (`fits_read_keyn`), closed; its values are not converted.\n"
+    )?;
+    ratios(all, figures, "headers")?;
+    writeln!(
+        all,
+        "## Lookups\n\n\
+         The job of the picking list first: from bytes to one string over four cards. Ours: `widrekas_lookup`, one call; or the crate's\n\
+         `Header::parse` and `get`. fitsrs: read whole, then `get`. CFITSIO: opened, `fits_read_key_longstr`, closed. Then one name of a header\n\
+         that is read (or opened) already: ours reads the entry from the cards, fitsrs finds it in a table, CFITSIO searches the cards.\n"
+    )?;
+    ratios(all, figures, "lookups")?;
+    writeln!(all, "## Growth\n\nA header listed (fitsrs: read whole; CFITSIO: as above), by its cards:\n")?;
+    growth(all, figures, "cards", "Cards")?;
+    writeln!(all, "One string out of a header's bytes, by its CONTINUE cards, beside 11 other cards and END:\n")?;
+    growth(all, figures, "continued", "CONTINUE cards")?;
+    writeln!(all, "A tile of 16-bit noise, by its pixels:\n")?;
+    growth(all, figures, "pixels", "Pixels")?;
+    instructions(all, figures)?;
+    writeln!(all, "Memory: behind the boundary no heap is used. What it takes of the stack is said in TRUST.md.")?;
+    Ok(text)
+}
+
+/// Writes the text and the picture of what was printed.
+pub fn write(lines: &Path, folder: &Path) -> io::Result<()> {
+    let mut figures = Figures::default();
+    for line in fs::read_to_string(lines)?.lines() {
+        let odd = || io::Error::new(io::ErrorKind::InvalidData, format!("a line of another form: {line}"));
+        figures.take(line).ok_or_else(odd)?;
+    }
+    let text = text(&figures).map_err(io::Error::other)?;
+    fs::write(folder.join("SPEED.md"), text)?;
+    fs::write(folder.join("speed.svg"), picture::of(&figures))
+}

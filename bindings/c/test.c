@@ -1,0 +1,497 @@
+/*
+ * Tests of the C boundary. What is expected is document 01's (its edge table, its example, its rules), never our own output.
+ * Every slice that is lent has its own memory of just its length, so that a step outside is seen by valgrind.
+ */
+#include "widrekas.h"
+
+#include <stdio.h>
+#include <stdlib.h>
+#include <string.h>
+
+static int checks;
+
+/* Ends the run where something does not hold; unlike assert, in every build. */
+#define CHECK(holds)                                                           \
+    do {                                                                       \
+        checks++;                                                              \
+        if (!(holds)) {                                                        \
+            fprintf(stderr, "%s:%d: %s\n", __FILE__, __LINE__, #holds);        \
+            exit(1);                                                           \
+        }                                                                      \
+    } while (0)
+
+/* What lent memory holds before a call. */
+#define BEFORE 0xa5
+
+static void *lent(size_t bytes)
+{
+    void *memory = malloc(bytes > 0 ? bytes : 1);
+    CHECK(memory != NULL);
+    memset(memory, BEFORE, bytes > 0 ? bytes : 1);
+    return memory;
+}
+
+static int untouched(const void *memory, size_t bytes)
+{
+    const unsigned char *byte = memory;
+    for (size_t i = 0; i < bytes; i++) {
+        if (byte[i] != BEFORE) {
+            return 0;
+        }
+    }
+    return 1;
+}
+
+/* Cards, each padded with spaces to 80 bytes. */
+static uint8_t *cards(const char *const *fronts, size_t many)
+{
+    uint8_t *bytes = lent(many * WIDREKAS_CARD);
+    memset(bytes, ' ', many * WIDREKAS_CARD);
+    for (size_t i = 0; i < many; i++) {
+        memcpy(bytes + i * WIDREKAS_CARD, fronts[i], strlen(fronts[i]));
+    }
+    return bytes;
+}
+
+/* ---- cards */
+
+struct card {
+    uint8_t *record;
+    int64_t number;
+    uint8_t answer;
+};
+
+static struct card read_card(const char *front)
+{
+    struct card read = {lent(WIDREKAS_RECORD), -1, 0};
+    uint8_t *card = cards(&front, 1);
+    read.answer = widrekas_card(card, WIDREKAS_CARD, read.record, WIDREKAS_RECORD, &read.number);
+    if (read.answer != 0) {
+        CHECK(untouched(read.record, WIDREKAS_RECORD) && read.number == -1);
+    }
+    free(card);
+    return read;
+}
+
+/* Whether a text of a record is the one expected, with zeros behind it. */
+static int is_part(const uint8_t *record, int length_at, int at, const char *expected)
+{
+    size_t length = strlen(expected);
+    if (record[length_at] != length || memcmp(record + at, expected, length) != 0) {
+        return 0;
+    }
+    for (size_t i = length; i < WIDREKAS_CARD; i++) {
+        if (record[at + i] != 0) {
+            return 0;
+        }
+    }
+    return 1;
+}
+
+static void is_card(const char *front, int class, int kind, int flag, int64_t number, const char *name,
+                    const char *text, const char *comment)
+{
+    struct card read = read_card(front);
+    CHECK(read.answer == 0);
+    const uint8_t *record = read.record;
+    CHECK(record[WIDREKAS_RECORD_CLASS] == class && record[WIDREKAS_RECORD_KIND] == kind);
+    CHECK(record[WIDREKAS_RECORD_FLAG] == flag && read.number == number);
+    CHECK(record[WIDREKAS_RECORD_COMMENTED] == (comment != NULL) && record[7] == 0);
+    CHECK(is_part(record, WIDREKAS_RECORD_NAME_LENGTH, WIDREKAS_RECORD_NAME, name));
+    CHECK(is_part(record, WIDREKAS_RECORD_TEXT_LENGTH, WIDREKAS_RECORD_TEXT, text));
+    CHECK(is_part(record, WIDREKAS_RECORD_COMMENT_LENGTH, WIDREKAS_RECORD_COMMENT, comment != NULL ? comment : ""));
+    free(read.record);
+}
+
+static void is_refused(const char *front, int refusal)
+{
+    struct card read = read_card(front);
+    CHECK(read.answer == refusal);
+    free(read.record);
+}
+
+static void test_cards(void)
+{
+    is_card("K       = ''", WIDREKAS_VALUE_CARD, WIDREKAS_STRING, 0, 0, "K", "", NULL);
+    is_card("K       = '   '", WIDREKAS_VALUE_CARD, WIDREKAS_STRING, 0, 0, "K", " ", NULL);
+    is_card("K       = 'O''RING' /", WIDREKAS_VALUE_CARD, WIDREKAS_STRING, 0, 0, "K", "O'RING", "");
+    is_card("K       = 'abc''", WIDREKAS_VALUE_CARD, WIDREKAS_STRING, 0, 0, "K", "abc", NULL);
+    is_card("K       = 9223372036854775807 / c", WIDREKAS_VALUE_CARD, WIDREKAS_INTEGER, 0, INT64_MAX, "K", "", " c");
+    is_card("K       = 9223372036854775808", WIDREKAS_VALUE_CARD, WIDREKAS_FINITE, 0, 0, "K", "9223372036854775808", NULL);
+    is_card("K       = -1.5D3", WIDREKAS_VALUE_CARD, WIDREKAS_FINITE, 1, 2, "K", "15", NULL);
+    is_card("K       = -inf", WIDREKAS_VALUE_CARD, WIDREKAS_INFINITE, 1, 0, "K", "", NULL);
+    is_card("K       = +nan", WIDREKAS_VALUE_CARD, WIDREKAS_NAN, 0, 0, "K", "", NULL);
+    is_card("K       = 1D", WIDREKAS_VALUE_CARD, WIDREKAS_INVALID, 0, 0, "K", "1E", NULL);
+    is_card("K       = TEXT", WIDREKAS_VALUE_CARD, WIDREKAS_LOGICAL, 1, 0, "K", "", NULL);
+    is_card("K       = / lost", WIDREKAS_VALUE_CARD, WIDREKAS_UNDEFINED, 0, 0, "K", "", NULL);
+    is_card("CONTINUE  '75' / ring", WIDREKAS_CONTINUE_CARD, 0, 0, 0, "CONTINUE", "75", " ring");
+    is_card("XTENSION= 'IMAGE   '", WIDREKAS_XTENSION_CARD, 0, 0, 0, "XTENSION", "IMAGE", NULL);
+    is_card("COMMENT a", WIDREKAS_COMMENT_CARD, 0, 0, 0, "COMMENT", "a", NULL);
+    is_card("HISTORY b", WIDREKAS_HISTORY_CARD, 0, 0, 0, "HISTORY", "b", NULL);
+    is_card("HIERARCH A  B = F", WIDREKAS_HIERARCH_CARD, WIDREKAS_LOGICAL, 0, 0, "A.B", "", NULL);
+    is_card("", WIDREKAS_SPACE_CARD, 0, 0, 0, "", "", NULL);
+    is_card("END     of it", WIDREKAS_END_CARD, 0, 0, 0, "END", "", NULL);
+    is_refused("K       = \x80", WIDREKAS_HIGH_BYTE);
+    is_refused("K       = 5 \x0b 6", WIDREKAS_ODD_BYTE);
+    is_refused("K       = '", WIDREKAS_STRING_NOT_CLOSED);
+    is_refused("K       = 'a' b", WIDREKAS_STRING_NOT_CLOSED);
+    is_refused("CONTINUE  a'", WIDREKAS_STRING_NOT_OPENED);
+    is_refused("K       = (1, 2)", WIDREKAS_COMPLEX);
+    is_refused("HIERARCH A", WIDREKAS_NO_EQUALS);
+    is_refused("HIERARCH  = 1", WIDREKAS_NO_NAME);
+    is_refused("XTENSION= IMAGE", WIDREKAS_EXTENSION_NOT_QUOTED);
+    static const size_t lengths[][2] = {{0, 248}, {79, 248}, {81, 248}, {80, 0}, {80, 247}, {80, 249}};
+    for (size_t i = 0; i < sizeof lengths / sizeof lengths[0]; i++) {
+        uint8_t *card = lent(lengths[i][0]);
+        uint8_t *record = lent(lengths[i][1]);
+        int64_t number = -1;
+        CHECK(widrekas_card(card, lengths[i][0], record, lengths[i][1], &number) == WIDREKAS_WRONG_LENGTH);
+        CHECK(untouched(record, lengths[i][1]) && number == -1);
+        free(card);
+        free(record);
+    }
+}
+
+static void test_units(void)
+{
+    static const struct {
+        const char *comment;
+        size_t end;
+    } units[] = {{"[mm] ring", 3}, {"[]", 1}, {" [mm]", 0}, {"[mm", 0}, {"", 0}, {"]", 0}, {"[a]]", 2}};
+    for (size_t i = 0; i < sizeof units / sizeof units[0]; i++) {
+        size_t length = strlen(units[i].comment);
+        uint8_t *comment = lent(length);
+        memcpy(comment, units[i].comment, length);
+        CHECK(widrekas_unit(comment, length) == units[i].end);
+        free(comment);
+    }
+}
+
+/* ---- headers */
+
+/* Lists a header; the places are checked by the caller, who frees them. */
+static uint8_t list(const uint8_t *header, size_t many, size_t **first, size_t **last, size_t *count)
+{
+    *first = lent(WIDREKAS_PLACES * sizeof(size_t));
+    *last = lent(WIDREKAS_PLACES * sizeof(size_t));
+    uint8_t answer =
+        widrekas_list(header, many * WIDREKAS_CARD, *first, WIDREKAS_PLACES, *last, WIDREKAS_PLACES, count);
+    if (answer != 0) {
+        CHECK(untouched(*first, WIDREKAS_PLACES * sizeof(size_t)) && untouched(*last, WIDREKAS_PLACES * sizeof(size_t)));
+    }
+    return answer;
+}
+
+static void is_refused_header(const char *const *fronts, size_t many, int refusal, size_t card)
+{
+    uint8_t *header = cards(fronts, many);
+    size_t *first, *last, count = 12345;
+    CHECK(list(header, many, &first, &last, &count) == refusal && count == card);
+    free(first);
+    free(last);
+    /* Lookup refuses it alike. */
+    uint8_t text[1], comment[1], digits[WIDREKAS_DIGITS];
+    size_t out[WIDREKAS_NUMBERS] = {7, 7, 7, 7, 7, 7, 7};
+    int64_t number = -1;
+    uint8_t answer = widrekas_lookup(header, many * WIDREKAS_CARD, (const uint8_t *)"K", 1, text, 1, comment, 1, digits,
+                                     WIDREKAS_DIGITS, out, WIDREKAS_NUMBERS, &number);
+    CHECK(answer == refusal && out[0] == card && out[1] == 7 && number == -1);
+    free(header);
+}
+
+static void test_lists(void)
+{
+    static const char *const some[] = {"B       = 1", "HIERARCH A B = 2", "COMMENT", "B       = 3", "C       = 4", "END", "\xff"};
+    uint8_t *header = cards(some, 7);
+    size_t *first, *last, count;
+    CHECK(list(header, 7, &first, &last, &count) == 0 && count == 3);
+    CHECK(first[0] == 0 && last[0] == 3 && first[1] == 1 && last[1] == 1 && first[2] == 4 && last[2] == 4);
+    for (size_t i = 3; i < WIDREKAS_PLACES; i++) {
+        CHECK(first[i] == 720 && last[i] == 720);
+    }
+    count = 99;
+    CHECK(widrekas_list(header, 7 * WIDREKAS_CARD, first, WIDREKAS_PLACES - 1, last, WIDREKAS_PLACES, &count) == 255);
+    CHECK(widrekas_list(header, 7 * WIDREKAS_CARD, first, WIDREKAS_PLACES, last, 0, &count) == 255 && count == 99);
+    free(first);
+    free(last);
+    free(header);
+    static const char *const lone[] = {"K       = 1", "K       = '", "END"};
+    is_refused_header(lone, 3, WIDREKAS_STRING_NOT_CLOSED, 1);
+    static const char *const endless[] = {"K       = 1", "K       = 2"};
+    is_refused_header(endless, 2, WIDREKAS_NO_END, 2);
+    is_refused_header(endless, 0, WIDREKAS_HEADER_LENGTH, 0);
+}
+
+/* What an entry is asked by, and what it was laid into. */
+struct asked {
+    const uint8_t *header;
+    size_t length;
+    const char *name; /* or none, and the card's number */
+    size_t card;
+    uint8_t *text, *comment, *digits;
+    size_t *out;
+    int64_t number;
+};
+
+static uint8_t ask(struct asked *a, size_t text, size_t comment)
+{
+    a->text = lent(text);
+    a->comment = lent(comment);
+    a->digits = lent(WIDREKAS_DIGITS);
+    a->out = lent(WIDREKAS_NUMBERS * sizeof(size_t));
+    a->number = -1;
+    if (a->name != NULL) {
+        return widrekas_lookup(a->header, a->length, (const uint8_t *)a->name, strlen(a->name), a->text, text, a->comment,
+                               comment, a->digits, WIDREKAS_DIGITS, a->out, WIDREKAS_NUMBERS, &a->number);
+    }
+    return widrekas_entry(a->header, a->length, a->card, a->text, text, a->comment, comment, a->digits, WIDREKAS_DIGITS,
+                          a->out, WIDREKAS_NUMBERS, &a->number);
+}
+
+static void give_back(struct asked *a)
+{
+    free(a->text);
+    free(a->comment);
+    free(a->digits);
+    free(a->out);
+}
+
+/* A refusal without a card leaves all lent memory as it was. */
+static void is_refused_entry(struct asked a, size_t text, size_t comment, int refusal)
+{
+    CHECK(ask(&a, text, comment) == refusal);
+    CHECK(untouched(a.text, text) && untouched(a.comment, comment) && untouched(a.digits, WIDREKAS_DIGITS));
+    CHECK(untouched(a.out, WIDREKAS_NUMBERS * sizeof(size_t)) && a.number == -1);
+    give_back(&a);
+}
+
+/* An entry, with room to spare, with room that is just enough, and with a byte too little. */
+static void is_entry(struct asked a, size_t kind, size_t flag, int64_t number, const char *digits, const char *text,
+                     const char *comment)
+{
+    size_t text_length = strlen(text);
+    size_t comment_length = comment != NULL ? strlen(comment) : 0;
+    for (size_t spare = 0; spare <= 30; spare += 10) {
+        CHECK(ask(&a, text_length + spare, comment_length + spare) == 0);
+        CHECK(a.out[WIDREKAS_ENTRY_CARD] == 0 && a.out[WIDREKAS_ENTRY_KIND] == kind && a.out[WIDREKAS_ENTRY_FLAG] == flag);
+        CHECK(a.out[WIDREKAS_ENTRY_COMMENTED] == (comment != NULL) && a.number == number);
+        CHECK(a.out[WIDREKAS_ENTRY_TEXT_LENGTH] == text_length && memcmp(a.text, text, text_length) == 0);
+        CHECK(a.out[WIDREKAS_ENTRY_COMMENT_LENGTH] == comment_length);
+        CHECK(comment_length == 0 || memcmp(a.comment, comment, comment_length) == 0);
+        CHECK(a.out[WIDREKAS_ENTRY_DIGITS_LENGTH] == strlen(digits) && strncmp((char *)a.digits, digits, WIDREKAS_DIGITS) == 0);
+        CHECK(untouched(a.text + text_length, spare) && untouched(a.comment + comment_length, spare));
+        give_back(&a);
+    }
+    if (text_length > 0) {
+        is_refused_entry(a, text_length - 1, comment_length, WIDREKAS_BUFFER_SHORT);
+    }
+    if (comment_length > 0) {
+        is_refused_entry(a, text_length, comment_length - 1, WIDREKAS_BUFFER_SHORT);
+    }
+}
+
+static void test_entries(void)
+{
+    static const char *const example[] = {"SIZE    = 12", "KIT     = 'FKM-&'", "CONTINUE  '75' / ring", "END"};
+    uint8_t *header = cards(example, 4);
+    struct asked a = {header, 320, "KIT", 0, NULL, NULL, NULL, NULL, 0};
+    is_entry(a, WIDREKAS_STRING, 0, 0, "", "FKM-75", " ring");
+    a.name = "SIZE";
+    is_entry(a, WIDREKAS_INTEGER, 0, 12, "", "", NULL);
+    a.name = "size";
+    is_refused_entry(a, 80, 80, WIDREKAS_NAME_NOT_FOUND);
+    a.name = "";
+    is_refused_entry(a, 80, 80, WIDREKAS_NAME_NOT_FOUND);
+    a.name = NULL;
+    a.card = 1;
+    is_entry(a, WIDREKAS_STRING, 0, 0, "", "FKM-75", " ring");
+    a.card = 2;
+    is_refused_entry(a, 80, 80, WIDREKAS_NAME_NOT_FOUND);
+    a.card = (size_t)-1;
+    is_refused_entry(a, 80, 80, WIDREKAS_NAME_NOT_FOUND);
+    free(header);
+
+    static const char *const edges[] = {"A       = 'FKM-&'",       "COMMENT",        "CONTINUE  '75'",  "B       = 'FKM &'",
+                                        "CONTINUE  ''",            "C       = 'x&'", "D       = 5",     "CONTINUE  'y'",
+                                        "E       = 'a&' /[mm]",    "CONTINUE '&'",   "CONTINUE 'b' / c", "F       = -1.5D3",
+                                        "G       = what",          "D       = 6 /",  "END"};
+    header = cards(edges, 15);
+    struct asked b = {header, 15 * WIDREKAS_CARD, "A", 0, NULL, NULL, NULL, NULL, 0};
+    is_entry(b, WIDREKAS_STRING, 0, 0, "", "FKM-75", NULL);
+    b.name = "B";
+    is_entry(b, WIDREKAS_STRING, 0, 0, "", "FKM", NULL);
+    b.name = "C";
+    is_entry(b, WIDREKAS_STRING, 0, 0, "", "x&", NULL);
+    b.name = "D";
+    is_entry(b, WIDREKAS_INTEGER, 0, 6, "", "", "");
+    b.name = "E";
+    is_entry(b, WIDREKAS_STRING, 0, 0, "", "ab", "[mm]\n c");
+    b.name = "F";
+    is_entry(b, WIDREKAS_FINITE, 1, 2, "15", "", NULL);
+    b.name = "G";
+    is_entry(b, WIDREKAS_INVALID, 0, 0, "",
+             "what                                                                  ", NULL);
+    free(header);
+
+    uint8_t few[WIDREKAS_DIGITS] = {0};
+    size_t out[WIDREKAS_NUMBERS] = {0};
+    int64_t number = -1;
+    CHECK(widrekas_entry(few, 0, 0, few, 0, few, 0, few + 1, WIDREKAS_DIGITS - 1, out, WIDREKAS_NUMBERS, &number) == 255);
+    CHECK(widrekas_entry(few, 0, 0, few, 0, few, 0, few, WIDREKAS_DIGITS, out, WIDREKAS_NUMBERS - 1, &number) == 255);
+    out[0] = 5;
+    CHECK(widrekas_entry(few, 79, 0, few, 0, few, 0, few, 0, out, WIDREKAS_NUMBERS, &number) == 255 && out[0] == 5);
+    uint8_t digits[WIDREKAS_DIGITS];
+    CHECK(widrekas_entry(few, 79, 0, few, 0, few, 0, digits, WIDREKAS_DIGITS, out, WIDREKAS_NUMBERS, &number) == 9);
+    CHECK(out[0] == 0 && number == -1);
+}
+
+/* ---- tiles */
+
+struct tile {
+    const char *bytes;
+    size_t length, nx, bits;
+    int refusal;
+    int32_t pixels[2];
+    size_t count; /* the bits used, or the pixels written */
+};
+
+/* The rows of the edge table, with blocks of 32. */
+static const struct tile edges[] = {
+    {"\x0a\x00", 2, 2, 8, 0, {10, 10}, 11},
+    {"\x0a\x32", 2, 2, 8, 0, {10, 11}, 15},
+    {"\x00\x28", 2, 1, 8, 0, {255, 0}, 13},
+    {"\x0a\xff\xe0", 3, 1, 8, 0, {138, 0}, 19},
+    {"\x0a\x30", 2, 2, 8, WIDREKAS_TILE_ENDS, {10, 0}, 1},
+    {"\0\0\0\x05\xd0\0\0\0\x10", 9, 1, 32, 0, {6, 0}, 69},
+    {"\0\0\0\0\xd8", 5, 1, 32, WIDREKAS_FS_ABOVE_TOP, {0, 0}, 0},
+};
+
+static void test_decode(void)
+{
+    for (size_t i = 0; i < sizeof edges / sizeof edges[0]; i++) {
+        const struct tile *t = &edges[i];
+        uint8_t *tile = lent(t->length);
+        memcpy(tile, t->bytes, t->length);
+        int32_t *pixels = lent(t->nx * sizeof *pixels);
+        size_t count = 999;
+        CHECK(widrekas_decode(tile, t->length, t->nx, 32, t->bits, pixels, t->nx, &count) == t->refusal);
+        CHECK(count == t->count);
+        size_t written = t->refusal == 0 ? t->nx : t->count;
+        CHECK(memcmp(pixels, t->pixels, written * sizeof *pixels) == 0);
+        CHECK(untouched(pixels + written, (t->nx - written) * sizeof *pixels));
+        free(pixels);
+
+        /* The same by a step, which a tile of one block is. */
+        pixels = lent(t->nx * sizeof *pixels);
+        size_t bit = 999, done = 999;
+        int32_t last = 999;
+        size_t some = 999;
+        CHECK(widrekas_open(tile, t->length, t->nx, 32, t->bits, &bit, &done, &last) == 0 && done == 0 && bit == t->bits);
+        int answer = widrekas_step(tile, t->length, t->nx, 32, t->bits, &bit, &done, &last, pixels, t->nx, &some);
+        CHECK(answer == t->refusal && memcmp(pixels, t->pixels, written * sizeof *pixels) == 0);
+        if (answer == 0) {
+            CHECK(bit == t->count && done == t->nx && last == t->pixels[t->nx - 1] && some == 999);
+            answer = widrekas_step(tile, t->length, t->nx, 32, t->bits, &bit, &done, &last, pixels, t->nx, &some);
+            CHECK(answer == WIDREKAS_NOTHING_LEFT && bit == t->count && done == t->nx && some == 999);
+        } else {
+            CHECK(bit == t->bits && done == 0 && some == t->count);
+        }
+        free(pixels);
+        free(tile);
+    }
+}
+
+static void test_tile_refusals(void)
+{
+    static const size_t shapes[][3] = {{0, 32, 8}, {1048577, 32, 8}, {2, 0, 8}, {2, 65537, 8}, {2, 32, 7}, {2, 32, (size_t)-1}};
+    static const uint8_t tile[] = {0x0a, 0x00};
+    int32_t pixels[2] = {-77, -77};
+    size_t count, bit = 5, done = 6, written;
+    int32_t last = 7;
+    for (size_t i = 0; i < sizeof shapes / sizeof shapes[0]; i++) {
+        const size_t *s = shapes[i];
+        count = written = 999;
+        CHECK(widrekas_decode(tile, 2, s[0], s[1], s[2], pixels, 2, &count) == WIDREKAS_LIMITS && count == 0);
+        CHECK(widrekas_open(tile, 2, s[0], s[1], s[2], &bit, &done, &last) == WIDREKAS_LIMITS);
+        CHECK(widrekas_step(tile, 2, s[0], s[1], s[2], &bit, &done, &last, pixels, 2, &written) == WIDREKAS_LIMITS);
+        CHECK(written == 0 && bit == 5 && done == 6 && last == 7);
+    }
+    CHECK(widrekas_open(tile, 0, 2, 32, 8, &bit, &done, &last) == WIDREKAS_TILE_ENDS && bit == 5);
+    CHECK(widrekas_decode(tile, 2, 3, 32, 8, pixels, 2, &count) == WIDREKAS_PIXEL_COUNT);
+    CHECK(widrekas_step(tile, 2, 3, 32, 8, &bit, &done, &last, pixels, 2, &written) == WIDREKAS_PIXEL_COUNT);
+    static const struct {
+        size_t bit, done;
+        int32_t last;
+    } cursors[] = {{7, 0, 0}, {17, 0, 0}, {8, 3, 0}, {8, 1, 0}, {8, 0, 256}, {8, 0, -1}, {(size_t)-1, (size_t)-1, 0}};
+    for (size_t i = 0; i < sizeof cursors / sizeof cursors[0]; i++) {
+        bit = cursors[i].bit;
+        done = cursors[i].done;
+        last = cursors[i].last;
+        written = 999;
+        CHECK(widrekas_step(tile, 2, 2, 32, 8, &bit, &done, &last, pixels, 2, &written) == WIDREKAS_BAD_CURSOR);
+        CHECK(written == 0 && bit == cursors[i].bit && done == cursors[i].done && last == cursors[i].last);
+    }
+    CHECK(pixels[0] == -77 && pixels[1] == -77);
+}
+
+/* ---- bytes at random */
+
+static uint64_t state = 20261115;
+
+static size_t below(size_t n)
+{
+    state ^= state << 13;
+    state ^= state >> 7;
+    state ^= state << 17;
+    return (size_t)(state >> 16) % n;
+}
+
+static void test_random(void)
+{
+    for (int round = 0; round < 2000; round++) {
+        size_t many = below(5);
+        size_t length = many * WIDREKAS_CARD + (below(10) == 0 ? below(80) : 0);
+        uint8_t *header = lent(length);
+        for (size_t i = 0; i < length; i++) {
+            header[i] = (uint8_t)(below(20) == 0 ? below(256) : (size_t)"KIT     = 'a/&'.5TE(["[below(21)]);
+        }
+        for (size_t i = 0; i < many; i++) {
+            memcpy(header + i * WIDREKAS_CARD, i + 1 == many ? "END     " : below(2) == 0 ? "KIT     = '" : "CONTINUE '", 8);
+        }
+        size_t *first, *last, count = 0;
+        first = lent(WIDREKAS_PLACES * sizeof *first);
+        last = lent(WIDREKAS_PLACES * sizeof *last);
+        int listed = widrekas_list(header, length, first, WIDREKAS_PLACES, last, WIDREKAS_PLACES, &count);
+        struct asked a = {header, length, "KIT", 0, NULL, NULL, NULL, NULL, 0};
+        int looked = ask(&a, below(100), below(100));
+        CHECK(listed <= 10 && (listed == 0 ? looked == 0 || looked == 12 || looked == 13 : looked == listed));
+        give_back(&a);
+        free(first);
+        free(last);
+
+        size_t nx = below(40), bit = below(300), done = below(40), written = 0;
+        int32_t *pixels = lent(nx * sizeof *pixels), lastpix = (int32_t)below(600) - 300;
+        size_t bits = (size_t)8 << below(4);
+        int decoded = widrekas_decode(header, length, nx, below(20), bits, pixels, nx, &written);
+        CHECK(decoded == 0 || decoded == 14 || decoded == 16 || decoded == 17);
+        CHECK(decoded == 0 || untouched(pixels + written, (nx - written) * sizeof *pixels));
+        int stepped = widrekas_step(header, length, nx, 1 + below(20), bits, &bit, &done, &lastpix, pixels, nx, &written);
+        CHECK(stepped == 0 || stepped == 254 || (14 <= stepped && stepped <= 18));
+        free(pixels);
+        free(header);
+    }
+}
+
+int main(void)
+{
+    CHECK(widrekas_version() == 1);
+    test_cards();
+    test_units();
+    test_lists();
+    test_entries();
+    test_decode();
+    test_tile_refusals();
+    test_random();
+    printf("%d checks\n", checks);
+    return 0;
+}

@@ -1,0 +1,53 @@
+//! picking_list NAME FILE...: prints a line for each FITS file: file, value of the name, comment, unit, with tabs between.
+//!
+//! A file that has no such line (it cannot be read, its header is refused, it has no such name, or a value that is undefined or
+//! invalid) is named on standard error with the reason, and the exit status is 1.
+
+use std::ffi::OsString;
+use std::fs::File;
+use std::io::{self, Read, Write};
+use std::path::Path;
+use std::process::ExitCode;
+use widrekas::{Entry, Header, Refusal, Value, LONGEST};
+
+/// The entry of a name in a file's header.
+fn entry(file: &Path, name: &str) -> Result<Entry, Box<dyn std::error::Error>> {
+    let mut bytes = Vec::new();
+    File::open(file)?.take(LONGEST as u64).read_to_end(&mut bytes)?;
+    let entry = Header::parse_file(&bytes)?.get(name);
+    let entry = entry.ok_or(Refusal { number: Refusal::NAME_NOT_FOUND, card: None })?;
+    match entry.value {
+        Value::Undefined => Err(format!("{name} has no value").into()),
+        Value::Invalid(text) => Err(format!("{name} has an invalid value: {text}").into()),
+        _ => Ok(entry),
+    }
+}
+
+/// The line of a file. A comment over several cards stands on one line: the seams become spaces.
+fn line(file: &Path, entry: &Entry) -> String {
+    let comment = entry.comment.as_ref().map(|text| text.to_string().replace('\n', " ")).unwrap_or_default();
+    let unit = entry.unit().unwrap_or_default();
+    format!("{}\t{}\t{}\t{unit}", file.display(), entry.value, comment.trim())
+}
+
+fn main() -> ExitCode {
+    let words: Vec<OsString> = std::env::args_os().skip(1).collect();
+    let [name, files @ ..] = words.as_slice() else {
+        eprintln!("usage: picking_list NAME FILE...");
+        return ExitCode::from(2);
+    };
+    let mut all = ExitCode::SUCCESS;
+    for file in files.iter().map(Path::new) {
+        let written = match entry(file, &name.to_string_lossy()) {
+            Ok(entry) => writeln!(io::stdout(), "{}", line(file, &entry)),
+            Err(why) => {
+                all = ExitCode::FAILURE;
+                writeln!(io::stderr(), "{}: {why}", file.display())
+            }
+        };
+        if written.is_err() {
+            return ExitCode::FAILURE;
+        }
+    }
+    all
+}

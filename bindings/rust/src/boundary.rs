@@ -1,0 +1,233 @@
+//! The C boundary, as safe functions over slices.
+//!
+//! Why the calls are sound, all of them: every pointer with its length is that of a live slice, and every number lent is a live
+//! one. What is lent by `&mut` is lent to nobody else, so nothing that is written aliases anything. The archive's functions take
+//! any bytes and any numbers, read and write within the lengths alone, return, and keep no pointer (each is proved to). The
+//! pointer of an empty slice dangles, yet is aligned and not null, and no byte is read or written through it. A number of the
+//! machine's word is `usize` on both sides, and no function unwinds.
+
+/// The bytes of a card and of its record.
+pub const CARD: usize = 80;
+pub const RECORD: usize = 248;
+
+/// The places of a list.
+pub const PLACES: usize = 720;
+
+/// The numbers of an entry, and the bytes of its digits.
+pub const NUMBERS: usize = 7;
+pub const DIGITS: usize = 80;
+
+/// The answer to a step where nothing is left.
+pub const NOTHING_LEFT: u8 = 254;
+
+mod raw {
+    extern "C" {
+        pub fn widrekas_version() -> u32;
+        pub fn widrekas_card(card: *const u8, len: usize, out: *mut u8, room: usize, number: *mut i64) -> u8;
+        pub fn widrekas_unit(comment: *const u8, len: usize) -> usize;
+        pub fn widrekas_list(
+            header: *const u8,
+            len: usize,
+            first: *mut usize,
+            first_room: usize,
+            last: *mut usize,
+            last_room: usize,
+            count: *mut usize,
+        ) -> u8;
+        pub fn widrekas_entry(
+            header: *const u8,
+            len: usize,
+            card: usize,
+            text: *mut u8,
+            text_room: usize,
+            comment: *mut u8,
+            comment_room: usize,
+            digits: *mut u8,
+            digits_room: usize,
+            out: *mut usize,
+            out_room: usize,
+            number: *mut i64,
+        ) -> u8;
+        pub fn widrekas_lookup(
+            header: *const u8,
+            len: usize,
+            name: *const u8,
+            name_len: usize,
+            text: *mut u8,
+            text_room: usize,
+            comment: *mut u8,
+            comment_room: usize,
+            digits: *mut u8,
+            digits_room: usize,
+            out: *mut usize,
+            out_room: usize,
+            number: *mut i64,
+        ) -> u8;
+        pub fn widrekas_open(
+            tile: *const u8,
+            len: usize,
+            nx: usize,
+            nblock: usize,
+            bits: usize,
+            bit: *mut usize,
+            done: *mut usize,
+            last: *mut i32,
+        ) -> u8;
+        pub fn widrekas_step(
+            tile: *const u8,
+            len: usize,
+            nx: usize,
+            nblock: usize,
+            bits: usize,
+            bit: *mut usize,
+            done: *mut usize,
+            last: *mut i32,
+            pixels: *mut i32,
+            room: usize,
+            written: *mut usize,
+        ) -> u8;
+        pub fn widrekas_decode(
+            tile: *const u8,
+            len: usize,
+            nx: usize,
+            nblock: usize,
+            bits: usize,
+            pixels: *mut i32,
+            room: usize,
+            count: *mut usize,
+        ) -> u8;
+    }
+}
+
+/// What an entry's numbers and digits are laid into.
+pub struct Told {
+    pub digits: [u8; DIGITS],
+    pub out: [usize; NUMBERS],
+    pub number: i64,
+}
+
+impl Told {
+    pub fn new() -> Self {
+        Told { digits: [0; DIGITS], out: [0; NUMBERS], number: 0 }
+    }
+}
+
+/// The boundary's version.
+pub fn version() -> u32 {
+    // SAFETY: the function takes nothing.
+    unsafe { raw::widrekas_version() }
+}
+
+/// Reads a card into its record.
+pub fn card(card: &[u8; CARD], record: &mut [u8; RECORD], number: &mut i64) -> u8 {
+    // SAFETY: two live arrays with their lengths and a live number, the last two lent alone.
+    unsafe { raw::widrekas_card(card.as_ptr(), CARD, record.as_mut_ptr(), RECORD, number) }
+}
+
+/// The end of a comment's unit, or 0.
+pub fn unit(comment: &[u8]) -> usize {
+    // SAFETY: one live slice with its length, which is only read.
+    unsafe { raw::widrekas_unit(comment.as_ptr(), comment.len()) }
+}
+
+/// Lists a header's names.
+pub fn list(header: &[u8], first: &mut [usize; PLACES], last: &mut [usize; PLACES], count: &mut usize) -> u8 {
+    // SAFETY: a live slice and two live arrays with their lengths and a live number, all but the first lent alone.
+    unsafe {
+        raw::widrekas_list(header.as_ptr(), header.len(), first.as_mut_ptr(), PLACES, last.as_mut_ptr(), PLACES, count)
+    }
+}
+
+/// Reads the entry at a card's number.
+pub fn entry(header: &[u8], card: usize, text: &mut [u8], comment: &mut [u8], told: &mut Told) -> u8 {
+    // SAFETY: live slices and arrays with their lengths and a live number, all but the header lent alone; the parts of `told`
+    // are apart from each other.
+    unsafe {
+        raw::widrekas_entry(
+            header.as_ptr(),
+            header.len(),
+            card,
+            text.as_mut_ptr(),
+            text.len(),
+            comment.as_mut_ptr(),
+            comment.len(),
+            told.digits.as_mut_ptr(),
+            DIGITS,
+            told.out.as_mut_ptr(),
+            NUMBERS,
+            &mut told.number,
+        )
+    }
+}
+
+/// Looks a name up.
+pub fn lookup(header: &[u8], name: &[u8], text: &mut [u8], comment: &mut [u8], told: &mut Told) -> u8 {
+    // SAFETY: as for `entry`; the name is a live slice that is only read.
+    unsafe {
+        raw::widrekas_lookup(
+            header.as_ptr(),
+            header.len(),
+            name.as_ptr(),
+            name.len(),
+            text.as_mut_ptr(),
+            text.len(),
+            comment.as_mut_ptr(),
+            comment.len(),
+            told.digits.as_mut_ptr(),
+            DIGITS,
+            told.out.as_mut_ptr(),
+            NUMBERS,
+            &mut told.number,
+        )
+    }
+}
+
+/// Opens a tile: its cursor in three numbers.
+pub fn open(
+    tile: &[u8],
+    nx: usize,
+    nblock: usize,
+    bits: usize,
+    bit: &mut usize,
+    done: &mut usize,
+    last: &mut i32,
+) -> u8 {
+    // SAFETY: a live slice with its length, which is only read, and three live numbers, each lent alone.
+    unsafe { raw::widrekas_open(tile.as_ptr(), tile.len(), nx, nblock, bits, bit, done, last) }
+}
+
+/// What a step moves on: the cursor in three numbers, and the pixels written where it is refused.
+pub struct Stepping<'a> {
+    pub bit: &'a mut usize,
+    pub done: &'a mut usize,
+    pub last: &'a mut i32,
+    pub written: &'a mut usize,
+}
+
+/// One step from a cursor.
+pub fn step(tile: &[u8], nx: usize, nblock: usize, bits: usize, at: Stepping, pixels: &mut [i32]) -> u8 {
+    // SAFETY: two live slices with their lengths, the first only read, and four live numbers; all that is written is lent alone.
+    unsafe {
+        raw::widrekas_step(
+            tile.as_ptr(),
+            tile.len(),
+            nx,
+            nblock,
+            bits,
+            at.bit,
+            at.done,
+            at.last,
+            pixels.as_mut_ptr(),
+            pixels.len(),
+            at.written,
+        )
+    }
+}
+
+/// Decodes a tile whole.
+pub fn decode(tile: &[u8], nx: usize, nblock: usize, bits: usize, pixels: &mut [i32], count: &mut usize) -> u8 {
+    // SAFETY: two live slices with their lengths, the first only read, and a live number; all that is written is lent alone.
+    unsafe {
+        raw::widrekas_decode(tile.as_ptr(), tile.len(), nx, nblock, bits, pixels.as_mut_ptr(), pixels.len(), count)
+    }
+}

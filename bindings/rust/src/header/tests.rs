@@ -1,0 +1,137 @@
+//! The list and its entries, held to the boundary's own lookup and to its cards.
+
+use super::*;
+
+/// Numbers that look random: xorshift.
+struct Random(u64);
+
+impl Random {
+    fn below(&mut self, n: usize) -> usize {
+        self.0 ^= self.0 << 13;
+        self.0 ^= self.0 >> 7;
+        self.0 ^= self.0 << 17;
+        (self.0 >> 16) as usize % n
+    }
+}
+
+/// Cards that meet: equal names, open strings, blanks around keywords, names with full stops.
+const CARDS: [&[u8]; 22] = [
+    b"KIT     = 'FKM-&'",
+    b"KIT     = 'NBR &' / [mm] seal",
+    b"  KIT   = 5 / [s] time",
+    b"KIT\t\t\t\t\t= 1.5D3 /",
+    b"CONTINUE  '75&' / ring",
+    b"CONTINUE  ''",
+    b"CONTINUE 'x' / y",
+    b"COMMENT between",
+    b"HISTORY before",
+    b"",
+    b"        text",
+    b"XTENSION= 'IMAGE   '",
+    b"HIERARCH A B = T / true",
+    b"HIERARCH  A   B= 'open&'",
+    b"A.B     = -inf",
+    b"HIERARCH KIT = nan",
+    b"SIZE    = / lost",
+    b"SIZE    = TEXT",
+    b"SIZE    = value",
+    b"SIZE    =1",
+    b"\x0c\x01\x02     = -0.",
+    b"A&      = 'O''RING&'",
+];
+
+fn padded(front: &[u8]) -> [u8; CARD] {
+    let mut card = [b' '; CARD];
+    card[..front.len()].copy_from_slice(front);
+    card
+}
+
+/// The boundary's lookup, with all the room there can be.
+fn looked_up(bytes: &[u8], name: &[u8]) -> Result<Entry, u8> {
+    let (mut text, mut comment, mut told) = (vec![0; 59_000], vec![0; 59_000], Told::new());
+    match boundary::lookup(bytes, name, &mut text, &mut comment, &mut told) {
+        0 => Ok(read(&told, &text, &comment)),
+        refused => Err(refused),
+    }
+}
+
+#[test]
+fn the_list_finds_what_a_lookup_finds() {
+    let mut random = Random(20_261_115);
+    for _ in 0..3_000 {
+        let mut bytes = Vec::new();
+        for _ in 0..random.below(24) {
+            bytes.extend(padded(CARDS[random.below(CARDS.len())]));
+        }
+        bytes.extend(padded(b"END     of it"));
+        bytes.extend(padded(b"\xff"));
+        let header = Header::parse(&bytes).unwrap();
+        assert_eq!(header.as_bytes().len(), bytes.len() - CARD, "the cards up to END are kept");
+        let names: Vec<Text> = header.keywords().cloned().collect();
+        assert_eq!(header.entries().count(), names.len());
+        for ((name, entry), listed) in header.entries().zip(&names) {
+            assert_eq!(name, listed);
+            assert_eq!(looked_up(&bytes, name.as_bytes()).as_ref(), Ok(&entry));
+            assert_eq!(header.get(name), Some(entry));
+        }
+        for name in ["KIT", "SIZE", "A.B", "A&", "XTENSION", "CONTINUE", "END", "", "\u{1}\u{2}", "KI", "kit"] {
+            let found = looked_up(&bytes, name.as_bytes());
+            assert_eq!(found.as_ref().err(), header.get(name).is_none().then_some(&12));
+            assert_eq!(found.ok(), header.get(name));
+        }
+    }
+}
+
+#[test]
+fn a_keyword_is_the_name_that_the_card_is_read_with() {
+    let mut random = Random(3);
+    let parts = b" \t\n\x0c\r\x0b\0AEND.&=\x7f";
+    for _ in 0..20_000 {
+        let mut card = padded(b"        = 1");
+        for byte in &mut card[..8] {
+            *byte = parts[random.below(parts.len())];
+        }
+        let read = Card::read(&card).unwrap();
+        match read {
+            Card::Value { name, .. } => assert_eq!(name.as_bytes(), keyword(&card)),
+            Card::End => assert_eq!(keyword(&card), b"END"),
+            _ => assert_eq!(keyword(&card), b"", "{read:?}"),
+        }
+        assert_eq!(matches!(Card::read(&card), Ok(Card::End)), keyword(&card) == b"END");
+    }
+}
+
+#[test]
+fn bytes_at_random_give_a_reading_or_a_refusal() {
+    let mut random = Random(7);
+    for round in 0..20_000 {
+        let mut bytes = Vec::new();
+        for _ in 0..random.below(6) {
+            bytes.extend(padded(CARDS[random.below(CARDS.len())]));
+        }
+        bytes.extend(padded(b"END"));
+        // A few bytes are overwritten, in every second round by any, otherwise by those that have a meaning.
+        for _ in 0..random.below(12) {
+            let at = random.below(bytes.len());
+            bytes[at] = if round % 2 == 0 { random.below(256) as u8 } else { b"'/=&([] D\t.T5E"[random.below(14)] };
+        }
+        bytes.truncate(bytes.len() - if random.below(8) == 0 { random.below(80) } else { 0 });
+        match Header::parse(&bytes) {
+            Ok(header) => {
+                assert!(header.cards().last() == Some(Card::End));
+                for (name, entry) in header.entries() {
+                    assert!(name.to_str().is_some() && entry.value.to_string().is_ascii());
+                    assert!(entry.comment.as_ref().map_or(true, |c| c.as_bytes().is_ascii()));
+                    assert_eq!(looked_up(&bytes, name.as_bytes()).as_ref(), Ok(&entry));
+                }
+            }
+            Err(refusal) => {
+                assert!((1..=10).contains(&refusal.number), "{refusal}");
+                assert_eq!(looked_up(&bytes, b"KIT"), Err(refusal.number));
+                let mut count = 0;
+                let listed = boundary::list(&bytes, &mut [0; PLACES], &mut [0; PLACES], &mut count);
+                assert_eq!(refusal, Refusal { number: listed, card: Some(count) });
+            }
+        }
+    }
+}

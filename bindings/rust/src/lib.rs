@@ -1,0 +1,41 @@
+//! FITS headers and Rice tiles over a proved library.
+//!
+//! What is read is what fitsrs 0.4.1 reads, on the domain that the project's document 01 names; any other input gets a reading or
+//! one numbered [`Refusal`]. What is proved of the functions behind the C boundary stands in the project's docs/PROMISES.md; this
+//! crate is not proved. It lends memory and takes the answers apart, and knows two rules of document 01 itself, so that
+//! [`Header::get`] reads one card and not all: a keyword is bytes 0..7, trimmed; and only a string that ends in & is joined. Its
+//! tests hold both to the boundary's own lookup.
+//!
+//! - [`Header`]: the names of a header and the [`Entry`] of each, strings joined over CONTINUE cards.
+//! - [`Card`]: one card of 80 bytes.
+//! - [`tile`]: a Rice tile, decoded whole or block by block.
+//!
+//! Nothing here panics, whatever the input. Reading an entry takes some 120 KiB of the caller's stack.
+#![warn(missing_docs)]
+#![deny(unsafe_op_in_unsafe_fn)]
+
+mod boundary;
+mod card;
+mod decimal;
+mod header;
+mod refusal;
+mod text;
+pub mod tile;
+mod value;
+
+pub use card::Card;
+pub use decimal::Decimal;
+pub use header::{Header, LONGEST};
+pub use refusal::Refusal;
+pub use text::Text;
+pub use value::{Entry, Value};
+
+/// The version of the C boundary, which is 1.
+pub fn version() -> u32 {
+    boundary::version()
+}
+
+/// The code of the guide for users of fitsrs.
+#[cfg(doctest)]
+#[doc = include_str!("../../../docs/MIGRATING.md")]
+mod migrating {}

@@ -1,0 +1,104 @@
+//! Values, and entries with their comments.
+
+use crate::boundary;
+use crate::decimal::{Decimal, Size};
+use crate::text::Text;
+use std::fmt;
+
+/// The value of a card, of one of six kinds.
+#[derive(Clone, Debug, PartialEq, Eq)]
+pub enum Value {
+    /// FITS Standard 4.0, section 4.2.3: an integer that fits 64 signed bits.
+    Integer(i64),
+    /// Section 4.2.4: any other number.
+    Float(Decimal),
+    /// Section 4.2.2, by the first letter alone.
+    Logical(bool),
+    /// Section 4.2.1: a string, joined with the CONTINUE cards behind it.
+    String(Text),
+    /// Section 4.1.2.3: a value field of spaces.
+    Undefined,
+    /// What is none of these, with its whole raw text; or what begins as a number and is none, with every D made an E.
+    Invalid(Text),
+}
+
+impl Value {
+    /// The value of a kind's number, with what stands beside it.
+    pub(crate) fn told(kind: usize, flag: bool, number: i64, digits: &[u8], text: &[u8]) -> Self {
+        match kind {
+            1 => Value::Integer(number),
+            2 => Value::Float(Decimal::new(flag, Size::Finite(Text::new(digits), number))),
+            3 => Value::Float(Decimal::new(flag, Size::Infinite)),
+            4 => Value::Float(Decimal::new(flag, Size::Nan)),
+            5 => Value::Logical(flag),
+            6 => Value::String(Text::new(text)),
+            7 => Value::Undefined,
+            _ => Value::Invalid(Text::new(text)),
+        }
+    }
+
+    /// The integer, of an integer alone.
+    pub fn as_i64(&self) -> Option<i64> {
+        match self {
+            Value::Integer(number) => Some(*number),
+            _ => None,
+        }
+    }
+
+    /// The nearest 64-bit float, of a float or an integer.
+    pub fn as_f64(&self) -> Option<f64> {
+        match self {
+            Value::Integer(number) => Some(*number as f64),
+            Value::Float(decimal) => Some(decimal.to_f64()),
+            _ => None,
+        }
+    }
+
+    /// The truth, of a logical value alone.
+    pub fn as_bool(&self) -> Option<bool> {
+        match self {
+            Value::Logical(truth) => Some(*truth),
+            _ => None,
+        }
+    }
+
+    /// The text, of a string alone.
+    pub fn as_str(&self) -> Option<&str> {
+        match self {
+            Value::String(text) => text.to_str(),
+            _ => None,
+        }
+    }
+}
+
+/// The reading as the program `cards` prints it; nothing where it is undefined.
+impl fmt::Display for Value {
+    fn fmt(&self, f: &mut fmt::Formatter<'_>) -> fmt::Result {
+        match self {
+            Value::Integer(number) => number.fmt(f),
+            Value::Float(decimal) => decimal.fmt(f),
+            Value::Logical(truth) => f.pad(if *truth { "T" } else { "F" }),
+            Value::String(text) | Value::Invalid(text) => text.fmt(f),
+            Value::Undefined => f.pad(""),
+        }
+    }
+}
+
+/// A value with its comment. An undefined and an invalid value have none.
+#[derive(Clone, Debug, PartialEq, Eq)]
+pub struct Entry {
+    /// The value.
+    pub value: Value,
+    /// The comment; present and empty where nothing follows the slash, which differs from absent.
+    pub comment: Option<Text>,
+}
+
+impl Entry {
+    /// The unit (section 4.3.2): what stands between the brackets with which the comment begins.
+    pub fn unit(&self) -> Option<Text> {
+        let comment = self.comment.as_ref()?.as_bytes();
+        let end = boundary::unit(comment);
+        // 0, where there is no unit, is before the start.
+        comment.get(1..end).map(Text::new)
+    }
+}

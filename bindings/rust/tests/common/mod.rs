@@ -1,0 +1,40 @@
+//! Headers made of the fronts of their cards.
+#![allow(dead_code)]
+
+use widrekas::{Entry, Header, Value};
+
+/// A card, padded with spaces.
+pub fn card(front: &str) -> [u8; 80] {
+    let mut card = [b' '; 80];
+    card[..front.len()].copy_from_slice(front.as_bytes());
+    card
+}
+
+/// Cards, one behind the other.
+pub fn cards(fronts: &[&str]) -> Vec<u8> {
+    fronts.iter().flat_map(|front| card(front)).collect()
+}
+
+/// A header of cards and END.
+pub fn header(fronts: &[&str]) -> Header {
+    let mut bytes = cards(fronts);
+    bytes.extend(card("END"));
+    Header::parse(&bytes).unwrap()
+}
+
+/// The entry of a card K with a text from byte 10 on.
+pub fn entry(text: &str) -> Entry {
+    header(&[&format!("K       = {text}")]).get("K").unwrap()
+}
+
+/// Its value.
+pub fn value(text: &str) -> Value {
+    entry(text).value
+}
+
+/// The number of the refusal of such a card.
+pub fn refused(text: &str) -> u8 {
+    let mut bytes = cards(&[&format!("K       = {text}")]);
+    bytes.extend(card("END"));
+    Header::parse(&bytes).unwrap_err().number
+}

@@ -1,0 +1,236 @@
+//! Headers, by document 01's example, its edge table and its rules.
+
+mod common;
+
+use common::{card, cards, entry, header, refused, value};
+use widrekas::{Card, Header, Refusal, Value, LONGEST};
+
+#[test]
+fn the_example_of_document_01() {
+    let header = header(&["SIZE    = 12", "KIT     = 'FKM-&'", "CONTINUE  '75' / ring"]);
+    let lines: Vec<String> = header.entries().map(|(name, entry)| format!("{name} {}", entry.value)).collect();
+    assert_eq!(lines, ["SIZE 12", "KIT FKM-75"]);
+    assert_eq!((header.len(), header.is_empty()), (2, false));
+    let kit = header.get("KIT").unwrap();
+    assert_eq!(kit.value.as_str(), Some("FKM-75"));
+    assert_eq!(kit.comment.unwrap(), " ring");
+    assert_eq!(header.get("SIZE").unwrap().comment, None);
+    let shown = format!("{header:?}");
+    assert!(shown.starts_with('{') && shown.contains("\"KIT\": ") && shown.contains("\"FKM-75\""), "{shown}");
+    assert!(common::header(&[]).is_empty());
+}
+
+#[test]
+fn strings_at_the_edges() {
+    assert_eq!(value("''").as_str(), Some(""));
+    assert_eq!(value("'   '").as_str(), Some(" "));
+    assert_eq!(value("'O''RING'").as_str(), Some("O'RING"));
+    assert_eq!(value("'abc''").as_str(), Some("abc"));
+    assert_eq!(value("'a  '").as_str(), Some("a"));
+    assert_eq!(value("'  a'").as_str(), Some("  a"));
+    assert_eq!((refused("'"), refused("'a' b")), (3, 3));
+}
+
+#[test]
+fn numbers_at_the_edges() {
+    assert_eq!(value("9223372036854775807").as_i64(), Some(i64::MAX));
+    assert_eq!(value("-9223372036854775808"), Value::Integer(i64::MIN));
+    let Value::Float(beyond) = value("9223372036854775808") else { panic!("a decimal") };
+    assert_eq!((beyond.digits(), beyond.power(), beyond.is_negative()), (&b"9223372036854775808"[..], 0, false));
+    let Value::Float(decimal) = value("1.5D3") else { panic!("a decimal") };
+    assert_eq!((decimal.digits(), decimal.power()), (&b"15"[..], 2));
+    assert_eq!((value("1D"), value("TEXT")), (value("1E"), Value::Logical(true)));
+    let Value::Invalid(text) = value("1D") else { panic!("invalid") };
+    assert_eq!(text, "1E");
+}
+
+#[test]
+fn strings_joined_at_the_edges() {
+    let kit = |cards: &[&str]| header(cards).get("KIT").unwrap().value;
+    assert_eq!(kit(&["KIT     = 'FKM-&'", "COMMENT", "CONTINUE  '75'"]).as_str(), Some("FKM-75"));
+    assert_eq!(kit(&["KIT     = 'FKM &'", "CONTINUE  ''"]).as_str(), Some("FKM"));
+    assert_eq!(kit(&["KIT     = 'FKM-&'", "SIZE    = 5", "CONTINUE  '75'"]).as_str(), Some("FKM-&"));
+}
+
+#[test]
+fn the_six_kinds_and_what_they_answer() {
+    let all = ["7", "-2.5", "F", "'x'", "", "what / ever"].map(value);
+    assert_eq!(all.each_ref().map(Value::as_i64), [Some(7), None, None, None, None, None]);
+    assert_eq!(all.each_ref().map(Value::as_f64), [Some(7.0), Some(-2.5), None, None, None, None]);
+    assert_eq!(all.each_ref().map(Value::as_bool), [None, None, Some(false), None, None, None]);
+    assert_eq!(all.each_ref().map(Value::as_str), [None, None, None, Some("x"), None, None]);
+    assert_eq!(all.each_ref().map(Value::to_string)[..5], ["7", "-25e-1", "F", "x", ""]);
+    assert_eq!(all[4], Value::Undefined);
+    // An invalid value holds its whole raw text, the card's bytes from 10 on.
+    assert_eq!(all[5].to_string(), format!("{:70}", "what / ever"));
+    assert!(matches!(all[5], Value::Invalid(_)));
+}
+
+#[test]
+fn comments_and_units() {
+    let comment = |text: &str| entry(text).comment.map(|c| c.to_string());
+    assert_eq!(comment("5 / time").as_deref(), Some(" time"));
+    assert_eq!(comment("5 /").as_deref(), Some(""));
+    assert_eq!(comment("5"), None);
+    assert_eq!((comment("/ lost"), comment("what / lost")), (None, None));
+    // FITS Standard 4.0, section 4.3.2: the unit within brackets, where document 01 wants the bracket first.
+    let unit = |text: &str| entry(text).unit().map(|u| u.to_string());
+    assert_eq!(unit("4.2E1 /[km/s] rotation").as_deref(), Some("km/s"));
+    assert_eq!(unit("4.2E1 /[] none").as_deref(), Some(""));
+    assert_eq!(unit("4.2E1 / [km/s] a space before"), None);
+    assert_eq!(unit("4.2E1 /[km/s"), None);
+    assert_eq!((unit("4.2E1 /"), unit("4.2E1")), (None, None));
+    // Comments are joined by byte 10.
+    let header = header(&["KIT     = 'a&' /[mm]", "CONTINUE  'b&'", "CONTINUE  'c' / d"]);
+    let kit = header.get("KIT").unwrap();
+    assert_eq!(kit.comment.as_ref().unwrap(), "[mm]\n d");
+    assert_eq!(kit.unit().unwrap(), "mm");
+}
+
+#[test]
+fn replaced_bytes_are_kept_as_127() {
+    let mut bytes = cards(&["K       = 'a.b' /c.d", "END"]);
+    for byte in &mut bytes {
+        if *byte == b'.' {
+            *byte = 9;
+        }
+    }
+    let entry = Header::parse(&bytes).unwrap().get("K").unwrap();
+    assert_eq!(entry.value.as_str(), Some("a\u{7f}b"));
+    assert_eq!(entry.comment.unwrap().as_bytes(), b"c\x7fd");
+}
+
+#[test]
+fn names_in_their_order() {
+    let header =
+        header(&["B       = 1", "HIERARCH  ESO  DET = 2", "A       = 3", "B       = 4", "XTENSION= 'IMAGE   '"]);
+    let names: Vec<&str> = header.keywords().filter_map(|name| name.to_str()).collect();
+    assert_eq!(names, ["B", "ESO.DET", "A", "XTENSION"]);
+    assert_eq!(header.keywords().len(), 4);
+    // Of equal names the last entry counts.
+    assert_eq!(header.get("B").unwrap().value, Value::Integer(4));
+    assert_eq!(header.get(b"ESO.DET").unwrap().value, Value::Integer(2));
+    assert_eq!(header.get(String::from("XTENSION")).unwrap().value.as_str(), Some("IMAGE"));
+    assert_eq!((header.get("ESO DET"), header.get("a"), header.get("")), (None, None, None));
+}
+
+#[test]
+fn all_classes_of_cards() {
+    let header = header(&[
+        "K       = 'a&' / b",
+        "CONTINUE  'c' / d",
+        "XTENSION= 'IMAGE   ' / lost",
+        "COMMENT   e",
+        "HISTORY f",
+        "HIERARCH G H = 1",
+        "",
+        "        i",
+        "NO VALUE",
+    ]);
+    let read: Vec<Card> = header.cards().collect();
+    assert_eq!(read.len(), 10);
+    let Card::Value { name, entry } = &read[0] else { panic!("a value") };
+    assert_eq!((name.to_str(), entry.value.as_str()), (Some("K"), Some("a&")));
+    let Card::Continuation { string, comment } = &read[1] else { panic!("a CONTINUE card") };
+    assert_eq!((string.to_str(), comment.as_ref().unwrap().to_str()), (Some("c"), Some(" d")));
+    assert!(matches!(&read[2], Card::Xtension(text) if *text == "IMAGE"));
+    assert!(matches!(&read[3], Card::Comment(text) if *text == "  e"));
+    assert!(matches!(&read[4], Card::History(text) if *text == "f"));
+    let Card::Hierarch { name, entry } = &read[5] else { panic!("a HIERARCH card") };
+    assert_eq!((name.to_str(), entry.value.as_i64()), (Some("G.H"), Some(1)));
+    assert_eq!(read[6], Card::Space);
+    assert!(matches!(&read[7], Card::Comment(text) if *text == "i"));
+    assert!(matches!(&read[8], Card::Undefined(text) if *text == *format!("{:80}", "NO VALUE")));
+    assert_eq!(read[9], Card::End);
+    assert_eq!(Card::read(&card("END     of it")), Ok(Card::End));
+    assert_eq!(header.as_bytes().len(), 800);
+}
+
+#[test]
+fn refusals_of_headers_with_their_cards() {
+    let refusal = |fronts: &[&str]| Header::parse(&cards(fronts)).unwrap_err();
+    let at = |number: u8, card: usize| Refusal { number, card: Some(card) };
+    assert_eq!(refusal(&["A       = 1", "B       = 5 \u{b}6", "END"]), at(2, 1));
+    assert_eq!(refusal(&["A       = '", "END"]), at(3, 0));
+    assert_eq!(refusal(&["A       = 1", "", "CONTINUE  a'", "END"]), at(4, 2));
+    assert_eq!(refusal(&["A       = (1, 2)", "END"]), at(5, 0));
+    assert_eq!(refusal(&["HIERARCH A", "END"]), at(6, 0));
+    assert_eq!(refusal(&["HIERARCH  = 1", "END"]), at(7, 0));
+    assert_eq!(refusal(&["XTENSION= IMAGE", "END"]), at(8, 0));
+    assert_eq!(refusal(&["XTENSION= '", "END"]), at(8, 0));
+    assert_eq!(refusal(&["A       = 1", "B       = 2"]), at(10, 2));
+    let mut high = cards(&["A       = 1", "B       = 'x'", "END"]);
+    high[80 + 70] = 128;
+    assert_eq!(Header::parse(&high), Err(at(1, 1)));
+    for bytes in [vec![], vec![b' '; 79], vec![b' '; 81], vec![b' '; LONGEST + 80]] {
+        assert_eq!(Header::parse(&bytes), Err(at(9, 0)));
+    }
+    assert_eq!(Card::read(&card("A       = (1")), Err(Refusal { number: 5, card: None }));
+}
+
+#[test]
+fn every_refusal_has_its_meaning() {
+    let said = Refusal { number: 3, card: Some(7) }.to_string();
+    assert!(said.starts_with("refused 3 at 7: the value text begins with a quote"), "{said}");
+    assert_eq!(
+        Refusal { number: Refusal::NAME_NOT_FOUND, card: None }.to_string(),
+        "refused 12: no entry bears the name"
+    );
+    let mut all: Vec<&str> = (1..=18).map(|number| Refusal { number, card: None }.meaning()).collect();
+    all.sort_unstable();
+    all.dedup();
+    assert_eq!(all.len(), 18);
+    assert_eq!(Refusal { number: 19, card: None }.meaning(), "no such refusal");
+    let error: Box<dyn std::error::Error> = Box::new(Refusal { number: 9, card: Some(0) });
+    assert!(error.to_string().starts_with("refused 9 at 0: "));
+}
+
+#[test]
+fn whole_files() {
+    let mut file = cards(&["SIZE    = 12", "END"]);
+    file.extend(vec![0xff; 3 * LONGEST + 17]);
+    assert_eq!(Header::parse(&file).unwrap_err().number, 9);
+    let header = Header::parse_file(&file).unwrap();
+    assert_eq!((header.get("SIZE").unwrap().value, header.as_bytes().len()), (Value::Integer(12), 160));
+    // What is left of a card at the end is cut off.
+    assert_eq!(Header::parse_file(&file[..160 + 79]), Ok(header));
+    assert_eq!(Header::parse_file(&file[..159]).unwrap_err(), Refusal { number: 10, card: Some(1) });
+    assert_eq!(Header::parse_file(b"SIMPLE").unwrap_err(), Refusal { number: 9, card: Some(0) });
+    // END may be the last of 720 cards, and not the one behind them.
+    for (before, read) in [(719, true), (720, false)] {
+        let mut file = [card(""); 720][..before.min(720)].concat();
+        file.extend(card("END"));
+        assert_eq!(Header::parse_file(&file).is_ok(), read);
+    }
+}
+
+#[test]
+fn the_longest_joined_string() {
+    let mut fronts = vec![format!("LONG    = '{}&' /{}", "a".repeat(59), "b".repeat(6))];
+    for _ in 1..719 {
+        fronts.push(format!("CONTINUE  '{}&' /{}", "c".repeat(59), "d".repeat(6)));
+    }
+    let header = header(&fronts.iter().map(String::as_str).collect::<Vec<_>>());
+    let long = header.get("LONG").unwrap();
+    assert_eq!(long.value.as_str(), Some(format!("{}{}&", "a".repeat(59), "c".repeat(59 * 718)).as_str()));
+    assert_eq!(long.comment.unwrap(), *format!("bbbbbb{}", "\ndddddd".repeat(718)));
+    // A long comment beside a short text, too.
+    let mut fronts = vec!["LONG    = '&'".to_string()];
+    fronts.extend((0..20).map(|_| format!("CONTINUE  '&' /{}", "e".repeat(64))));
+    let long = common::header(&fronts.iter().map(String::as_str).collect::<Vec<_>>()).get("LONG").unwrap();
+    assert_eq!(long.value.as_str(), Some("&"));
+    assert_eq!(long.comment.unwrap().as_bytes().len(), 20 * 65 - 1);
+}
+
+#[test]
+fn headers_go_between_threads() {
+    fn shared<T: Send + Sync + Clone + 'static>(_: &T) {}
+    let one = header(&["KIT     = 'a'"]);
+    shared(&one);
+    assert_eq!(one.len(), 1);
+    let other = header(&["KIT     = 'a'"]);
+    assert!(one == other && one == one.clone() && one != header(&["KIT     = 'b'"]));
+    let kit = std::thread::spawn(move || other.get("KIT")).join().unwrap();
+    assert_eq!(kit, one.get("KIT"));
+    assert_eq!(widrekas::version(), 1);
+}

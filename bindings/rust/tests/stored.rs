@@ -1,0 +1,69 @@
+//! The stored headers of `crates/replay`, whose expected lines are the published Rust's answers as `cards` prints them.
+
+use std::fs;
+use std::path::Path;
+use widrekas::{Header, Value};
+
+fn stored(name: &str) -> Vec<u8> {
+    let path = Path::new(env!("CARGO_MANIFEST_DIR")).join("../../crates/replay").join(name);
+    fs::read(&path).unwrap_or_else(|why| panic!("{}: {why}", path.display()))
+}
+
+/// The next stored header: the number of its cards in two bytes, then for each a length and so many bytes, which spaces fill to 80.
+fn next(stored: &mut &[u8]) -> Option<Vec<u8>> {
+    let (count, mut rest) = stored.split_first_chunk::<2>()?;
+    let mut bytes = Vec::new();
+    for _ in 0..u16::from_be_bytes(*count) {
+        let (&length, front) = rest.split_first()?;
+        let (front, behind) = front.split_at(usize::from(length));
+        let end = bytes.len() + 80;
+        bytes.extend(front);
+        bytes.resize(end, b' ');
+        rest = behind;
+    }
+    *stored = rest;
+    Some(bytes)
+}
+
+/// The letter of a value's kind.
+fn letter(value: &Value) -> char {
+    match value {
+        Value::Integer(_) => 'I',
+        Value::Float(_) => 'D',
+        Value::Logical(_) => 'L',
+        Value::String(_) => 'S',
+        Value::Undefined => 'U',
+        Value::Invalid(_) => 'X',
+    }
+}
+
+/// What `cards` prints of a header.
+fn lines(bytes: &[u8]) -> String {
+    let header = match Header::parse(bytes) {
+        Ok(header) => header,
+        Err(refusal) => return format!("refused {} at {}\n", refusal.number, refusal.card.unwrap()),
+    };
+    let mut all = String::new();
+    for (name, entry) in header.entries() {
+        let reading = entry.value.to_string();
+        let space = if reading.is_empty() { "" } else { " " };
+        all += &format!("{name} {}{space}{reading}\n", letter(&entry.value));
+        assert_eq!(header.get(name), Some(entry));
+    }
+    all + &format!("{} keywords\n", header.len())
+}
+
+#[test]
+fn stored_headers_are_read_as_by_the_published_rust() {
+    let (headers, expected) = (stored("stdin"), stored("stdout"));
+    let (mut left, mut expected, mut many) = (&headers[..], &expected[..], 0);
+    while let Some(bytes) = next(&mut left) {
+        let said = lines(&bytes);
+        let Some(rest) = expected.strip_prefix(said.as_bytes()) else {
+            panic!("header {many}: {said:?}, expected {}", expected[..200.min(expected.len())].escape_ascii());
+        };
+        expected = rest;
+        many += 1;
+    }
+    assert!(left.is_empty() && expected.is_empty() && many > 3_000, "{many} headers");
+}

@@ -1,2 +1,0 @@
--- What the contracts of `abi` cite.
-pub mod Records

@@ -1,0 +1,3 @@
+-- Laws that the proofs of `card_record` share.
+pub mod Laying
+pub mod Fitting

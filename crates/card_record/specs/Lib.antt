@@ -1,0 +1,2 @@
+-- What the contracts of `card_record` cite.
+pub mod Records

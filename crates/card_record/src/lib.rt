@@ -1,0 +1,251 @@
+// A card as the C boundary gives it: a record of bytes and a number.
+ghost use mathlib.Core.Path.{_≡_};
+ghost use mathlib.Core.List.{_++_};
+ghost use mathlib.Core.Bool.{false};
+ghost use lib.IntN.{pos};
+ghost use lib.ListN.{length};
+ghost use Rattle.value.specs.Units.{unitOf};
+ghost use Rattle.card_record.specs.Records.{told, classNumber, sizeTold, valueTold, cardTold, bitOf, byteOf, headOf, recordOf};
+ghost use Rattle.card_record.specs.Records.{said, recordAfter, numberAfter, answerOf, leftOf, numberLeft, unitEnd};
+use card::Card;
+use card::CardAnswer;
+use card::CardRead;
+use numbers::Size;
+use numbers::Value;
+use refusal::Refusal;
+use text::Text;
+use value::UnitPlace;
+
+// What a card's value comes to in numbers: its kind, whether it is true or negative, and its integer or power of ten.
+pub struct Told {
+    pub kind: u8,
+    pub flag: bool,
+    pub number: i64,
+}
+
+// The bytes of a card.
+const CARD: usize = 80;
+
+// The bytes of a card's record, and where its texts stand, 80 bytes each.
+const RECORD: usize = 248;
+
+const NAME: usize = 8;
+
+const TEXT: usize = 88;
+
+const COMMENT: usize = 168;
+
+// The answer to a slice of another length than the one asked for: no refusal has this number.
+pub const WRONG_LENGTH: u8 = 255;
+
+// Reads a card of 80 bytes into a record of 248 bytes and a number, and answers 0.
+// Otherwise it answers the refusal's number, or 255 where a slice has another length, and both stay as they are.
+pub fn read_into(card: &[u8], out: &mut [u8], number: &mut i64) -> u8
+    ensures { λ r. ⌜ r ≡ answerOf (now (card .entry)) (now (out .entry)) ⌝ }
+    ensures { λ _. ⌜ now (out .exit) ≡ leftOf (now (card .entry)) (now (out .entry)) ⌝ }
+    ensures { λ _. ⌜ now (number .exit) ≡ numberLeft (now (card .entry)) (now (out .entry)) (now (number .entry)) ⌝ }
+{
+    if card.len() != CARD {
+        return WRONG_LENGTH;
+    }
+    if out.len() != RECORD {
+        return WRONG_LENGTH;
+    }
+    let copy = text::text_of(card);
+    let bytes = copy.bytes;
+    let read = card::read_card(&bytes);
+    write_card(read, out, number)
+}
+
+// The end of the unit that a comment names, which starts at byte 1; 0 where it names none.
+pub fn unit_end(comment: &[u8]) -> usize
+    ensures { λ r. ⌜ r ≡ unitEnd (unitOf (now (comment .entry))) ⌝ }
+{
+    let place = value::unit(comment);
+    match place {
+        UnitPlace::Between(_, end) => end,
+        UnitPlace::Nowhere => 0,
+    }
+}
+
+// ---- a card in numbers
+
+// The number of a card's class.
+fn class_number(card: Card) -> u8
+    ensures { λ r. ⌜ r ≡ classNumber card ⌝ }
+{
+    match card {
+        Card::Value(_) => 1,
+        Card::Continuation => 2,
+        Card::Xtension => 3,
+        Card::Comment => 4,
+        Card::History => 5,
+        Card::Hierarch(_) => 6,
+        Card::Space => 7,
+        Card::End => 8,
+        Card::Undefined => 9,
+    }
+}
+
+fn card_told(card: Card) -> Told
+    ensures { λ r. ⌜ r ≡ cardTold card ⌝ }
+{
+    match card {
+        Card::Value(v) => value_told(v),
+        Card::Hierarch(v) => value_told(v),
+        Card::Continuation => no_value(),
+        Card::Xtension => no_value(),
+        Card::Comment => no_value(),
+        Card::History => no_value(),
+        Card::Space => no_value(),
+        Card::End => no_value(),
+        Card::Undefined => no_value(),
+    }
+}
+
+// A card without a value.
+fn no_value() -> Told
+    ensures { λ r. ⌜ r ≡ told 0 false (pos 0) ⌝ }
+{
+    Told {
+        kind: 0,
+        flag: false,
+        number: 0,
+    }
+}
+
+pub fn value_told(value: Value) -> Told
+    ensures { λ r. ⌜ r ≡ valueTold value ⌝ }
+{
+    match value {
+        Value::Integer(z) => Told {
+            kind: 1,
+            flag: false,
+            number: z,
+        },
+        Value::Float(minus, size) => size_told(minus, size),
+        Value::Logical(t) => Told {
+            kind: 5,
+            flag: t,
+            number: 0,
+        },
+        Value::String => Told {
+            kind: 6,
+            flag: false,
+            number: 0,
+        },
+        Value::Undefined => Told {
+            kind: 7,
+            flag: false,
+            number: 0,
+        },
+        Value::Invalid => Told {
+            kind: 8,
+            flag: false,
+            number: 0,
+        },
+    }
+}
+
+fn size_told(minus: bool, size: Size) -> Told
+    ensures { λ r. ⌜ r ≡ sizeTold minus size ⌝ }
+{
+    match size {
+        Size::Finite(power) => Told {
+            kind: 2,
+            flag: minus,
+            number: power,
+        },
+        Size::Infinite => Told {
+            kind: 3,
+            flag: minus,
+            number: 0,
+        },
+        Size::Nan => Told {
+            kind: 4,
+            flag: minus,
+            number: 0,
+        },
+    }
+}
+
+// ---- the record
+
+// 1 for true and 0 for false.
+pub fn bit(t: bool) -> u8
+    ensures { λ r. ⌜ r ≡ bitOf t ⌝ }
+{
+    if t { 1 } else { 0 }
+}
+
+// A length in a byte.
+fn byte(n: usize) -> u8
+    ensures { λ r. ⌜ r ≡ byteOf n ⌝ }
+{
+    if n < 255 { n as u8 } else { 255 }
+}
+
+// The eight numbers in front of a record.
+fn head(read: CardRead, class: u8, value: Told) -> [u8; 8]
+    ensures { λ r. ⌜ r ≡ headOf read class value ⌝ }
+{
+    let name = read.name;
+    let text = read.text;
+    let comment = read.comment;
+    [
+        class,
+        value.kind,
+        bit(value.flag),
+        bit(read.commented),
+        byte(name.len),
+        byte(text.len),
+        byte(comment.len),
+        0,
+    ]
+}
+
+// A card's record.
+fn write_record(card: Card, read: CardRead, out: &mut [u8])
+    requires { ⌜ length (now out) ≡ 248 ⌝ }
+    ensures { λ _. ⌜ now (out .exit) ≡ recordOf card read ⌝ }
+{
+    let front = head(read, class_number(card), card_told(card));
+    let name = read.name;
+    let name_bytes = name.bytes;
+    let text = read.text;
+    let text_bytes = text.bytes;
+    let comment = read.comment;
+    let comment_bytes = comment.bytes;
+    fill(out, &front, &name_bytes, &text_bytes, &comment_bytes);
+}
+
+// What a card was read as, in lent memory.
+fn write_card(read: CardRead, out: &mut [u8], number: &mut i64) -> u8
+    requires { ⌜ length (now out) ≡ 248 ⌝ }
+    ensures { λ r. ⌜ r ≡ said (read .answer) ⌝ }
+    ensures { λ _. ⌜ now (out .exit) ≡ recordAfter (read .answer) read (now (out .entry)) ⌝ }
+    ensures { λ _. ⌜ now (number .exit) ≡ numberAfter (read .answer) (now (number .entry)) ⌝ }
+{
+    let answer = read.answer;
+    match answer {
+        CardAnswer::Refused(why) => why.number(),
+        CardAnswer::Read(c) => {
+            write_record(c, read, out);
+            let value = card_told(c);
+            let z = value.number;
+            *number = z;
+            0
+        }
+    }
+}
+
+// A record's four parts, one behind the other.
+fn fill(out: &mut [u8], front: &[u8; 8], name: &[u8; 80], text: &[u8; 80], comment: &[u8; 80])
+    requires { ⌜ length (now out) ≡ 248 ⌝ }
+    ensures { λ _. ⌜ now (out .exit) ≡ now (front .entry) ++ now (name .entry) ++ now (text .entry) ++ now (comment .entry) ⌝ }
+{
+    overlay::put_at(front, out, 0);
+    overlay::put_at(name, out, NAME);
+    overlay::put_at(text, out, TEXT);
+    overlay::put_at(comment, out, COMMENT);
+}

@@ -1,0 +1,2 @@
+-- What the contracts of `header_record` cite.
+pub mod Headers

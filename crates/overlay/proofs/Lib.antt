@@ -1,0 +1,2 @@
+-- Laws of a list laid over another.
+pub mod Laying

@@ -1,0 +1,2 @@
+-- What the contract of `overlay` cites.
+pub mod Overlay

@@ -1,0 +1,214 @@
+// Reads stored tiles on standard input, one behind the other, decodes each whole and block by block, and prints three lines of it: the
+// whole bytes used; the pixels; and the whole bytes used after each block. Where the tile is refused, the refusal's number and the
+// number of pixels written stand in place of the bytes. The expected output is that of the published Rust (oracle/README.md).
+// A stored tile is its width in a byte, then nx, nblock and the tile's length in three bytes each, the highest first, then the tile.
+ghost use mathlib.Core.Path.{_≡_};
+ghost use mathlib.Core.Bool.{true};
+ghost use Prim.Native.Nat.{_+_, _/_, _<_};
+ghost use lib.ListN.{take};
+use libc::STDIN_FILENO;
+use refusal::Refusal;
+use rice::Cursor;
+use rice::Decoded;
+use rice::Opened;
+use rice::Stepped;
+use tile_printing::put;
+use tile_printing::put_number;
+use tile_printing::put_pixels;
+use tile_printing::put_space;
+
+// The most pixels of a stored tile.
+const PIXELS: usize = 256;
+
+// More tiles than the list has.
+const TILES: usize = 10000;
+
+// The bytes in front of a stored tile.
+const HEAD: usize = 10;
+
+// The numbers in front of a stored tile.
+struct Stored {
+    bits: usize,
+    nx: usize,
+    nblock: usize,
+    len: usize,
+}
+
+// The next stored tile, or none where the list ends.
+enum Next {
+    Tile(Stored),
+    End,
+}
+
+fn main() {
+    let mut left = TILES;
+    'tiles: while 0 < left {
+        left -= 1;
+        let Next::Tile(t) = next_tile() else {
+            break 'tiles;
+        };
+        replay(t);
+    }
+}
+
+fn next_tile() -> Next {
+    let mut head = [0u8; 10];
+    let got = io::read_full(STDIN_FILENO, &mut head);
+    if got < HEAD {
+        return Next::End;
+    }
+    Next::Tile(Stored {
+        bits: wide(head[0]),
+        nx: three(head[1], head[2], head[3]),
+        nblock: three(head[4], head[5], head[6]),
+        len: three(head[7], head[8], head[9]),
+    })
+}
+
+// A number of three bytes, the highest first.
+fn three(a: u8, b: u8, c: u8) -> usize {
+    wide(a) * 65536 + wide(b) * 256 + wide(c)
+}
+
+fn wide(b: u8) -> usize
+    ensures { λ r. ⌜ r < 256 ⌝ }
+{
+    b as usize
+}
+
+// A stored tile and its pixels, in fresh memory.
+fn replay(t: Stored) {
+    let mut bytes = [0u8; 2000];
+    let mut whole = [0i32; 256];
+    let mut parts = [0i32; 256];
+    put_tile(t, &mut bytes, &mut whole, &mut parts);
+}
+
+// Reads a tile into lent memory and prints its three lines.
+fn put_tile(t: Stored, bytes: &mut [u8], whole: &mut [i32], parts: &mut [i32]) {
+    let len = t.len;
+    let nx = t.nx;
+    if bytes.len() < len {
+        put(b"too long\n");
+        return;
+    }
+    if whole.len() < nx {
+        put(b"too many pixels\n");
+        return;
+    }
+    if parts.len() < nx {
+        put(b"too many pixels\n");
+        return;
+    }
+    io::read_full(STDIN_FILENO, &mut bytes[..len]);
+    let tile = &bytes[..len];
+    put_whole(tile, t, &mut whole[..nx]);
+    put_blocks(tile, t, &mut parts[..nx]);
+    if !same(whole, parts) {
+        put(b" apart");
+    }
+    put(b"\n");
+}
+
+// ---- whole
+
+fn put_whole(tile: &[u8], t: Stored, pixels: &mut [i32]) {
+    put(b"whole");
+    match rice::decode(tile, t.nx, t.nblock, t.bits, pixels) {
+        Decoded::Whole(used) => {
+            put_bytes(used);
+            put(b"\npixels");
+            put_pixels(pixels);
+        }
+        Decoded::Refused(why, written) => {
+            put_refused(why, written);
+            put(b"\npixels");
+            put_pixels(first_of(pixels, written));
+        }
+    }
+    put(b"\n");
+}
+
+// The first n pixels: all where there are no more.
+fn first_of(pixels: &[i32], n: usize) -> &[i32]
+    ensures { λ r. ⌜ now r ≡ take n (now (pixels .entry)) ⌝ }
+{
+    if n < pixels.len() {
+        return &pixels[..n];
+    }
+    pixels
+}
+
+// ---- block by block
+
+fn put_blocks(tile: &[u8], t: Stored, pixels: &mut [i32]) {
+    put(b"blocks");
+    match rice::open(tile, t.nx, t.nblock, t.bits) {
+        Opened::Refused(why) => put_refused(why, 0),
+        Opened::At(start) => put_steps(start, tile, t, pixels),
+    }
+}
+
+// Step after step: a tile has no more blocks than pixels.
+fn put_steps(start: Cursor, tile: &[u8], t: Stored, pixels: &mut [i32]) {
+    let mut c = start;
+    let mut left = PIXELS + 1;
+    while 0 < left {
+        left -= 1;
+        match c.step(tile, t.nx, t.nblock, t.bits, pixels) {
+            Stepped::Done => {
+                return;
+            }
+            Stepped::Refused(why, written) => {
+                put_refused(why, written);
+                return;
+            }
+            Stepped::Next(next) => {
+                put_bytes(next.bit);
+                c = next;
+            }
+        }
+    }
+}
+
+// Whether two rows of pixels are the same.
+fn same(a: &[i32], b: &[i32]) -> bool
+    ensures { λ r. ⌜ (r ≡ true → now (a .entry) ≡ now (b .entry)) ⌝ }
+{
+    if a.len() != b.len() {
+        return false;
+    }
+    let mut i = 0;
+    while i < a.len() {
+        if a[i] != b[i] {
+            return false;
+        }
+        i += 1;
+    }
+    true
+}
+
+// ---- numbers
+
+fn put_bytes(bits: usize) {
+    put_space();
+    put_number(whole_bytes(bits));
+}
+
+// The bytes that hold so many bits.
+fn whole_bytes(bits: usize) -> usize
+    ensures { λ r. ⌜ r ≡ (bits + 7) / 8 ⌝ }
+{
+    if bits % 8 == 0 {
+        bits / 8
+    } else {
+        bits / 8 + 1
+    }
+}
+
+fn put_refused(why: Refusal, written: usize) {
+    put(b" refused ");
+    put_number(why.number() as usize);
+    put_space();
+    put_number(written);
+}

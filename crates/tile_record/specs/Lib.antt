@@ -1,0 +1,2 @@
+-- What the contracts of `tile_record` cite.
+pub mod Tiles
