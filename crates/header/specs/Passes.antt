@@ -18,7 +18,7 @@ use Rattle.card.specs.declared.CardAnswer.the-variants as A
 use Rattle.card.specs.declared.CardRead.{CardRead}
 use Rattle.joining.specs.Words.{Words, joinWords}
 use Rattle.joining.specs.Lookup.{joinOn}
-use Rattle.joining.specs.Roles.{Role, entry, more, neutral, last, isString, commentOf, heldOf}
+use Rattle.joining.specs.Roles.{Held, Role, entry, more, neutral, last, isString, commentOf, heldOf}
 use Rattle.header.specs.declared.Header.{Header}
 use Rattle.header.specs.declared.Header.the-variants.{Accepted, Refused}
 use Rattle.header.specs.declared.LookupAnswer.{LookupAnswer}
@@ -84,6 +84,10 @@ refusedHeader (Refused why i) = L.Header why i
 -- ---- words in scratch
 abbrev pub wordsIn : Bool → Lengths → List ℕ → List ℕ → Words
 wordsIn joins l text comment = record { text = take (l .text) text; comment = commentOf (l .commented) (take (l .comment) comment); joins = joins }
+
+-- an entry with the words that stand in scratch
+abbrev pub heldIn : Value → CardRead → Lengths → List ℕ → List ℕ → Held
+heldIn value read l text comment = record { value = value; digits = heldOf value false read .digits; words = wordsIn false l text comment }
 
 -- the words of an entry's own card stand in scratch
 pub record Begun (value : Value) (read : CardRead) (r : Lengths) (texts comments : List ℕ) : Type 0 where

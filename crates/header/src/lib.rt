@@ -11,7 +11,7 @@ ghost use Rattle.joining.specs.Roles.{neutral, hasText, hasDigits, isString, co
 ghost use Rattle.joining.specs.Lookup.{joinOn, whole};
 ghost use Rattle.header.specs.Reading.{rolesOf, isBadLength, isEnd, headerOf};
 ghost use Rattle.header.specs.Answers.{unread, given, lookupOf, entryOf, entryHead, written, namelessOf, entryNameOf};
-ghost use Rattle.header.specs.Passes.{Begun, Joined, Room, JoinedOn, kindOf, refusalIn, foundAt, scanOf, refusedScan, refusedHeader, wordsIn};
+ghost use Rattle.header.specs.Passes.{Begun, Joined, Room, JoinedOn, kindOf, refusalIn, foundAt, scanOf, refusedScan, refusedHeader, wordsIn, heldIn};
 use card::Card;
 use card::CardAnswer;
 use card::CardRead;
@@ -518,8 +518,31 @@ fn comment_length(held: Lengths) -> usize
     0
 }
 
-// An entry of card i, joined and written to the lent buffers.
+// An entry, joined and read into the lent buffers: with the CONTINUE cards behind it where its text is open.
 fn read_held(
+    header: &[u8],
+    i: usize,
+    value: Value,
+    joins: bool,
+    read: CardRead,
+    text: &mut [u8],
+    comment: &mut [u8],
+) -> Looked
+    requires { ⌜ (i < length (now header) / 80) × (length (now header) / 80 ≤ 720) ⌝ }
+    ensures { λ r. ⌜ r ≡ written (whole (heldOf value joins read) (drop (i + 1) (rolesOf (now (header .entry))))) (now (text .entry)) (now (comment .entry)) .answer ⌝ }
+    ensures { λ _. ⌜ now (text .exit) ≡ written (whole (heldOf value joins read) (drop (i + 1) (rolesOf (now (header .entry))))) (now (text .entry)) (now (comment .entry)) .text ⌝ }
+    ensures { λ _. ⌜ now (comment .exit) ≡ written (whole (heldOf value joins read) (drop (i + 1) (rolesOf (now (header .entry))))) (now (text .entry)) (now (comment .entry)) .comment ⌝ }
+{
+    let own = read.text;
+    let bytes = own.bytes;
+    if is_open(joins, text::first_of(&bytes, own.len)) {
+        return read_joined(header, i, value, joins, read, text, comment);
+    }
+    read_alone(value, read, text, comment)
+}
+
+// An entry and the CONTINUE cards that are joined to it.
+fn read_joined(
     header: &[u8],
     i: usize,
     value: Value,
@@ -537,8 +560,38 @@ fn read_held(
     let mut comments = [0u8; 58320];
     let start = first_words(value, read, &mut texts, &mut comments);
     let end = join_on(header, i, joins, start, &mut texts, &mut comments);
-    let n = end.text;
-    let m = comment_length(end);
+    give(value, read, end, &texts, &comments, text, comment)
+}
+
+// An entry by its own card.
+fn read_alone(value: Value, read: CardRead, text: &mut [u8], comment: &mut [u8]) -> Looked
+    ensures { λ r. ⌜ r ≡ written (heldOf value false read) (now (text .entry)) (now (comment .entry)) .answer ⌝ }
+    ensures { λ _. ⌜ now (text .exit) ≡ written (heldOf value false read) (now (text .entry)) (now (comment .entry)) .text ⌝ }
+    ensures { λ _. ⌜ now (comment .exit) ≡ written (heldOf value false read) (now (text .entry)) (now (comment .entry)) .comment ⌝ }
+{
+    let mut texts = [0u8; 80];
+    let mut comments = [0u8; 80];
+    let own = first_words(value, read, &mut texts, &mut comments);
+    give(value, read, own, &texts, &comments, text, comment)
+}
+
+// The words that stand in scratch, written where both lent buffers hold them.
+fn give(
+    value: Value,
+    read: CardRead,
+    held: Lengths,
+    texts: &[u8],
+    comments: &[u8],
+    text: &mut [u8],
+    comment: &mut [u8],
+) -> Looked
+    requires { ⌜ (held .text ≤ length (now texts)) × (held .comment ≤ length (now comments)) ⌝ }
+    ensures { λ r. ⌜ r ≡ written (heldIn value read held (now (texts .entry)) (now (comments .entry))) (now (text .entry)) (now (comment .entry)) .answer ⌝ }
+    ensures { λ _. ⌜ now (text .exit) ≡ written (heldIn value read held (now (texts .entry)) (now (comments .entry))) (now (text .entry)) (now (comment .entry)) .text ⌝ }
+    ensures { λ _. ⌜ now (comment .exit) ≡ written (heldIn value read held (now (texts .entry)) (now (comments .entry))) (now (text .entry)) (now (comment .entry)) .comment ⌝ }
+{
+    let n = held.text;
+    let m = comment_length(held);
     if text.len() < n {
         return unread(LookupAnswer::Refused(Refusal::BufferShort));
     }
@@ -550,7 +603,7 @@ fn read_held(
     Looked {
         answer: LookupAnswer::Found(value),
         digits: digits_of(value, read),
-        commented: end.commented,
+        commented: held.commented,
         text: n,
         comment: m,
     }

@@ -12,7 +12,7 @@ use Rattle.joining.specs.Belonging.{Entry, Open, ended, idle, held, Effe
 use Rattle.joining.proofs.Names.{answer, or-none}
 
 -- nothing is joined to a value that is not open
-joinOn-shut : (w : Words) → opens w ≡ false → (h : List Role) → joinOn w h ≡ w
+pub joinOn-shut : (w : Words) → opens w ≡ false → (h : List Role) → joinOn w h ≡ w
 unfolding joinOn
 joinOn-shut w e [] = refl
 joinOn-shut w e (entry n v ∷ h) = refl
