@@ -53,6 +53,14 @@ fn part(record: &[u8; RECORD], at: usize, len: u8) -> &[u8] {
     record.get(at..at + usize::from(len)).unwrap_or_default()
 }
 
+/// The name with which a card is read; empty where it is refused.
+pub(crate) fn name(card: &[u8; CARD]) -> Text {
+    let mut record = [0; RECORD];
+    boundary::card(card, &mut record, &mut 0);
+    let [_, _, _, _, len, ..] = record;
+    Text::new(part(&record, NAME, len))
+}
+
 impl Card {
     /// Reads a card. A refusal is one of 1 to 8 and carries no card number, since the card stands alone.
     pub fn read(card: &[u8; CARD]) -> Result<Card, Refusal> {

@@ -1,7 +1,7 @@
 //! Headers: the list of their names, and the entry of each.
 
 use crate::boundary::{self, Told, CARD, PLACES};
-use crate::card::Card;
+use crate::card::{self, Card};
 use crate::refusal::Refusal;
 use crate::text::Text;
 use crate::value::{Entry, Value};
@@ -20,17 +20,20 @@ const ADDED: usize = CARD + 1;
 /// The refusal that says that a text wants more room.
 const BUFFER_SHORT: u8 = 13;
 
-/// A name and the card of its last entry.
+/// The names in the order of their first cards.
 #[derive(Clone)]
-struct Listed {
-    name: Text,
-    last: usize,
+struct List {
+    names: Vec<Text>,
+    /// The card of each name's last entry.
+    last: Vec<usize>,
+    /// The places, in the order of the names' bytes.
+    sorted: Vec<usize>,
 }
 
 /// A header that was accepted: its cards up to END.
 ///
-/// Parsing tests every card, in one pass. A value is read when it is asked for, and the list of names is made when it is first
-/// asked for, which takes longer than a pass; [`Header::get`] does without it.
+/// Parsing tests every card, in one pass. A value is read when it is asked for: the first name that is asked for is looked up in
+/// another pass, and with the second the list of names is made, by which every further one is found at once.
 ///
 /// ```
 /// # fn main() -> Result<(), widrekas::Refusal> {
@@ -50,33 +53,20 @@ struct Listed {
 #[derive(Clone)]
 pub struct Header {
     cards: Vec<u8>,
-    /// The names of the HIERARCH cards, by the cards' numbers.
-    dotted: Vec<(usize, Text)>,
-    list: OnceLock<Vec<Listed>>,
+    /// Set once a name was asked for.
+    asked: OnceLock<()>,
+    list: OnceLock<List>,
 }
 
-/// The bytes of a card's keyword, trimmed: its name, where it is an entry and no HIERARCH card.
-fn keyword(card: &[u8]) -> &[u8] {
-    card.get(..8).unwrap_or_default().trim_ascii()
-}
-
-/// The cards up to the first END; all where there is none.
+/// The cards up to the first END, and with it; all of them where it is not found. Nothing behind END is looked at, so this saves
+/// memory and decides nothing.
 fn up_to_end(bytes: &[u8]) -> &[u8] {
-    let end = bytes.chunks_exact(CARD).position(|card| keyword(card) == b"END");
-    end.and_then(|at| bytes.get(..(at + 1) * CARD)).unwrap_or(bytes)
-}
-
-/// The name of a HIERARCH card.
-fn dotted_name(card: &[u8]) -> Option<Text> {
-    match Card::read(card.first_chunk()?) {
-        Ok(Card::Hierarch { name, .. }) => Some(name),
-        _ => None,
+    let end = bytes.chunks_exact(CARD).position(|card| card.starts_with(b"END "));
+    let cut = end.and_then(|at| bytes.get(..(at + 1) * CARD)).unwrap_or(bytes);
+    match cut.last_chunk().map(Card::read) {
+        Some(Ok(Card::End)) => cut,
+        _ => bytes,
     }
-}
-
-/// Whether a value is a string that a CONTINUE card would be joined to.
-fn is_open(value: &Value) -> bool {
-    matches!(value, Value::String(text) if text.as_bytes().ends_with(b"&"))
 }
 
 impl Header {
@@ -90,11 +80,7 @@ impl Header {
             0 | Refusal::NAME_NOT_FOUND | BUFFER_SHORT => (),
             number => return Err(Refusal { number, card: Some(told.out[0]) }),
         }
-        let cards = up_to_end(bytes);
-        let numbered = cards.chunks_exact(CARD).enumerate();
-        let dotted = numbered.filter(|(_, card)| keyword(card) == b"HIERARCH");
-        let dotted = dotted.filter_map(|(number, card)| Some((number, dotted_name(card)?))).collect();
-        Ok(Header { cards: cards.to_vec(), dotted, list: OnceLock::new() })
+        Ok(Header { cards: up_to_end(bytes).to_vec(), asked: OnceLock::new(), list: OnceLock::new() })
     }
 
     /// Reads the header with which a file begins, given the file's bytes: the whole cards among the first 57,600 of them.
@@ -109,36 +95,49 @@ impl Header {
     /// The entry of a name, joined; of equal names the last one's. Names are compared byte for byte.
     pub fn get(&self, name: impl AsRef<[u8]>) -> Option<Entry> {
         let name = name.as_ref();
-        let last_first = (0..self.cards.len() / CARD).rev();
-        last_first.filter(|&number| self.is_named(number, name)).find_map(|number| self.entry_at(number))
+        if self.list.get().is_none() && self.asked.set(()).is_ok() {
+            return self.with_room(0, |text, comment, told| boundary::lookup(&self.cards, name, text, comment, told));
+        }
+        let list = self.list();
+        let name_of = |&place: &usize| list.names.get(place).map(Text::as_bytes);
+        let at = list.sorted.binary_search_by(|place| name_of(place).cmp(&Some(name))).ok()?;
+        self.entry_at(*list.last.get(*list.sorted.get(at)?)?)
     }
 
     /// The names, in the order of their first cards.
     pub fn keywords(&self) -> impl ExactSizeIterator<Item = &Text> {
-        self.list().iter().map(|listed| &listed.name)
+        self.list().names.iter()
     }
 
     /// The names with their entries, in the same order.
     pub fn entries(&self) -> impl Iterator<Item = (&Text, Entry)> {
-        self.list().iter().filter_map(|listed| Some((&listed.name, self.entry_at(listed.last)?)))
+        {
+            let list = self.list();
+            list.names.iter().zip(&list.last).filter_map(|(name, &last)| Some((name, self.entry_at(last)?)))
+        }
     }
 
     /// How many names there are.
     pub fn len(&self) -> usize {
-        self.list().len()
+        self.list().names.len()
     }
 
     /// Whether there is no name.
     pub fn is_empty(&self) -> bool {
-        self.list().is_empty()
+        self.list().names.is_empty()
     }
 
     /// The cards, up to END and with it. A string is not joined there.
     pub fn cards(&self) -> impl Iterator<Item = Card> + '_ {
-        self.cards.chunks_exact(CARD).filter_map(|card| Card::read(card.first_chunk()?).ok())
+        let mut ended = false;
+        self.cards.chunks_exact(CARD).map_while(move |card| {
+            let card = Card::read(card.first_chunk()?).ok().filter(|_| !ended);
+            ended = card == Some(Card::End);
+            card
+        })
     }
 
-    /// The bytes of the cards, up to END and with it.
+    /// The bytes of the cards, up to END and with it; where END is written in an unusual way, the bytes behind it too.
     pub fn as_bytes(&self) -> &[u8] {
         &self.cards
     }
@@ -149,64 +148,43 @@ impl Header {
         self.cards.get(start..)?.first_chunk()
     }
 
-    /// The name that the card with a number bears, where it is an entry.
-    fn name_at(&self, number: usize) -> Option<&[u8]> {
-        match keyword(self.card_at(number)?) {
-            b"HIERARCH" => {
-                let at = self.dotted.binary_search_by_key(&number, |&(card, _)| card).ok()?;
-                self.dotted.get(at).map(|(_, name)| name.as_bytes())
-            }
-            word => Some(word),
-        }
-    }
-
-    fn is_named(&self, number: usize, name: &[u8]) -> bool {
-        self.name_at(number) == Some(name)
-    }
-
     /// The list, made once.
-    fn list(&self) -> &[Listed] {
+    fn list(&self) -> &List {
         self.list.get_or_init(|| {
             let (mut first, mut last, mut count) = ([0; PLACES], [0; PLACES], 0);
             if boundary::list(&self.cards, &mut first, &mut last, &mut count) != 0 {
                 // No header that was accepted is refused here.
                 count = 0;
             }
-            let places = first.iter().zip(&last).take(count);
-            places.filter_map(|(&first, &last)| Some(Listed { name: Text::new(self.name_at(first)?), last })).collect()
+            let name = |&number: &usize| Some(card::name(self.card_at(number)?));
+            let names: Vec<Text> = first.iter().take(count).map_while(name).collect();
+            let last = last.iter().take(names.len()).copied().collect();
+            let mut sorted: Vec<usize> = (0..names.len()).collect();
+            sorted.sort_unstable_by_key(|&place| names.get(place).map(Text::as_bytes));
+            List { names, last, sorted }
         })
     }
 
-    /// The entry at a card's number; none where the card is no entry. It is what its own card says, unless that is an open string.
+    /// The entry at a card's number, joined with the cards behind it; none where the card is no entry.
     fn entry_at(&self, number: usize) -> Option<Entry> {
-        match Card::read(self.card_at(number)?) {
-            Ok(Card::Value { entry, .. } | Card::Hierarch { entry, .. }) if !is_open(&entry.value) => Some(entry),
-            Ok(Card::Value { .. } | Card::Hierarch { .. } | Card::Xtension(_)) => self.joined_at(number),
-            _ => None,
-        }
+        self.with_room(number, |text, comment, told| boundary::entry(&self.cards, number, text, comment, told))
     }
 
-    /// The entry at a card's number, joined with the cards behind it.
+    /// What a call lays into lent room; none where it is refused. The entry stands at a card's number or behind it.
     ///
     /// Nearly every text fits the room that is lent at first. A refusal for want of room does not say how much is wanted, so the
     /// second call lends what the cards from there on can fill at most.
-    fn joined_at(&self, number: usize) -> Option<Entry> {
-        let (mut text, mut comment) = ([0; USUAL], [0; USUAL]);
-        match self.read_into(number, &mut text, &mut comment) {
-            Err(BUFFER_SHORT) => {
-                let room = ADDED * (self.cards.len() / CARD).saturating_sub(number);
-                self.read_into(number, &mut vec![0; room], &mut vec![0; room]).ok()
-            }
-            read => read.ok(),
-        }
-    }
-
-    /// The entry at a card's number, over lent room; or the refusal's number.
-    fn read_into(&self, number: usize, text: &mut [u8], comment: &mut [u8]) -> Result<Entry, u8> {
+    fn with_room(&self, number: usize, call: impl Fn(&mut [u8], &mut [u8], &mut Told) -> u8) -> Option<Entry> {
         let mut told = Told::new();
-        match boundary::entry(&self.cards, number, text, comment, &mut told) {
-            0 => Ok(read(&told, text, comment)),
-            refused => Err(refused),
+        let (mut text, mut comment) = ([0; USUAL], [0; USUAL]);
+        match call(&mut text, &mut comment, &mut told) {
+            0 => Some(read(&told, &text, &comment)),
+            BUFFER_SHORT => {
+                let room = ADDED * (self.cards.len() / CARD).saturating_sub(number);
+                let (mut text, mut comment) = (vec![0; room], vec![0; room]);
+                (call(&mut text, &mut comment, &mut told) == 0).then(|| read(&told, &text, &comment))
+            }
+            _ => None,
         }
     }
 }

@@ -2,15 +2,13 @@
 //!
 //! What is read is what fitsrs 0.4.1 reads, on the domain that the project's document 01 names; any other input gets a reading or
 //! one numbered [`Refusal`]. What is proved of the functions behind the C boundary stands in the project's docs/PROMISES.md; this
-//! crate is not proved. It lends memory and takes the answers apart, and knows two rules of document 01 itself, so that
-//! [`Header::get`] reads one card and not all: a keyword is bytes 0..7, trimmed; and only a string that ends in & is joined. Its
-//! tests hold both to the boundary's own lookup.
+//! crate is not proved. It lends memory and takes the answers apart, and decides nothing of what a card says or which are joined.
 //!
 //! - [`Header`]: the names of a header and the [`Entry`] of each, strings joined over CONTINUE cards.
 //! - [`Card`]: one card of 80 bytes.
 //! - [`tile`]: a Rice tile, decoded whole or block by block.
 //!
-//! Nothing here panics, whatever the input. Reading an entry takes some 120 KiB of the caller's stack.
+//! Nothing here panics, whatever the input. Reading an open string takes some 120 KiB of the caller's stack.
 #![warn(missing_docs)]
 #![deny(unsafe_op_in_unsafe_fn)]
 

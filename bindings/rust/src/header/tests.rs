@@ -83,22 +83,32 @@ fn the_list_finds_what_a_lookup_finds() {
 }
 
 #[test]
-fn a_keyword_is_the_name_that_the_card_is_read_with() {
-    let mut random = Random(3);
-    let parts = b" \t\n\x0c\r\x0b\0AEND.&=\x7f";
-    for _ in 0..20_000 {
-        let mut card = padded(b"        = 1");
-        for byte in &mut card[..8] {
-            *byte = parts[random.below(parts.len())];
-        }
-        let read = Card::read(&card).unwrap();
-        match read {
-            Card::Value { name, .. } => assert_eq!(name.as_bytes(), keyword(&card)),
-            Card::End => assert_eq!(keyword(&card), b"END"),
-            _ => assert_eq!(keyword(&card), b"", "{read:?}"),
-        }
-        assert_eq!(matches!(Card::read(&card), Ok(Card::End)), keyword(&card) == b"END");
+fn nothing_behind_the_end_is_kept_or_looked_at() {
+    for (end, kept) in [(&b"END     "[..], 2), (b"END     of it", 2), (b"  END", 4), (b"END\t", 4)] {
+        let bytes = [padded(b"A       = 1"), padded(end), padded(b"A       = 2"), padded(b"END")].concat();
+        let header = Header::parse(&bytes).unwrap();
+        assert_eq!(header.as_bytes().len(), kept * CARD);
+        assert_eq!(header.cards().count(), 2);
+        assert_eq!(header.get("A").unwrap().value, Value::Integer(1));
+        assert_eq!(header.entries().count(), 1);
     }
+    // A keyword that begins with END is no END.
+    let bytes = [padded(b"END A   = 1"), padded(b"KIT     = 2"), padded(b"END")].concat();
+    assert_eq!(Header::parse(&bytes).unwrap().get("KIT").unwrap().value, Value::Integer(2));
+}
+
+#[test]
+fn a_name_is_found_the_same_at_the_first_call_and_later() {
+    let bytes =
+        [padded(b"KIT     = 'FKM-&'"), padded(b"CONTINUE  '75'"), padded(b"SIZE    = 5"), padded(b"END")].concat();
+    let header = Header::parse(&bytes).unwrap();
+    for _ in 0..3 {
+        assert_eq!(header.get("KIT").unwrap().value.as_str(), Some("FKM-75"));
+    }
+    assert_eq!((header.get("NONE"), header.clone().get("NONE")), (None, None));
+    let other = Header::parse(&bytes).unwrap();
+    assert_eq!((other.get("NONE"), other.get("NONE")), (None, None));
+    assert_eq!(other.len(), 2);
 }
 
 #[test]
