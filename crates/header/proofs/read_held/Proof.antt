@@ -28,7 +28,7 @@ alone c =
     let first = c .before .before in
     let a = start first .args in
     let closed : (a .joins && endsOpen (bytesOf (a .read .text))) ≡ false =
-        ap (λ (l : List ℕ). a .joins && endsOpen l) (sym (first .first-of .ensures)) ∙ sym (c .before .is-open .ensures) ∙ c .if1 .left in
+    ap (λ (l : List ℕ). a .joins && endsOpen l) (sym (first .first-of .ensures)) ∙ sym (c .before .is-open .ensures) ∙ c .if1 .left in
     any-own (a .value) (a .joins) (a .read) (a .text .now) (a .comment .now)
     ∙ ap (λ (v : Held). written v (a .text .now) (a .comment .now)) (sym (shut (a .value) (a .joins) (a .read) (drop (a .i + 1) (rolesOf (a .header .now))) closed))
 
