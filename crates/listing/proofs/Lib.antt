@@ -2,3 +2,4 @@
 pub mod Keyed
 pub mod Bearing
 pub mod Placing
+pub mod Marking

@@ -5,6 +5,7 @@ use native.Mathlib.Omega.{arith}
 use mathlib.Core.Path.{_≡_, refl, sym, ap, ap₂, subst, _∙_}
 use mathlib.Core.Bool.{Bool, true, false, cond, true≢false, _&&_}
 use mathlib.Core.List.{List, [], _∷_, _++_}
+use borrow.Author.Count.{below-none}
 use borrow.Author.Tests.{lt-ltb}
 use lib.Dec.{ltb}
 use lib.ListN.{length, take, drop, getD, set, replicate, length-append, length-take, length-set, drop-of-length-le, length-map}
@@ -24,6 +25,7 @@ use Rattle.card.specs.Keywords.{keywordOf}
 use Rattle.card.specs.Cards.{cardOf}
 use Rattle.joining.specs.Roles.{Held, Role, entry, neutral}
 use Rattle.joining.specs.Roles as R
+use Rattle.joining.proofs.Names.{same-eq}
 use Rattle.header.specs.declared.Header.{Header}
 use Rattle.header.specs.declared.Header.the-variants.{Accepted, Refused}
 use Rattle.header.specs.Reading.{cardsOf, roleAt, rolesOf, isEnd, isBadLength, headerAt, headerFrom, headerOf}
@@ -34,8 +36,10 @@ use Rattle.listing.specs.declared.Inserted.{Inserted}
 use Rattle.listing.specs.declared.Inserted.the-variants.{Names, Full}
 use Rattle.listing.specs.Listing.{places, free, Table, empty, nameOf, placeIn, Listed, listed, full, put, putRole, listFrom}
 use Rattle.listing.specs.Inserting.{bearsOf, placeBy, Insertion, insertAt, insertOf}
+use Rattle.listing.specs.Marks.{markOf, Marked}
 use Rattle.listing.proofs.Keyed.{entry-keyword}
 use Rattle.listing.proofs.Bearing.{name-told, bears-dotted, bears-plain, place-within}
+use Rattle.listing.proofs.Marking.{marked-behind, marked-put}
 
 -- ---- arrays
 pub length-filled : (mark n : ℕ) (l : List ℕ) → length l ≤ n → length (filled mark n l) ≡ n
@@ -114,7 +118,7 @@ place-is h name none k = refl
 place-is h name (one {i} {l} e es) k = ap₂ (λ (b : Bool) (p : Place). cond b (At k) p) (bears-is h i name e) (place-is h name es (suc k))
 
 -- ---- where the loop stands
-pub record Standing (h : List ℕ) (end : ℕ) (first last : List ℕ) (count i : ℕ) : Type 0 where
+pub record Standing (h : List ℕ) (end : ℕ) (first last marks : List ℕ) (count i : ℕ) : Type 0 where
   pub t : Table
   pub within : i ≤ end
   pub first-is : first ≡ filled free places (t .first)
@@ -123,11 +127,25 @@ pub record Standing (h : List ℕ) (end : ℕ) (first last : List ℕ) (count i 
   pub alike : length (t .last) ≡ length (t .first)
   pub small : length (t .first) ≤ i
   pub entries : Entries h (t .first)
+  pub marks-long : length marks ≡ 720
+  pub marked : Marked h first marks count
   pub left : listFrom (rolesOf h) (drop i (take end (rolesOf h))) i t ≡ listFrom (rolesOf h) (take end (rolesOf h)) 0 empty
 
-pub start : (h : List ℕ) (end : ℕ) (first last : List ℕ) → first ≡ replicate places free → last ≡ replicate places free → Standing h end first last 0 0
-start h end first last f l =
-    record { t = empty; within = omega arith; first-is = f ∙ filled-none free places; last-is = l ∙ filled-none free places; count-is = refl; alike = refl; small = omega arith; entries = none; left = refl }
+pub start : (h : List ℕ) (end : ℕ) (first last marks : List ℕ) → first ≡ replicate places free → last ≡ replicate places free → marks ≡ replicate places 0 → Standing h end first last marks 0 0
+start h end first last marks f l m =
+    record {
+      t = empty;
+      within = omega arith;
+      first-is = f ∙ filled-none free places;
+      last-is = l ∙ filled-none free places;
+      count-is = refl;
+      alike = refl;
+      small = omega arith;
+      entries = none;
+      marks-long = ap length (m ∙ filled-none 0 places) ∙ length-filled 0 places [] (omega arith);
+      marked = record { in-first = omega arith; in-marks = omega arith; each = below-none _ };
+      left = refl;
+    }
 
 -- a role that is an entry
 record Is (r : Role) : Type 0 where
@@ -147,7 +165,7 @@ record Becomes (n : Insertion) (i : ℕ) (t u : Table) : Type 0 where
   pub first : n .first ≡ filled free places (u .first)
   pub last : n .last ≡ filled free places (u .last)
 
-module _ {h : List ℕ} {end : ℕ} {first last : List ℕ} {count i : ℕ} (S : Standing h end first last count i) (accepted : headerOf h ≡ Accepted end) where
+module _ {h : List ℕ} {end : ℕ} {first last marks : List ℕ} {count i : ℕ} (S : Standing h end first last marks count i) (accepted : headerOf h ≡ Accepted end) where
   at-most : length h / 80 ≤ 720
   at-most = good-cards (length h) (accepted-good h end accepted)
 
@@ -171,6 +189,10 @@ module _ {h : List ℕ} {end : ℕ} {first last : List ℕ} {count i : ℕ} (S :
     inside : i < length h / 80
     inside = omega (arith, end-within h end accepted)
 
+    -- a place is free
+    pub room : count < 720
+    room = omega (arith, S .count-is, S .small, inside, at-most)
+
     abbrev pub role : Role
     role = getD (rolesOf h) i neutral
 
@@ -186,7 +208,7 @@ module _ {h : List ℕ} {end : ℕ} {first last : List ℕ} {count i : ℕ} (S :
         ∙ S .left
 
     -- a card that is no entry changes nothing
-    pub on-other : entryNameOf role .there ≡ false → Standing h end first last count (i + 1)
+    pub on-other : entryNameOf role .there ≡ false → Standing h end first last marks count (i + 1)
     on-other e =
         record {
           t = S .t;
@@ -197,6 +219,8 @@ module _ {h : List ℕ} {end : ℕ} {first last : List ℕ} {count i : ℕ} (S :
           alike = S .alike;
           small = omega (arith, S .small);
           entries = S .entries;
+          marks-long = S .marks-long;
+          marked = S .marked;
           left = skip role e ∙ next;
         }
       where
@@ -210,6 +234,9 @@ module _ {h : List ℕ} {end : ℕ} {first last : List ℕ} {count i : ℕ} (S :
     module _ (there : entryNameOf role .there ≡ true) where
       own : Is role
       own = is-entry role there
+
+      own-entry : IsEntry h i
+      own-entry = record { within = inside; name = own .name; held = own .held; is = own .is }
 
       -- the place by the arrays is the table's
       place-so : placeBy h (nameOf role) (take count first) 0 ≡ placeIn (rolesOf h) (nameOf role) (S .t .first) 0
@@ -228,7 +255,13 @@ module _ {h : List ℕ} {end : ℕ} {first last : List ℕ} {count i : ℕ} (S :
               → put (placeIn (rolesOf h) (nameOf r) (S .t .first) 0) i (S .t) (listFrom (rolesOf h) (drop (i + 1) (take end (rolesOf h))) (i + 1)) ≡ putRole (rolesOf h) r i (S .t) (listFrom (rolesOf h) (drop (i + 1) (take end (rolesOf h))) (i + 1))
           entry-put r n v d = rw d
 
-      module _ (n : Insertion) (is : n ≡ insertOf h (nameOf role) i count first last) where
+      module _ (n : Insertion) (is : n ≡ insertOf h (nameOf role) i count first last) (m : ℕ) (m-is : m ≡ markOf (nameOf role)) where
+        own-mark : (name : List ℕ) → bearsOf h i name ≡ true → m ≡ markOf name
+        own-mark name e = m-is ∙ ap markOf (same-eq (nameOf role) name (sym (bears-is h i name own-entry) ∙ e))
+
+        next-long : length (set marks count m) ≡ 720
+        next-long = (let z : length (set marks count m) ≡ length marks = simp length-set in z) ∙ S .marks-long
+
         by-place : (p : Place) → placeIn (rolesOf h) (nameOf role) (S .t .first) 0 ≡ p → n ≡ insertAt p i count first last
         unfolding insertOf
         by-place p e = is ∙ ap (λ (q : Place). insertAt q i count first last) (place-so ∙ e)
@@ -237,7 +270,7 @@ module _ {h : List ℕ} {end : ℕ} {first last : List ℕ} {count i : ℕ} (S :
         pub record Next : Type 0 where
           pub count₁ : ℕ
           pub named : n .answer ≡ Names count₁
-          pub standing : Standing h end (n .first) (n .last) count₁ (i + 1)
+          pub standing : Standing h end (n .first) (n .last) (set marks count m) count₁ (i + 1)
 
         at-place : (k : ℕ) → placeIn (rolesOf h) (nameOf role) (S .t .first) 0 ≡ At k → Next
         at-place k e =
@@ -256,16 +289,17 @@ module _ {h : List ℕ} {end : ℕ} {first last : List ℕ} {count i : ℕ} (S :
                     alike = (let z : length (set (S .t .last) k i) ≡ length (S .t .last) = simp length-set in z) ∙ S .alike;
                     small = omega (arith, S .small);
                     entries = S .entries;
+                    marks-long = next-long;
+                    marked = subst (λ (l : List ℕ). Marked h l (set marks count m) count) (sym (ap (λ (x : Insertion). x .first) so)) (marked-behind (S .marked) m);
                     left = left-so (At k) e;
                   };
             }
 
         at-free : placeIn (rolesOf h) (nameOf role) (S .t .first) 0 ≡ Nowhere → Next
         at-free e =
-            let room : count < 720 = omega (arith, S .count-is, S .small, inside, at-most) in
-            let so : n ≡ record { answer = Names (count + 1); first = set first count i; last = set last count i } = by-place Nowhere e ∙ roomy (ltb count (length first)) (ltb count (length last)) (lt-ltb count (length first) (omega (arith, first-long))) (lt-ltb count (length last) (omega (arith, last-long))) in
-            let put-first : n .first ≡ filled free places (S .t .first ++ i ∷ []) = ap (λ (x : Insertion). x .first) so ∙ ap₂ (λ (l : List ℕ) (k : ℕ). set l k i) (S .first-is) (S .count-is) ∙ filled-put free places (S .t .first) i (omega (arith, S .count-is)) in
-            let put-last : n .last ≡ filled free places (S .t .last ++ i ∷ []) = ap (λ (x : Insertion). x .last) so ∙ ap₂ (λ (l : List ℕ) (k : ℕ). set l k i) (S .last-is) (S .count-is ∙ sym (S .alike)) ∙ filled-put free places (S .t .last) i (omega (arith, S .count-is, S .alike)) in
+            let so : n ≡ record { answer = Names (count + 1); first = set first count i; last = set last count i } = by-place Nowhere e ∙ roomy (ltb count (length first)) (ltb count (length last)) (lt-ltb count (length first) (omega (arith, first-long, room))) (lt-ltb count (length last) (omega (arith, last-long, room))) in
+            let put-first : n .first ≡ filled free places (S .t .first ++ i ∷ []) = ap (λ (x : Insertion). x .first) so ∙ ap₂ (λ (l : List ℕ) (k : ℕ). set l k i) (S .first-is) (S .count-is) ∙ filled-put free places (S .t .first) i (omega (arith, S .count-is, room)) in
+            let put-last : n .last ≡ filled free places (S .t .last ++ i ∷ []) = ap (λ (x : Insertion). x .last) so ∙ ap₂ (λ (l : List ℕ) (k : ℕ). set l k i) (S .last-is) (S .count-is ∙ sym (S .alike)) ∙ filled-put free places (S .t .last) i (omega (arith, S .count-is, S .alike, room)) in
             let more-first : length (S .t .first ++ i ∷ []) ≡ length (S .t .first) + 1 = length-append (S .t .first) (i ∷ []) in
             let more-last : length (S .t .last ++ i ∷ []) ≡ length (S .t .last) + 1 = length-append (S .t .last) (i ∷ []) in
             record {
@@ -280,8 +314,10 @@ module _ {h : List ℕ} {end : ℕ} {first last : List ℕ} {count i : ℕ} (S :
                     count-is = omega (arith, S .count-is);
                     alike = omega (arith, S .alike);
                     small = omega (arith, S .small);
-                    entries = entries-put h (S .entries) (record { within = inside; name = own .name; held = own .held; is = own .is });
-                    left = free-left (ltb (length (S .t .first)) places) (lt-ltb (length (S .t .first)) places (omega (arith, S .count-is))) ∙ left-so Nowhere e;
+                    entries = entries-put h (S .entries) own-entry;
+                    marks-long = next-long;
+                    marked = subst (λ (l : List ℕ). Marked h l (set marks count m) (count + 1)) (sym (ap (λ (x : Insertion). x .first) so)) (marked-put (S .marked) i m (omega (arith, first-long, room)) (omega (arith, S .marks-long, room)) own-mark);
+                    left = free-left (ltb (length (S .t .first)) places) (lt-ltb (length (S .t .first)) places (omega (arith, S .count-is, room))) ∙ left-so Nowhere e;
                   };
             }
           where

@@ -3,7 +3,8 @@ ghost use mathlib.Core.Path.{_≡_};
 ghost use Prim.Native.Nat.{_+_, _*_, _/_, _≤_, _<_};
 ghost use lib.ListN.{length, take, drop, getD};
 ghost use Rattle.listing.specs.Listing.{empty, tabled, listOf, placeOfEntry};
-ghost use Rattle.listing.specs.Inserting.{bearsOf, placeBy, insertOf};
+ghost use Rattle.listing.specs.Inserting.{bearsOf, placeBy, insertAt, insertOf};
+ghost use Rattle.listing.specs.Marks.{markOf, Marked};
 use header::Header;
 use header::Looked;
 use refusal::Refusal;
@@ -25,7 +26,7 @@ pub enum Inserted {
     Full,
 }
 
-// The mark of a free place: no card has this number.
+// What stands at a free place: no card has this number.
 const FREE: usize = 720;
 
 // The bytes of a card.
@@ -34,7 +35,12 @@ const CARD: usize = 80;
 // The bytes of a keyword.
 const KEYWORD: usize = 8;
 
-// The names of a header, in the order of their first cards.
+// The mark of a name is a number below MARK_LIMIT, made with MARK_FACTOR of its bytes.
+const MARK_FACTOR: usize = 31;
+
+const MARK_LIMIT: usize = 4294967296;
+
+// The names of a header, in the order of their first cards. Each place has the mark of its name, which is compared first.
 pub fn list(header: &[u8]) -> Listing
     ensures { λ r. ⌜ r ≡ listOf (now (header .entry)) ⌝ }
 {
@@ -44,6 +50,7 @@ pub fn list(header: &[u8]) -> Listing
     };
     let mut first = [FREE; 720];
     let mut last = [FREE; 720];
+    let mut marks: [usize; 720] = [0; 720];
     let mut count: usize = 0;
     let mut i: usize = 0;
     'cards: while i < end {
@@ -54,8 +61,10 @@ pub fn list(header: &[u8]) -> Listing
         i += 1;
         if entry.there {
             let own = text::first_of(&bytes, name.len);
-            let Inserted::Names(n) = insert(header, own, number, count, &mut first, &mut last)
-            else {
+            let sought = mark(own);
+            let place = find_marked(header, own, sought, &first, &marks, count);
+            marks[count] = sought;
+            let Inserted::Names(n) = insert_at(place, number, count, &mut first, &mut last) else {
                 return free_listing(Header::Refused(Refusal::TableFull, number));
             };
             count = n;
@@ -100,24 +109,8 @@ pub fn insert(
     ensures { λ _. ⌜ now (first .exit) ≡ insertOf (now (header .entry)) (now (name .entry)) i count (now (first .entry)) (now (last .entry)) .first ⌝ }
     ensures { λ _. ⌜ now (last .exit) ≡ insertOf (now (header .entry)) (now (name .entry)) i count (now (first .entry)) (now (last .entry)) .last ⌝ }
 {
-    match find_place(header, name, first, count) {
-        Place::At(k) => {
-            if k < last.len() {
-                last[k] = i;
-            }
-            Inserted::Names(count)
-        }
-        Place::Nowhere => {
-            if count < first.len() {
-                if count < last.len() {
-                    first[count] = i;
-                    last[count] = i;
-                    return Inserted::Names(count + 1);
-                }
-            }
-            Inserted::Full
-        }
-    }
+    let place = find_place(header, name, first, count);
+    insert_at(place, i, count, first, last)
 }
 
 // A listing with no names.
@@ -158,6 +151,76 @@ fn find_place(header: &[u8], name: &[u8], first: &[usize], count: usize) -> Plac
     while k < first.len() && k < count {
         if bears(header, first[k], name) {
             return Place::At(k);
+        }
+        k += 1;
+    }
+    Place::Nowhere
+}
+
+// The entry of card i put at a place among the first count, or behind them where a place is free.
+fn insert_at(
+    place: Place,
+    i: usize,
+    count: usize,
+    first: &mut [usize],
+    last: &mut [usize],
+) -> Inserted
+    ensures { λ r. ⌜ r ≡ insertAt place i count (now (first .entry)) (now (last .entry)) .answer ⌝ }
+    ensures { λ _. ⌜ now (first .exit) ≡ insertAt place i count (now (first .entry)) (now (last .entry)) .first ⌝ }
+    ensures { λ _. ⌜ now (last .exit) ≡ insertAt place i count (now (first .entry)) (now (last .entry)) .last ⌝ }
+{
+    match place {
+        Place::At(k) => {
+            if k < last.len() {
+                last[k] = i;
+            }
+            Inserted::Names(count)
+        }
+        Place::Nowhere => {
+            if count < first.len() {
+                if count < last.len() {
+                    first[count] = i;
+                    last[count] = i;
+                    return Inserted::Names(count + 1);
+                }
+            }
+            Inserted::Full
+        }
+    }
+}
+
+// The mark of a name: equal names have equal marks.
+fn mark(name: &[u8]) -> usize
+    ensures { λ r. ⌜ r ≡ markOf (now (name .entry)) ⌝ }
+{
+    let mut m: usize = 0;
+    let mut k: usize = 0;
+    while k < name.len() {
+        m = (m * MARK_FACTOR + name[k] as usize) % MARK_LIMIT;
+        k += 1;
+    }
+    m
+}
+
+// The place among the first count whose card bears the name, by the marks: only where the mark is the name's is the card asked.
+fn find_marked(
+    header: &[u8],
+    name: &[u8],
+    sought: usize,
+    first: &[usize],
+    marks: &[usize],
+    count: usize,
+) -> Place
+    requires { ⌜ sought ≡ markOf (now name) ⌝ }
+    requires { ⌜ Marked (now header) (now first) (now marks) count ⌝ }
+    ensures { λ r. ⌜ r ≡ placeBy (now (header .entry)) (now (name .entry)) (take count (now (first .entry))) 0 ⌝ }
+{
+    let mut k: usize = 0;
+    while k < count {
+        if marks[k] == sought {
+            if bears(header, first[k], name) {
+                return Place::At(k);
+            }
         }
         k += 1;
     }

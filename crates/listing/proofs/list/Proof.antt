@@ -4,7 +4,8 @@ use native.Mathlib.Omega.{arith}
 use mathlib.Core.Path.{_≡_, refl, sym, ap, subst, _∙_}
 use mathlib.Core.Bool.{true}
 use mathlib.Core.List.{List}
-use lib.ListN.{getD}
+use lib.ListN.{getD, set, take}
+use Rattle.text.specs.declared.Place.{Place}
 use Rattle.text.specs.Text.{bytesOf}
 use Rattle.text.proofs.Texts.{bytes-text}
 use Rattle.joining.specs.Roles.{Role, neutral}
@@ -15,17 +16,18 @@ use Rattle.header.specs.declared.Header.{Header}
 use Rattle.header.specs.declared.Header.the-variants.{Accepted, Refused}
 use Rattle.header.specs.Reading.{rolesOf, headerOf}
 use Rattle.listing.specs.Listing.{Listed, listed, nameOf, byListed, byHeader, tabled, empty, listOf}
-use Rattle.listing.specs.Inserting.{Insertion, insertOf}
+use Rattle.listing.specs.Inserting.{placeBy, Insertion, insertAt, insertOf}
+use Rattle.listing.specs.Marks.{markOf}
 use Rattle.listing.proofs.Bearing.{name-told}
-use Rattle.listing.proofs.Placing.{Standing, start, first-long, last-long, at-end, on-other, on-entry}
+use Rattle.listing.proofs.Placing.{Standing, start, first-long, last-long, room, at-end, on-other, Next, on-entry}
 use Rattle.listing.proofs.list.Statement.{statement}
 use Rattle.listing.proofs.list.Tie as tie
 
 abbrev Inv-cards : tie.InvT-cards
-Inv-cards header answer end first₀ last₀ count₀ i₀ first last count i = Standing header end first last count i
+Inv-cards header answer end first₀ last₀ marks₀ count₀ i₀ first last marks count i = Standing header end first last marks count i
 
 abbrev μ-cards : tie.MeasureT-cards
-μ-cards header answer end first₀ last₀ count₀ i₀ first last count i = end - i
+μ-cards header answer end first₀ last₀ marks₀ count₀ i₀ first last marks count i = end - i
 
 -- by what the header is
 by-header : (c : tie.After-read-header Inv-cards μ-cards) (x : Header) → c .read-header .result ≡ x → let h = c .before .before .args .header .now in byHeader x (rolesOf h) ≡ listOf h
@@ -48,7 +50,7 @@ en c = c .before .before .before .before .before
 abbrev at : tie.After-first-of Inv-cards μ-cards → tie.At-cards Inv-cards μ-cards
 at c = en c .before .before
 
-standing : (c : tie.After-first-of Inv-cards μ-cards) → let here = at c in Standing (header here) (end here) (here .cards .first) (here .cards .last) (here .cards .count) (here .cards .i)
+standing : (c : tie.After-first-of Inv-cards μ-cards) → let here = at c in Standing (header here) (end here) (here .cards .first) (here .cards .last) (here .cards .marks) (here .cards .count) (here .cards .i)
 standing c = at c .cards .inv
 
 more : (c : tie.After-first-of Inv-cards μ-cards) → at c .cards .i < end (at c)
@@ -63,18 +65,36 @@ there-so c = sym (ap (λ (e : EntryName). e .there) (en c .entry-name .ensures))
 name-so : (c : tie.After-first-of Inv-cards μ-cards) → c .first-of .result .now ≡ nameOf (role c)
 name-so c = c .first-of .ensures ∙ ap (λ (e : EntryName). bytesOf (e .name)) (en c .entry-name .ensures) ∙ ap bytesOf (name-told (role c)) ∙ bytes-text (nameOf (role c))
 
-abbrev fo : tie.After-insert Inv-cards μ-cards → tie.After-first-of Inv-cards μ-cards
-fo c = c .before .before .before
+mark-so : (c : tie.After-mark Inv-cards μ-cards) → c .mark .result ≡ markOf (nameOf (role (c .before)))
+mark-so c = c .mark .ensures ∙ ap markOf (name-so (c .before))
+
+-- a place is free for it
+free-so : (c : tie.After-first-of Inv-cards μ-cards) → at c .cards .count < 720
+free-so c = room (standing c) (accepted (at c)) (more c)
+
+abbrev fm : tie.After-insert-at Inv-cards μ-cards → tie.After-find-marked Inv-cards μ-cards
+fm c = c .before .before .before
+
+abbrev marking : tie.After-find-marked Inv-cards μ-cards → tie.After-mark Inv-cards μ-cards
+marking c = c .before .before .before
+
+abbrev fo : tie.After-insert-at Inv-cards μ-cards → tie.After-first-of Inv-cards μ-cards
+fo c = marking (fm c) .before
 
 -- what inserting gave
-abbrev insertion : tie.After-insert Inv-cards μ-cards → Insertion
-insertion c = record { answer = c .insert .result; first = c .insert .last .1 .1 .1 .1 .0; last = c .insert .last .1 .1 .1 .1 .1 .0 }
+abbrev insertion : tie.After-insert-at Inv-cards μ-cards → Insertion
+insertion c = record { answer = c .insert-at .result; first = c .insert-at .last .1 .1 .1 .0; last = c .insert-at .last .1 .1 .1 .1 .0 }
 
-inserted : (c : tie.After-insert Inv-cards μ-cards) → let here = at (fo c) in insertion c ≡ insertOf (header here) (nameOf (role (fo c))) (here .cards .i) (here .cards .count) (here .cards .first) (here .cards .last)
+inserted : (c : tie.After-insert-at Inv-cards μ-cards) → let here = at (fo c) in insertion c ≡ insertOf (header here) (nameOf (role (fo c))) (here .cards .i) (here .cards .count) (here .cards .first) (here .cards .last)
+unfolding insertOf
 inserted c =
     let here = at (fo c) in
-    (λ j. record { answer = c .insert .ensures .0 j; first = c .insert .ensures .1 .0 j; last = c .insert .ensures .1 .1 j })
-    ∙ ap (λ (n : List ℕ). insertOf (header here) n (here .cards .i) (here .cards .count) (here .cards .first) (here .cards .last)) (name-so (fo c))
+    (λ j. record { answer = c .insert-at .ensures .0 j; first = c .insert-at .ensures .1 .0 j; last = c .insert-at .ensures .1 .1 j })
+    ∙ ap (λ (p : Place). insertAt p (here .cards .i) (here .cards .count) (here .cards .first) (here .cards .last)) (fm c .find-marked .ensures ∙ ap (λ (n : List ℕ). placeBy (header here) n (take (here .cards .count) (here .cards .first)) 0) (name-so (fo c)))
+
+-- so the loop goes on
+next : (c : tie.After-insert-at Inv-cards μ-cards) → Next (standing (fo c)) (accepted (at (fo c))) (more (fo c)) (there-so (fo c)) (insertion c) (inserted c) (marking (fm c) .mark .result) (mark-so (marking (fm c)))
+next c = on-entry (standing (fo c)) (accepted (at (fo c))) (more (fo c)) (there-so (fo c)) (insertion c) (inserted c) (marking (fm c) .mark .result) (mark-so (marking (fm c)))
 
 read-header-requires : tie.Need-read-header-requires Inv-cards μ-cards
 read-header-requires c κs = search needs
@@ -95,7 +115,7 @@ returns c =
     c .free-listing .ensures ∙ ap (λ (y : Header). tabled y empty) (told .enum-told .given .1) ∙ by-header (told .before .before) x (told .enum-told .given .1)
 
 cards-holds : tie.Need-cards-holds Inv-cards μ-cards
-cards-holds c = start _ _ _ _ refl refl
+cards-holds c = start _ _ _ _ _ refl refl refl
 
 entry-name-requires : tie.Need-entry-name-requires Inv-cards μ-cards
 entry-name-requires c κs = search needs
@@ -109,14 +129,32 @@ slice-aggregate-first-of c = search needs
 first-of-requires : tie.Need-first-of-requires Inv-cards μ-cards
 first-of-requires c κs = search needs
 
-slice-aggregate-insert : tie.Need-slice-aggregate-insert Inv-cards μ-cards
-slice-aggregate-insert c = sym (first-long (standing (c .before)) (accepted (at (c .before))))
+mark-requires : tie.Need-mark-requires Inv-cards μ-cards
+mark-requires c κs = search needs
 
-slice-aggregate-insert-2 : tie.Need-slice-aggregate-insert-2 Inv-cards μ-cards
-slice-aggregate-insert-2 c = sym (last-long (standing (c .before .before)) (accepted (at (c .before .before))))
+slice-aggregate-find-marked : tie.Need-slice-aggregate-find-marked Inv-cards μ-cards
+slice-aggregate-find-marked c = let f = c .before .before in sym (first-long (standing f) (accepted (at f)))
 
-insert-requires : tie.Need-insert-requires Inv-cards μ-cards
-insert-requires c κs = search needs
+slice-aggregate-find-marked-2 : tie.Need-slice-aggregate-find-marked-2 Inv-cards μ-cards
+slice-aggregate-find-marked-2 c = sym (standing (c .before .before .before) .marks-long)
+
+find-marked-requires : tie.Need-find-marked-requires Inv-cards μ-cards
+find-marked-requires c κs = (c .before .before .mark .ensures, standing (c .before .before .before) .marked)
+
+mul-marks : tie.Need-mul-marks Inv-cards μ-cards
+mul-marks c = omega (arith, free-so (marking c .before))
+
+array-write-marks : tie.Need-array-write-marks Inv-cards μ-cards
+array-write-marks c = omega (arith, free-so (marking c .before))
+
+slice-aggregate-insert-at : tie.Need-slice-aggregate-insert-at Inv-cards μ-cards
+slice-aggregate-insert-at c = let f = marking (c .before) .before in sym (first-long (standing f) (accepted (at f)))
+
+slice-aggregate-insert-at-2 : tie.Need-slice-aggregate-insert-at-2 Inv-cards μ-cards
+slice-aggregate-insert-at-2 c = let f = marking (c .before .before) .before in sym (last-long (standing f) (accepted (at f)))
+
+insert-at-requires : tie.Need-insert-at-requires Inv-cards μ-cards
+insert-at-requires c κs = search needs
 
 enum-known-n : tie.Need-enum-known-n Inv-cards μ-cards
 enum-known-n c = search needs
@@ -131,9 +169,9 @@ returns-2 : tie.Need-returns-2 Inv-cards μ-cards
 returns-2 c =
     let told = c .before in
     let ins = told .before .before .before .before in
-    let next = on-entry (standing (fo ins)) (accepted (at (fo ins))) (more (fo ins)) (there-so (fo ins)) (insertion ins) (inserted ins) in
+    let then = next ins in
     let full = told .enum-told2 .given .1 in
-    let named = next .named in
+    let named = then .named in
     absurd (let z : _≡_ {A = ℕ} 0 1 = cc in omega arith)
 
 cards-less : tie.Need-cards-less Inv-cards μ-cards
@@ -143,11 +181,11 @@ cards-again : tie.Need-cards-again Inv-cards μ-cards
 cards-again c =
     let told = c .before in
     let ins = told .before .before .before .before in
-    let next = on-entry (standing (fo ins)) (accepted (at (fo ins))) (more (fo ins)) (there-so (fo ins)) (insertion ins) (inserted ins) in
+    let then = next ins in
     let known = told .n .given .1 in
-    let named = next .named in
-    let count : next .count₁ ≡ told .n .given .0 .0 = cc in
-    subst (λ (k : ℕ). Standing (header (at (fo ins))) (end (at (fo ins))) (insertion ins .first) (insertion ins .last) k (at (fo ins) .cards .i + 1)) count (next .standing)
+    let named = then .named in
+    let count : then .count₁ ≡ told .n .given .0 .0 = cc in
+    subst (λ (k : ℕ). Standing (header (at (fo ins))) (end (at (fo ins))) (insertion ins .first) (insertion ins .last) (set (at (fo ins) .cards .marks) (at (fo ins) .cards .count) (marking (fm ins) .mark .result)) k (at (fo ins) .cards .i + 1)) count (then .standing)
 
 cards-less-2 : tie.Need-cards-less-2 Inv-cards μ-cards
 cards-less-2 c = search needs
@@ -182,9 +220,15 @@ list-spec =
     add-i
     slice-aggregate-first-of
     first-of-requires
-    slice-aggregate-insert
-    slice-aggregate-insert-2
-    insert-requires
+    mark-requires
+    slice-aggregate-find-marked
+    slice-aggregate-find-marked-2
+    find-marked-requires
+    mul-marks
+    array-write-marks
+    slice-aggregate-insert-at
+    slice-aggregate-insert-at-2
+    insert-at-requires
     enum-known-n
     enum-told-2
     free-listing-requires-2
