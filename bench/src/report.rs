@@ -111,6 +111,31 @@ fn faster(figures: &Figures, groups: &[&str], side: &str) -> (usize, usize) {
     (below, rows().count())
 }
 
+/// What was aimed at, and what it came to.
+fn aims(text: &mut String, figures: &Figures) -> std::fmt::Result {
+    let median = |row: &Row| row.ratios.get("fitsrs").map(|ratio| ratio[1]);
+    let noise =
+        ["rows", "large"].into_iter().flat_map(|group| figures.of(group)).filter(|row| row.name.contains("noise"));
+    let slowest = noise.filter_map(median).fold(0.0, f64::max);
+    let of = |group: &str, name: &str| {
+        figures
+            .rows
+            .iter()
+            .find(|row| row.group == group && row.name == name)
+            .and_then(median)
+            .map_or("-".into(), shown)
+    };
+    writeln!(
+        text,
+        "Aimed at: noise decoded no slower than by fitsrs at every width; the slowest median is {}. A header of 720 cards read in half of fitsrs'\n\
+         time: a lookup, which tests every card, takes {} of it, the list of all names {}, and all entries {}.\n",
+        shown(slowest),
+        of("lookups", "720 cards, bytes to a joined string"),
+        of("headers", "720 cards, list"),
+        of("headers", "720 cards, all entries"),
+    )
+}
+
 fn tiles(text: &mut String, figures: &Figures) -> std::fmt::Result {
     let pixels = figures.of("large").next().map_or(0.0, |row| row.units);
     writeln!(text, "## Rice tiles\n")?;
@@ -196,6 +221,7 @@ fn text(figures: &Figures) -> Result<String, std::fmt::Error> {
     };
     writeln!(all, "Rice tiles: {}. Headers read whole: {}.", counts(&["rows", "large"]), counts(&["headers"]))?;
     writeln!(all, "Lookups: {}.\n", counts(&["lookups"]))?;
+    aims(all, figures)?;
     tiles(all, figures)?;
     writeln!(
         all,
