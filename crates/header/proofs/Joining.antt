@@ -79,8 +79,8 @@ module _ {h : List ℕ} {i : ℕ} {joins : Bool} {start : Lengths} {texts₀ com
     done e =
         record {
           words = sym e ∙ G .left;
-          text = omega (arith, G .text, G .within, room .cards);
-          comment = omega (arith, G .comment, G .within, room .cards);
+          text = omega (arith, G .text, G .within);
+          comment = omega (arith, G .comment, G .within);
         }
 
     pub at-end : length h / 80 ≤ j → JoinedOn h i joins start held texts₀ comments₀ texts comments

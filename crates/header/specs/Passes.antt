@@ -1,5 +1,5 @@
 -- What the passes over a header's cards hand over: the last card that bears a name, and words as they stand in scratch.
-use Prim.Native.Nat.{ℕ, suc, _+_, _/_, _<_, _≤_}
+use Prim.Native.Nat.{ℕ, suc, _+_, _*_, _/_, _<_, _≤_}
 use mathlib.Core.Path.{_≡_}
 use mathlib.Core.Bool.{Bool, true, false, cond}
 use mathlib.Core.List.{List, [], _∷_, _++_, map}
@@ -105,13 +105,13 @@ pub record Joined (read : CardRead) (held r : Lengths) (texts comments texts₁ 
 pub record Room (h : List ℕ) (i : ℕ) (start : Lengths) (texts comments : List ℕ) : Type 0 where
   pub card : i < length h / 80
   pub cards : length h / 80 ≤ 720
-  pub wide-texts : 58320 ≤ length texts
-  pub wide-comments : 58320 ≤ length comments
+  pub wide-texts : 81 * (length h / 80) ≤ length texts
+  pub wide-comments : 81 * (length h / 80) ≤ length comments
   pub text : start .text ≤ 80
   pub comment : start .comment ≤ 80
 
 -- all CONTINUE cards behind card i were joined that are joined to it
 pub record JoinedOn (h : List ℕ) (i : ℕ) (joins : Bool) (start r : Lengths) (texts comments texts₁ comments₁ : List ℕ) : Type 0 where
   pub words : wordsIn joins r texts₁ comments₁ ≡ joinOn (wordsIn joins start texts comments) (drop (i + 1) (rolesOf h))
-  pub text : r .text ≤ 58320
-  pub comment : r .comment ≤ 58320
+  pub text : r .text ≤ 81 * (length h / 80)
+  pub comment : r .comment ≤ 81 * (length h / 80)

@@ -76,6 +76,9 @@ const CARD: usize = 80;
 // The bytes of the longest header: 720 cards.
 const LONGEST: usize = 57600;
 
+// A header of so many cards has small scratch: three blocks of 36.
+const FEW_CARDS: usize = 108;
+
 const AMPERSAND: u8 = b'&';
 
 const LINE_FEED: u8 = 10;
@@ -541,7 +544,7 @@ fn read_held(
     read_alone(value, read, text, comment)
 }
 
-// An entry and the CONTINUE cards that are joined to it.
+// An entry and the CONTINUE cards that are joined to it, in scratch for as many cards as the header may have.
 fn read_joined(
     header: &[u8],
     i: usize,
@@ -556,11 +559,74 @@ fn read_joined(
     ensures { λ _. ⌜ now (text .exit) ≡ written (whole (heldOf value joins read) (drop (i + 1) (rolesOf (now (header .entry))))) (now (text .entry)) (now (comment .entry)) .text ⌝ }
     ensures { λ _. ⌜ now (comment .exit) ≡ written (whole (heldOf value joins read) (drop (i + 1) (rolesOf (now (header .entry))))) (now (text .entry)) (now (comment .entry)) .comment ⌝ }
 {
+    if header.len() / CARD <= FEW_CARDS {
+        return read_few(header, i, value, joins, read, text, comment);
+    }
     let mut texts = [0u8; 58320];
     let mut comments = [0u8; 58320];
-    let start = first_words(value, read, &mut texts, &mut comments);
-    let end = join_on(header, i, joins, start, &mut texts, &mut comments);
-    give(value, read, end, &texts, &comments, text, comment)
+    join_within(
+        header,
+        i,
+        value,
+        joins,
+        read,
+        &mut texts,
+        &mut comments,
+        text,
+        comment,
+    )
+}
+
+// The same in a header of few cards, whose scratch is soon cleared.
+fn read_few(
+    header: &[u8],
+    i: usize,
+    value: Value,
+    joins: bool,
+    read: CardRead,
+    text: &mut [u8],
+    comment: &mut [u8],
+) -> Looked
+    requires { ⌜ (i < length (now header) / 80) × (length (now header) / 80 ≤ 108) ⌝ }
+    ensures { λ r. ⌜ r ≡ written (whole (heldOf value joins read) (drop (i + 1) (rolesOf (now (header .entry))))) (now (text .entry)) (now (comment .entry)) .answer ⌝ }
+    ensures { λ _. ⌜ now (text .exit) ≡ written (whole (heldOf value joins read) (drop (i + 1) (rolesOf (now (header .entry))))) (now (text .entry)) (now (comment .entry)) .text ⌝ }
+    ensures { λ _. ⌜ now (comment .exit) ≡ written (whole (heldOf value joins read) (drop (i + 1) (rolesOf (now (header .entry))))) (now (text .entry)) (now (comment .entry)) .comment ⌝ }
+{
+    let mut texts = [0u8; 8748];
+    let mut comments = [0u8; 8748];
+    join_within(
+        header,
+        i,
+        value,
+        joins,
+        read,
+        &mut texts,
+        &mut comments,
+        text,
+        comment,
+    )
+}
+
+// The same in lent scratch: a card's bytes, and one more, for every card of the header.
+fn join_within(
+    header: &[u8],
+    i: usize,
+    value: Value,
+    joins: bool,
+    read: CardRead,
+    texts: &mut [u8],
+    comments: &mut [u8],
+    text: &mut [u8],
+    comment: &mut [u8],
+) -> Looked
+    requires { ⌜ (i < length (now header) / 80) × (length (now header) / 80 ≤ 720) × (81 * (length (now header) / 80) ≤ length (now texts)) × (81 * (length (now header) / 80) ≤ length (now comments)) ⌝ }
+    ensures { λ r. ⌜ r ≡ written (whole (heldOf value joins read) (drop (i + 1) (rolesOf (now (header .entry))))) (now (text .entry)) (now (comment .entry)) .answer ⌝ }
+    ensures { λ _. ⌜ now (text .exit) ≡ written (whole (heldOf value joins read) (drop (i + 1) (rolesOf (now (header .entry))))) (now (text .entry)) (now (comment .entry)) .text ⌝ }
+    ensures { λ _. ⌜ now (comment .exit) ≡ written (whole (heldOf value joins read) (drop (i + 1) (rolesOf (now (header .entry))))) (now (text .entry)) (now (comment .entry)) .comment ⌝ }
+{
+    let start = first_words(value, read, texts, comments);
+    let end = join_on(header, i, joins, start, texts, comments);
+    give(value, read, end, texts, comments, text, comment)
 }
 
 // An entry by its own card.

@@ -31,7 +31,7 @@ text-fits : (c : tie.At-cards Inv-cards μ-cards) → c .cards .held .text ≤ l
 text-fits c =
     let G = c .cards .inv .0 in
     let R = room c in
-    omega (arith, G .text, G .within, R .cards, R .wide-texts, c .cards .inv .1)
+    omega (arith, G .text, G .within, R .wide-texts, c .cards .inv .1)
 
 add-j : tie.Need-add-j Inv-cards μ-cards
 add-j c = search needs
@@ -130,8 +130,8 @@ join-card-requires c κs =
     let G = at .cards .inv .0 in
     let R = room at in (
       open-some (at .cards .texts) (at .cards .held .text) (start at .args .joins) is-open,
-      omega (arith, G .text, R .cards, R .wide-texts, at .cards .inv .1),
-      omega (arith, G .comment, R .cards, R .wide-comments, at .cards .inv .2),
+      omega (arith, G .text, more, R .wide-texts, at .cards .inv .1),
+      omega (arith, G .comment, more, R .wide-comments, at .cards .inv .2),
     )
 
 cards-less-2 : tie.Need-cards-less-2 Inv-cards μ-cards

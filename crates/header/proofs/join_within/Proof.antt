@@ -1,4 +1,4 @@
--- `header::read_joined` meets its contract: the words in scratch are the entry's with what is joined to it.
+-- `header::join_within` meets its contract: the words in scratch are the entry's with what is joined to it.
 use Prim.Native.Nat.{_+_}
 use mathlib.Core.Path.{_≡_, ap, _∙_}
 use mathlib.Core.Bool.{false}
@@ -11,14 +11,14 @@ use Rattle.header.specs.Answers.{Outcome, written}
 use Rattle.header.specs.Passes.{heldIn}
 use Rattle.header.proofs.Writing.{any-joins}
 use borrow.Author.Needs.{needs}
-use Rattle.header.proofs.read_joined.Statement.{statement}
-use Rattle.header.proofs.read_joined.Tie as tie
+use Rattle.header.proofs.join_within.Statement.{statement}
+use Rattle.header.proofs.join_within.Tie as tie
 
 abbrev begun : tie.After-join-on → tie.After-first-words
-begun c = c .before .before .before .before .before
+begun c = c .before .before .before .before .before .before .before
 
 abbrev start : tie.After-join-on → tie.Start
-start c = begun c .before .before .before .before .before .before
+start c = begun c .before .before .before .before .before .before .before .before
 
 -- the words in scratch are the joined ones
 all : (c : tie.After-join-on)
@@ -31,29 +31,11 @@ all c =
     ∙ ap (λ (w : Words). written (record { value = a .value; digits = heldOf (a .value) false (a .read) .digits; words = w }) (a .text .now) (a .comment .now))
     (c .join-on .ensures .words ∙ ap (λ (w : Words). joinOn w (drop (a .i + 1) (rolesOf (a .header .now)))) (begun c .first-words .ensures .words (a .joins)))
 
-slice-aggregate-first-words : tie.Need-slice-aggregate-first-words
-slice-aggregate-first-words c = search needs
-
-slice-aggregate-first-words-2 : tie.Need-slice-aggregate-first-words-2
-slice-aggregate-first-words-2 c = search needs
-
 first-words-requires : tie.Need-first-words-requires
 first-words-requires c κs = search needs
 
-slice-aggregate-join-on : tie.Need-slice-aggregate-join-on
-slice-aggregate-join-on c = search needs
-
-slice-aggregate-join-on-2 : tie.Need-slice-aggregate-join-on-2
-slice-aggregate-join-on-2 c = search needs
-
 join-on-requires : tie.Need-join-on-requires
 join-on-requires c κs = search needs
-
-slice-aggregate-give : tie.Need-slice-aggregate-give
-slice-aggregate-give c = search needs
-
-slice-aggregate-give-2 : tie.Need-slice-aggregate-give-2
-slice-aggregate-give-2 c = search needs
 
 give-requires : tie.Need-give-requires
 give-requires c κs = search needs
@@ -64,25 +46,27 @@ same-length c = search needs
 same-length-2 : tie.Need-same-length-2
 same-length-2 c = search needs
 
+same-length-3 : tie.Need-same-length-3
+same-length-3 c = search needs
+
+same-length-4 : tie.Need-same-length-4
+same-length-4 c = search needs
+
 returns : tie.Need-returns
 returns c =
     let given = c .before .before .before .before in
-    let o = all (given .before .before .before .before .before .before .before) in
+    let o = all (given .before .before .before .before .before .before .before .before .before) in
     (given .give .ensures .0 ∙ ap (λ (x : Outcome). x .answer) o, (given .give .ensures .1 .0 ∙ ap (λ (x : Outcome). x .text) o, given .give .ensures .1 .1 ∙ ap (λ (x : Outcome). x .comment) o))
 
-pub read-joined-spec : {M : Type 1} → statement M
-read-joined-spec =
+pub join-within-spec : {M : Type 1} → statement M
+join-within-spec =
     tie.close
     (tie.spec
-    slice-aggregate-first-words
-    slice-aggregate-first-words-2
     first-words-requires
-    slice-aggregate-join-on
-    slice-aggregate-join-on-2
     join-on-requires
-    slice-aggregate-give
-    slice-aggregate-give-2
     give-requires
     same-length
     same-length-2
+    same-length-3
+    same-length-4
     returns)
