@@ -1,4 +1,4 @@
-//! Finds the published sources and the archive.
+//! Finds the published sources.
 
 use std::path::{Path, PathBuf};
 use std::{env, fs};
@@ -34,9 +34,4 @@ fn main() {
     println!("cargo:rerun-if-changed={}", source.display());
     let out = PathBuf::from(env::var_os("OUT_DIR").unwrap());
     fs::write(out.join("tree.rs"), tree(&source)).unwrap();
-
-    let archive = place("WIDREKAS_ARCHIVE", "target/staticlib/libabi.a");
-    println!("cargo:rerun-if-changed={}", archive.display());
-    println!("cargo:rustc-link-search=native={}", archive.parent().unwrap().display());
-    println!("cargo:rustc-link-lib=static=abi");
 }

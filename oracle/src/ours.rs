@@ -2,28 +2,16 @@
 
 use crate::reading::{Card, Decimal, Entry, Header, Tile, Value};
 
-/// The bytes of a card's record, and where its texts stand.
-const RECORD: usize = 248;
+use widrekas::boundary::{self, Stepping, Told, DIGITS, NUMBERS, PLACES, RECORD};
+
+/// Where the texts of a card's record stand.
 const NAME: usize = 8;
 const TEXT: usize = 88;
 const COMMENT: usize = 168;
 
-extern "C" {
-    fn widrekas_version() -> u32;
-    fn widrekas_card(card: *const u8, len: usize, out: *mut u8, room: usize, number: *mut i64) -> u8;
-    fn widrekas_unit(comment: *const u8, len: usize) -> usize;
-}
-
-/// The version of the boundary.
-pub fn version() -> u32 {
-    // SAFETY: the function takes nothing.
-    unsafe { widrekas_version() }
-}
-
 fn unit(comment: &Option<Vec<u8>>) -> Option<Vec<u8>> {
     let c = comment.as_deref()?;
-    // SAFETY: the pointer and the length are those of a live slice.
-    let end = unsafe { widrekas_unit(c.as_ptr(), c.len()) };
+    let end = boundary::unit(c);
     if end == 0 {
         return None;
     }
@@ -33,19 +21,13 @@ fn unit(comment: &Option<Vec<u8>>) -> Option<Vec<u8>> {
 /// What lent memory holds before a call, to see that a refusal leaves it.
 const BEFORE: u8 = 0xa5;
 
-/// Reads a card of any length into a record of any length.
-fn read(card: &[u8], record: &mut [u8], number: &mut i64) -> u8 {
-    // SAFETY: the pointers and the lengths are those of live slices, and the number is a live one.
-    unsafe { widrekas_card(card.as_ptr(), card.len(), record.as_mut_ptr(), record.len(), number) }
-}
-
 /// Slices of other lengths are answered by 255 and left alone.
 pub fn check_lengths() {
     for (card, room) in [(0, RECORD), (79, RECORD), (81, RECORD), (80, 0), (80, RECORD - 1), (80, RECORD + 1), (160, 0)]
     {
         let mut record = vec![BEFORE; room];
         let mut number = -1;
-        let answer = read(&vec![b' '; card], &mut record, &mut number);
+        let answer = boundary::card(&vec![b' '; card], &mut record, &mut number);
         assert!(answer == 255 && number == -1 && record.iter().all(|&b| b == BEFORE), "lengths {card} and {room}");
     }
 }
@@ -54,7 +36,7 @@ pub fn check_lengths() {
 pub fn card(card: &[u8; 80]) -> Card {
     let mut record = [BEFORE; RECORD];
     let mut number = -1;
-    let refused = read(card, &mut record, &mut number);
+    let refused = boundary::card(card, &mut record, &mut number);
     if refused != 0 {
         assert!(record == [BEFORE; RECORD] && number == -1, "a refusal touches lent memory");
         return Card::Refused(refused);
@@ -88,59 +70,11 @@ pub fn card(card: &[u8; 80]) -> Card {
     }
 }
 
-extern "C" {
-    fn widrekas_lookup(
-        header: *const u8,
-        len: usize,
-        name: *const u8,
-        name_len: usize,
-        text: *mut u8,
-        text_room: usize,
-        comment: *mut u8,
-        comment_room: usize,
-        digits: *mut u8,
-        digits_room: usize,
-        out: *mut usize,
-        out_room: usize,
-        number: *mut i64,
-    ) -> u8;
-    fn widrekas_entry(
-        header: *const u8,
-        len: usize,
-        card: usize,
-        text: *mut u8,
-        text_room: usize,
-        comment: *mut u8,
-        comment_room: usize,
-        digits: *mut u8,
-        digits_room: usize,
-        out: *mut usize,
-        out_room: usize,
-        number: *mut i64,
-    ) -> u8;
-    fn widrekas_list(
-        header: *const u8,
-        len: usize,
-        first: *mut usize,
-        first_room: usize,
-        last: *mut usize,
-        last_room: usize,
-        count: *mut usize,
-    ) -> u8;
-}
-
-/// The numbers of an entry, the bytes of its digits, and the places of a list.
-const NUMBERS: usize = 7;
-const DIGITS: usize = 80;
-const PLACES: usize = 720;
-
 /// Lent memory for an entry. Its lengths are those that are lent, up to what the buffers have.
 pub struct Lent {
     text: Vec<u8>,
     comment: Vec<u8>,
-    digits: [u8; DIGITS],
-    out: [usize; NUMBERS],
-    number: i64,
+    told: Told,
 }
 
 /// What a name or a card's number is asked by.
@@ -154,76 +88,42 @@ const ROOM: usize = 58_400;
 
 impl Lent {
     pub fn new() -> Self {
-        Lent {
-            text: vec![BEFORE; ROOM],
-            comment: vec![BEFORE; ROOM],
-            digits: [BEFORE; DIGITS],
-            out: [usize::MAX; NUMBERS],
-            number: -1,
-        }
+        let told = Told { digits: [BEFORE; DIGITS], out: [usize::MAX; NUMBERS], number: -1 };
+        Lent { text: vec![BEFORE; ROOM], comment: vec![BEFORE; ROOM], told }
     }
 
     fn ask(&mut self, header: &[u8], asked: &Asked, text: usize, comment: usize) -> u8 {
         let (t, c) = (&mut self.text[..text], &mut self.comment[..comment]);
-        // SAFETY: the pointers and the lengths are those of live slices, and the number is a live one.
         match asked {
-            Asked::Name(name) => unsafe {
-                widrekas_lookup(
-                    header.as_ptr(),
-                    header.len(),
-                    name.as_ptr(),
-                    name.len(),
-                    t.as_mut_ptr(),
-                    text,
-                    c.as_mut_ptr(),
-                    comment,
-                    self.digits.as_mut_ptr(),
-                    DIGITS,
-                    self.out.as_mut_ptr(),
-                    NUMBERS,
-                    &mut self.number,
-                )
-            },
-            Asked::Card(card) => unsafe {
-                widrekas_entry(
-                    header.as_ptr(),
-                    header.len(),
-                    *card,
-                    t.as_mut_ptr(),
-                    text,
-                    c.as_mut_ptr(),
-                    comment,
-                    self.digits.as_mut_ptr(),
-                    DIGITS,
-                    self.out.as_mut_ptr(),
-                    NUMBERS,
-                    &mut self.number,
-                )
-            },
+            Asked::Name(name) => boundary::lookup(header, name, t, c, &mut self.told),
+            Asked::Card(card) => boundary::entry(header, *card, t, c, &mut self.told),
         }
     }
 
     /// The entry that is asked for, or the refusal with what it tells beside it. Buffers that are just as long as the texts are
     /// lent; one byte less is refused.
     pub fn entry(&mut self, header: &[u8], asked: Asked, name: &[u8]) -> Result<Entry, (u8, usize)> {
-        self.out = [usize::MAX; NUMBERS];
-        self.number = -1;
+        self.told.out = [usize::MAX; NUMBERS];
+        self.told.number = -1;
         let refused = self.ask(header, &asked, ROOM, ROOM);
         if refused != 0 {
-            assert!(self.number == -1 && self.out[1..] == [usize::MAX; NUMBERS - 1], "a refusal touches lent memory");
-            assert!(self.untouched(0, 0) && self.digits == [BEFORE; DIGITS], "a refusal touches lent memory");
-            return Err((refused, self.out[0]));
+            assert!(
+                self.told.number == -1 && self.told.out[1..] == [usize::MAX; NUMBERS - 1],
+                "a refusal touches lent memory"
+            );
+            assert!(self.untouched(0, 0) && self.told.digits == [BEFORE; DIGITS], "a refusal touches lent memory");
+            return Err((refused, self.told.out[0]));
         }
-        let [zero, kind, flag, commented, text, comment, digits] = self.out;
+        let [zero, kind, flag, commented, text, comment, digits] = self.told.out;
         assert!(zero == 0 && self.untouched(text, comment), "bytes beyond a length are touched");
         let held = self.text[..text].to_vec();
         let remark = self.comment[..comment].to_vec();
-        let places = self.digits[..digits].to_vec();
-        assert!(self.digits[digits..].iter().all(|&b| b == 0), "digits");
+        let places = self.told.digits[..digits].to_vec();
+        assert!(self.told.digits[digits..].iter().all(|&b| b == 0), "digits");
         let flag = flag == 1;
         let value = match kind {
-            1 => Value::Integer(self.number),
-            2 => Value::Decimal(Decimal::finite(flag, places.clone(), self.number)),
+            1 => Value::Integer(self.told.number),
+            2 => Value::Decimal(Decimal::finite(flag, places.clone(), self.told.number)),
             3 => Value::Decimal(Decimal::special(flag, true)),
             4 => Value::Decimal(Decimal::special(flag, false)),
             5 => Value::Logical(flag),
@@ -235,9 +135,9 @@ impl Lent {
         assert!(kind == 6 || kind == 8 || text == 0, "a text where there is none");
         assert!(commented == 1 || comment == 0, "a comment where there is none");
         self.clear(text, comment);
-        let kept = (self.out, self.number);
+        let kept = (self.told.out, self.told.number);
         assert!(self.ask(header, &asked, text, comment) == 0, "room that is enough");
-        assert!((self.out, self.number) == kept, "another answer with less room");
+        assert!((self.told.out, self.told.number) == kept, "another answer with less room");
         assert!(self.comment[..comment] == remark[..], "another comment with less room");
         self.clear(text, comment);
         if text > 0 {
@@ -246,7 +146,7 @@ impl Lent {
         if comment > 0 {
             assert!(self.ask(header, &asked, text, comment - 1) == 13, "room that is too little");
         }
-        assert!(self.untouched(0, 0) && (self.out, self.number) == kept, "a refusal touches lent memory");
+        assert!(self.untouched(0, 0) && (self.told.out, self.told.number) == kept, "a refusal touches lent memory");
         let comment = (commented == 1).then_some(remark);
         Ok(Entry { name: name.to_vec(), value, unit: unit(&comment), comment })
     }
@@ -259,7 +159,7 @@ impl Lent {
     fn clear(&mut self, text: usize, comment: usize) {
         self.text[..text].fill(BEFORE);
         self.comment[..comment].fill(BEFORE);
-        self.digits = [BEFORE; DIGITS];
+        self.told.digits = [BEFORE; DIGITS];
     }
 }
 
@@ -275,10 +175,7 @@ pub fn header(cards: &[[u8; 80]]) -> Header {
     let mut first = [usize::MAX; PLACES];
     let mut last = [usize::MAX; PLACES];
     let mut count = usize::MAX;
-    // SAFETY: the pointers and the lengths are those of live slices, and the count is a live number.
-    let refused = unsafe {
-        widrekas_list(bytes.as_ptr(), bytes.len(), first.as_mut_ptr(), PLACES, last.as_mut_ptr(), PLACES, &mut count)
-    };
+    let refused = boundary::list(bytes, &mut first, &mut last, &mut count);
     let mut lent = Lent::new();
     if refused != 0 {
         assert!(first == [usize::MAX; PLACES] && last == [usize::MAX; PLACES], "a refusal touches lent memory");
@@ -314,42 +211,6 @@ pub fn header(cards: &[[u8; 80]]) -> Header {
     Header::Entries(entries)
 }
 
-extern "C" {
-    fn widrekas_decode(
-        tile: *const u8,
-        len: usize,
-        nx: usize,
-        nblock: usize,
-        bits: usize,
-        pixels: *mut i32,
-        room: usize,
-        count: *mut usize,
-    ) -> u8;
-    fn widrekas_open(
-        tile: *const u8,
-        len: usize,
-        nx: usize,
-        nblock: usize,
-        bits: usize,
-        bit: *mut usize,
-        done: *mut usize,
-        last: *mut i32,
-    ) -> u8;
-    fn widrekas_step(
-        tile: *const u8,
-        len: usize,
-        nx: usize,
-        nblock: usize,
-        bits: usize,
-        bit: *mut usize,
-        done: *mut usize,
-        last: *mut i32,
-        pixels: *mut i32,
-        room: usize,
-        written: *mut usize,
-    ) -> u8;
-}
-
 /// A pixel that no width of 8 or 16 bits has, to see what stays untouched.
 const UNTOUCHED: i32 = i32::MIN + 77;
 
@@ -357,9 +218,7 @@ const UNTOUCHED: i32 = i32::MIN + 77;
 pub fn tile(tile: &[u8], nx: usize, nblock: usize, width: usize) -> Tile {
     let mut pixels = vec![UNTOUCHED; nx];
     let mut count = 0;
-    // SAFETY: the pointers and the lengths are those of live slices, and the count is a live number.
-    let refused =
-        unsafe { widrekas_decode(tile.as_ptr(), tile.len(), nx, nblock, width, pixels.as_mut_ptr(), nx, &mut count) };
+    let refused = boundary::decode(tile, nx, nblock, width, &mut pixels, &mut count);
     if refused == 0 {
         return Tile { refused, pixels, bytes: count.div_ceil(8) };
     }
@@ -373,25 +232,10 @@ pub fn blocks(tile: &[u8], nx: usize, nblock: usize, width: usize) -> (Vec<usize
     let mut pixels = vec![UNTOUCHED; nx];
     let mut places = Vec::new();
     let (mut bit, mut done, mut last, mut written) = (0, 0, 0, 0);
-    // SAFETY: as above; the cursor's three numbers are live ones.
-    let mut refused =
-        unsafe { widrekas_open(tile.as_ptr(), tile.len(), nx, nblock, width, &mut bit, &mut done, &mut last) };
+    let mut refused = boundary::open(tile, nx, nblock, width, &mut bit, &mut done, &mut last);
     while refused == 0 && done < nx {
-        refused = unsafe {
-            widrekas_step(
-                tile.as_ptr(),
-                tile.len(),
-                nx,
-                nblock,
-                width,
-                &mut bit,
-                &mut done,
-                &mut last,
-                pixels.as_mut_ptr(),
-                nx,
-                &mut written,
-            )
-        };
+        let at = Stepping { bit: &mut bit, done: &mut done, last: &mut last, written: &mut written };
+        refused = boundary::step(tile, nx, nblock, width, at, &mut pixels);
         if refused == 0 {
             places.push(bit.div_ceil(8));
         }

@@ -106,8 +106,8 @@ pub struct Told {
     pub number: i64,
 }
 
-impl Told {
-    pub fn new() -> Self {
+impl Default for Told {
+    fn default() -> Self {
         Told { digits: [0; DIGITS], out: [0; NUMBERS], number: 0 }
     }
 }
@@ -119,9 +119,9 @@ pub fn version() -> u32 {
 }
 
 /// Reads a card into its record.
-pub fn card(card: &[u8; CARD], record: &mut [u8; RECORD], number: &mut i64) -> u8 {
-    // SAFETY: two live arrays with their lengths and a live number, the last two lent alone.
-    unsafe { raw::widrekas_card(card.as_ptr(), CARD, record.as_mut_ptr(), RECORD, number) }
+pub fn card(card: &[u8], record: &mut [u8], number: &mut i64) -> u8 {
+    // SAFETY: two live slices with their lengths and a live number, the last two lent alone.
+    unsafe { raw::widrekas_card(card.as_ptr(), card.len(), record.as_mut_ptr(), record.len(), number) }
 }
 
 /// The end of a comment's unit, or 0.

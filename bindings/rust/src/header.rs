@@ -75,7 +75,7 @@ impl Header {
     /// Every card up to END is tested, and the first that is refused refuses the header.
     pub fn parse(bytes: &[u8]) -> Result<Header, Refusal> {
         // A lookup tests the whole header before it looks for the name, and no entry bears the empty one.
-        let mut told = Told::new();
+        let mut told = Told::default();
         match boundary::lookup(bytes, b"", &mut [], &mut [], &mut told) {
             0 | Refusal::NAME_NOT_FOUND | BUFFER_SHORT => (),
             number => return Err(Refusal { number, card: Some(told.out[0]) }),
@@ -175,7 +175,7 @@ impl Header {
     /// Nearly every text fits the room that is lent at first. A refusal for want of room does not say how much is wanted, so the
     /// second call lends what the cards from there on can fill at most.
     fn with_room(&self, number: usize, call: impl Fn(&mut [u8], &mut [u8], &mut Told) -> u8) -> Option<Entry> {
-        let mut told = Told::new();
+        let mut told = Told::default();
         let (mut text, mut comment) = ([0; USUAL], [0; USUAL]);
         match call(&mut text, &mut comment, &mut told) {
             0 => Some(read(&told, &text, &comment)),

@@ -12,7 +12,9 @@
 #![warn(missing_docs)]
 #![deny(unsafe_op_in_unsafe_fn)]
 
-mod boundary;
+/// The C boundary as it is, for the project's own comparison and measurements. It may change at any time.
+#[doc(hidden)]
+pub mod boundary;
 mod card;
 mod decimal;
 mod header;

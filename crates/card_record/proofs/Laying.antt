@@ -4,16 +4,12 @@ use native.Mathlib.Nat.{le-of-eq}
 use native.Mathlib.Omega.{arith}
 use mathlib.Core.Path.{_≡_, refl, sym, ap, _∙_}
 use mathlib.Core.List.{List, [], _++_, append-nil}
-use lib.ListN.{length, take, drop, length-append, drop-of-length-le}
-use lib.Seq.{take-at, drop-at, drop-drop}
+use lib.ListN.{length, length-append, drop-of-length-le}
 use Rattle.overlay.specs.Overlay.{spliced}
+use Rattle.overlay.proofs.Laying.{behind}
 
--- what is laid at the end of what was laid before, and where it ends
-pub next : (p o s : List ℕ) (at to : ℕ) → length p ≡ at → at + length s ≡ to → spliced (p ++ drop at o) at s ≡ p ++ s ++ drop to o
-next p o s at to e f =
-    rw (take-at p (drop at o) at e, ← drop-drop (length s) at (p ++ drop at o), drop-at p (drop at o) at e, drop-drop (length s) at o, f) refl
-
-pub reach : (p s : List ℕ) (at to : ℕ) → length p ≡ at → at + length s ≡ to → length (p ++ s) ≡ to
+-- where it ends
+reach : (p s : List ℕ) (at to : ℕ) → length p ≡ at → at + length s ≡ to → length (p ++ s) ≡ to
 reach p s at to e f = length-append p s ∙ ap (λ (k : ℕ). k + length s) e ∙ f
 
 -- four lists over one that is as long as all of them
@@ -26,9 +22,9 @@ laid o a b c d ea eb ec ed eo =
     let e4 : 168 + length d ≡ 248 = omega (arith, ed) in
     let l2 : length (a ++ b) ≡ 88 = reach a b 8 88 ea e2 in
     let l3 : length (a ++ b ++ c) ≡ 168 = reach (a ++ b) c 88 168 l2 e3 in
-    ap (λ (l : List ℕ). spliced (spliced (spliced l 8 b) 88 c) 168 d) (next [] o a 0 8 refl e1)
-    ∙ ap (λ (l : List ℕ). spliced (spliced l 88 c) 168 d) (next a o b 8 88 ea e2)
-    ∙ ap (λ (l : List ℕ). spliced l 168 d) (next (a ++ b) o c 88 168 l2 e3)
-    ∙ next (a ++ b ++ c) o d 168 248 l3 e4
+    ap (λ (l : List ℕ). spliced (spliced (spliced l 8 b) 88 c) 168 d) (behind [] o a 0 8 refl e1)
+    ∙ ap (λ (l : List ℕ). spliced (spliced l 88 c) 168 d) (behind a o b 8 88 ea e2)
+    ∙ ap (λ (l : List ℕ). spliced l 168 d) (behind (a ++ b) o c 88 168 l2 e3)
+    ∙ behind (a ++ b ++ c) o d 168 248 l3 e4
     ∙ ap (λ (l : List ℕ). a ++ b ++ c ++ d ++ l) (drop-of-length-le o (le-of-eq eo))
     ∙ append-nil (a ++ b ++ c ++ d)

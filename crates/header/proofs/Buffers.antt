@@ -1,7 +1,6 @@
 -- Lists laid over others, and their fronts.
 use Prim.Native.Nat.{ℕ, zero, suc, _+_, _-_, _<_, _≤_}
 use native.Mathlib.Omega.{arith}
-use native.Mathlib.Nat.{zero-add}
 use mathlib.Core.Path.{_≡_, refl, sym, ap, ap₂, _∙_}
 use mathlib.Core.Bool.{Bool, true, false, cond}
 use mathlib.Core.List.{List, [], _∷_, _++_, append-assoc}
@@ -25,10 +24,6 @@ length-spliced d s at h =
     let front : length (take at d) ≡ at = length-take-le at d (omega arith) in
     length-append (take at d ++ s) (drop (at + length s) d) ∙ ap (λ (k : ℕ). k + length (drop (at + length s) d)) (length-append (take at d) s)
     ∙ omega (arith, length-drop (at + length s) d)
-
--- laid over the front
-pub spliced-front : (d s : List ℕ) → spliced d 0 s ≡ s ++ drop (length s) d
-spliced-front d s = ap (λ (k : ℕ). s ++ drop k d) (zero-add (length s))
 
 -- what trimming at the end leaves is a front
 pub end-taken : (p : ℕ → Bool) (s : List ℕ) → take (length (trimEnd p s)) s ≡ trimEnd p s

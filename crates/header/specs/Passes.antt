@@ -104,7 +104,6 @@ pub record Joined (read : CardRead) (held r : Lengths) (texts comments texts₁ 
 -- there is room for the words of every card: a card's bytes, and one more
 pub record Room (h : List ℕ) (i : ℕ) (start : Lengths) (texts comments : List ℕ) : Type 0 where
   pub card : i < length h / 80
-  pub cards : length h / 80 ≤ 720
   pub wide-texts : 81 * (length h / 80) ≤ length texts
   pub wide-comments : 81 * (length h / 80) ≤ length comments
   pub text : start .text ≤ 80

@@ -619,7 +619,7 @@ fn join_within(
     text: &mut [u8],
     comment: &mut [u8],
 ) -> Looked
-    requires { ⌜ (i < length (now header) / 80) × (length (now header) / 80 ≤ 720) × (81 * (length (now header) / 80) ≤ length (now texts)) × (81 * (length (now header) / 80) ≤ length (now comments)) ⌝ }
+    requires { ⌜ (i < length (now header) / 80) × (81 * (length (now header) / 80) ≤ length (now texts)) × (81 * (length (now header) / 80) ≤ length (now comments)) ⌝ }
     ensures { λ r. ⌜ r ≡ written (whole (heldOf value joins read) (drop (i + 1) (rolesOf (now (header .entry))))) (now (text .entry)) (now (comment .entry)) .answer ⌝ }
     ensures { λ _. ⌜ now (text .exit) ≡ written (whole (heldOf value joins read) (drop (i + 1) (rolesOf (now (header .entry))))) (now (text .entry)) (now (comment .entry)) .text ⌝ }
     ensures { λ _. ⌜ now (comment .exit) ≡ written (whole (heldOf value joins read) (drop (i + 1) (rolesOf (now (header .entry))))) (now (text .entry)) (now (comment .entry)) .comment ⌝ }

@@ -5,8 +5,8 @@ use mathlib.Core.Path.{_≡_, refl, sym, ap, ap₂, _∙_}
 use mathlib.Core.List.{List, [], _++_}
 use borrow.Author.Tests.{le-leb, lt-leb}
 use lib.ListN.{length, take, drop, length-append}
-use lib.Seq.{take-append-seam, drop-append-add, drop-drop}
 use Rattle.overlay.specs.Overlay.{spliced}
+use Rattle.overlay.proofs.Laying.{behind}
 use Rattle.lines.specs.declared.Line.the-variants.{Written, Short}
 use Rattle.lines.specs.Lines.{Outcome, laid}
 
@@ -18,17 +18,12 @@ pub record Put (line d : List ℕ) (n : ℕ) (d′ : List ℕ) : Type 0 where
 pub put-none : (d : List ℕ) → Put [] d 0 d
 put-none d = record { end = refl; content = refl }
 
-behind : (a s d : List ℕ) → spliced (a ++ drop (length a) d) (length a) s ≡ (a ++ s) ++ drop (length (a ++ s)) d
-behind a s d =
-    ap₂ (λ (x y : List ℕ). x ++ s ++ y) (take-append-seam a (drop (length a) d))
-    (drop-append-add a (drop (length a) d) (length s) ∙ drop-drop (length s) (length a) d ∙ ap (λ (k : ℕ). drop k d) (sym (length-append a s)))
-
 module _ {a d : List ℕ} {n : ℕ} {d₁ : List ℕ} (p : Put a d n d₁) where
   pub put-next : (s : List ℕ) {m : ℕ} {d₂ : List ℕ} → m ≡ n + length s → d₂ ≡ spliced d₁ n s → Put (a ++ s) d m d₂
   put-next s e f =
       record {
         end = e ∙ ap (λ (k : ℕ). k + length s) (p .end) ∙ sym (length-append a s);
-        content = f ∙ ap₂ (λ (x : List ℕ) (k : ℕ). spliced x k s) (p .content) (p .end) ∙ behind a s d;
+        content = f ∙ ap₂ (λ (x : List ℕ) (k : ℕ). spliced x k s) (p .content) (p .end) ∙ behind a d s (length a) (length (a ++ s)) refl (sym (length-append a s));
       }
 
 module _ (line d : List ℕ) where

@@ -46,9 +46,14 @@ fn padded(front: &[u8]) -> [u8; CARD] {
     card
 }
 
+/// Fewer than so many of the cards, one behind the other.
+fn some_cards(random: &mut Random, fewer: usize) -> Vec<u8> {
+    (0..random.below(fewer)).flat_map(|_| padded(CARDS[random.below(CARDS.len())])).collect()
+}
+
 /// The boundary's lookup, with all the room there can be.
 fn looked_up(bytes: &[u8], name: &[u8]) -> Result<Entry, u8> {
-    let (mut text, mut comment, mut told) = (vec![0; 59_000], vec![0; 59_000], Told::new());
+    let (mut text, mut comment, mut told) = (vec![0; 59_000], vec![0; 59_000], Told::default());
     match boundary::lookup(bytes, name, &mut text, &mut comment, &mut told) {
         0 => Ok(read(&told, &text, &comment)),
         refused => Err(refused),
@@ -59,10 +64,7 @@ fn looked_up(bytes: &[u8], name: &[u8]) -> Result<Entry, u8> {
 fn the_list_finds_what_a_lookup_finds() {
     let mut random = Random(20_261_115);
     for _ in 0..3_000 {
-        let mut bytes = Vec::new();
-        for _ in 0..random.below(24) {
-            bytes.extend(padded(CARDS[random.below(CARDS.len())]));
-        }
+        let mut bytes = some_cards(&mut random, 24);
         bytes.extend(padded(b"END     of it"));
         bytes.extend(padded(b"\xff"));
         let header = Header::parse(&bytes).unwrap();
@@ -115,10 +117,7 @@ fn a_name_is_found_the_same_at_the_first_call_and_later() {
 fn bytes_at_random_give_a_reading_or_a_refusal() {
     let mut random = Random(7);
     for round in 0..20_000 {
-        let mut bytes = Vec::new();
-        for _ in 0..random.below(6) {
-            bytes.extend(padded(CARDS[random.below(CARDS.len())]));
-        }
+        let mut bytes = some_cards(&mut random, 6);
         bytes.extend(padded(b"END"));
         // A few bytes are overwritten, in every second round by any, otherwise by those that have a meaning.
         for _ in 0..random.below(12) {

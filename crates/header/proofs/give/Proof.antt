@@ -6,10 +6,9 @@ use mathlib.Core.Bool.{Bool, true, false, cond}
 use mathlib.Core.List.{List}
 use lib.ListN.{length, take}
 use lib.Seq.{length-take-le}
-use Rattle.overlay.proofs.Laying.{fits}
+use Rattle.overlay.proofs.Laying.{fits, over-front}
 use Rattle.header.specs.declared.LookupAnswer.the-variants as L
 use Rattle.header.specs.Answers.{Outcome, over}
-use Rattle.header.proofs.Buffers.{spliced-front}
 use Rattle.header.proofs.Writing.{short-text, short-comment, both-fit}
 use borrow.Author.Needs.{needs}
 use Rattle.header.proofs.give.Statement.{statement}
@@ -92,11 +91,11 @@ returns-3 c =
       (
         put .put-at .ensures
             ∙ fits (a .text .now) 0 (take n (a .texts .now)) (omega (arith, length-take-le n (a .texts .now) (s .pre .0), else2 .before .if1 .left))
-            ∙ spliced-front (a .text .now) (take n (a .texts .now))
+            ∙ over-front (a .text .now) (take n (a .texts .now))
             ∙ ap (λ (x : Outcome). x .text) o,
         put2 .put-at2 .ensures
             ∙ fits (a .comment .now) 0 (take m (a .comments .now)) (omega (arith, length-take-le m (a .comments .now) (count-fits cl), else2 .if2 .left))
-            ∙ spliced-front (a .comment .now) (take m (a .comments .now))
+            ∙ over-front (a .comment .now) (take m (a .comments .now))
             ∙ ap (λ (k : ℕ). over (take k (a .comments .now)) (a .comment .now)) is
             ∙ ap (λ (x : Outcome). x .comment) o,
       ),

@@ -6,9 +6,9 @@ use native.Mathlib.Omega.{arith}
 use mathlib.Core.Path.{_≡_, refl, sym, ap, _∙_}
 use mathlib.Core.List.{List, _++_}
 use borrow.Author.Needs.{needs}
-use lib.ListN.{length, take, drop, getD, set, length-set}
-use lib.Seq.{paste, paste-zero, paste-suc}
-use Rattle.header_record.proofs.Fitting.{all-over}
+use lib.ListN.{length, drop, getD, set, length-set}
+use lib.Seq.{paste, paste-zero, paste-suc, take-length}
+use Rattle.overlay.proofs.Laying.{over-all}
 use Rattle.header_record.proofs.put_numbers.Statement.{statement}
 use Rattle.header_record.proofs.put_numbers.Tie as tie
 
@@ -62,8 +62,7 @@ returns c =
     let d = at-loop .before .args .out .now in
     let s = at-loop .before .args .s .now in
     let all : at-loop .loop .i ≡ length s = omega arith in
-    let front = ap (λ (k : ℕ). take (length s) s ++ drop k d) (zero-add (length s)) in
-    at-loop .loop .inv .2 ∙ ap (paste d 0 s) all ∙ front ∙ all-over s d (at-loop .before .pre)
+    at-loop .loop .inv .2 ∙ ap (paste d 0 s) all ∙ ap (λ (l : List ℕ). l ++ drop (0 + length s) d) (take-length s) ∙ over-all d s (at-loop .before .pre)
 
 pub put-numbers-spec : {M : Type 1} → statement M
 put-numbers-spec =

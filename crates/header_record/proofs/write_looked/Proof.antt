@@ -1,11 +1,12 @@
 -- `header_record::write_looked` meets its contract: by the answer that an arm knows.
+use native.Mathlib.Omega.{arith}
 use mathlib.Core.Path.{_≡_, refl, sym, ap, _∙_}
 use lib.ListN.{length}
 use mir.Syntax.{w64}
 use mir.Val.{toZ, ofZ}
 use Rattle.card_record.specs.declared.Told.{Told}
 use Rattle.header_record.specs.Headers.{numbersOf}
-use Rattle.overlay.proofs.Laying.{all-over}
+use Rattle.overlay.proofs.Laying.{fits, over-all}
 use Rattle.header_record.proofs.Leaving.{by}
 use borrow.Author.Needs.{needs}
 use Rattle.header_record.proofs.write_looked.Statement.{statement}
@@ -60,8 +61,8 @@ same-length : tie.Need-same-length
 same-length c = search needs
 
 -- the number of a value fits
-fits : (c : tie.After-value-told) → toZ w64 (ofZ w64 (c .value-told .result .number)) ≡ c .value-told .result .number
-fits c = search needs
+number-fits : (c : tie.After-value-told) → toZ w64 (ofZ w64 (c .value-told .result .number)) ≡ c .value-told .result .number
+number-fits c = search needs
 
 returns : tie.Need-returns
 returns c =
@@ -92,9 +93,9 @@ returns-3 c =
     let known = told .before .before in
     let a = known .before .before .before .before .args in
     let same = told .value-told .ensures in
-    let digits = copied .put-at .ensures ∙ all-over (a .digits .now) (a .read .digits .bytes) (long (copied .before)) in
+    let digits = copied .put-at .ensures ∙ fits (a .digits .now) 0 (a .read .digits .bytes) (omega (arith, long (copied .before))) ∙ over-all (a .digits .now) (a .read .digits .bytes) (long (copied .before)) in
     let numbers = put .put-numbers .ensures ∙ numbered .numbers-of .ensures ∙ ap (λ (t : Told). numbersOf t (a .read)) same in
-    let number = fits told ∙ ap (λ (t : Told). t .number) same in
+    let number = number-fits told ∙ ap (λ (t : Told). t .number) same in
     by (a .read) (a .digits .now) (a .out .now) (a .number .now) (known .answer3 .given .1)
     (refl, (digits, (numbers, number)))
 
