@@ -7,7 +7,7 @@ use native.Mathlib.Nat.{mod-lt, mod-eq-of-lt, mod-eq-sub-mod, add-mod-mod, lt-of
 use borrow.Author.Tests.{lt-ltb, le-ltb, ltb-true, ltb-false, eq-eqb, ne-eqb}
 use lib.Dec.{ltb, lit≤}
 use lib.Bits.{bitAnd, and-mask}
-use lib.IntN.{ℤ, pos, negsuc, _-ℤ_}
+use lib.IntN.{ℤ, pos, negsuc, _-ℤ_, +ℤ-idr}
 use lib.Pow.{pow-pos}
 use mir.Syntax.{w32, w64}
 use mir.Val.{toZ, SFits}
@@ -89,6 +89,11 @@ following-bits w v u h =
     (sym (modulo-add (pixelOf w v) (difference u) M (pow-pos (bitsOf w))
     ∙ ap₂ (λ (a b : ℕ). (a + b) % M) (pixel-modulo w v h) (sym (modulo-width w (difference u)))
     ∙ add-mod-mod v (modulo (difference u) (2 ^ 32)) M))
+
+-- a difference of 0 leaves a pixel of the width
+pub following-none : (w : Width) (z : ℤ) → inWidth w z ≡ true → following w z 0 ≡ z
+unfolding wrap difference
+following-none w z h = ap (λ (x : ℤ). pixelOf w (modulo x (2 ^ bitsOf w))) (+ℤ-idr z) ∙ in-width w z h
 
 -- ---- the difference that u means, modulo 2 ^ 32
 

@@ -1,12 +1,11 @@
 -- What the private functions owe each other: bits of the tile that are held in a word of 64.
 use mathlib.Core.Path.{_≡_}
 use mathlib.Core.List.{List}
-use Prim.Native.Nat.{ℕ, _+_, _-_, _*_, _^_, _≤_, _<_}
+use Prim.Native.Nat.{ℕ, _+_, _-_, _*_, _%_, _^_, _≤_, _<_}
 use lib.Count.{leadingZeros}
 use lib.ListN.{getD}
 use Rattle.rice.specs.Tile.{bitsIn, fieldAt}
 use Rattle.rice.specs.Reads.{Read, found, short}
-use Rattle.rice.specs.declared.Cursor.{Cursor}
 use Rattle.rice.specs.declared.width.Code.{Code}
 use Rattle.rice.specs.declared.width.Code.the-variants.{Same, Raw, Split}
 use Rattle.rice.specs.declared.ahead.Ahead.{Ahead}
@@ -21,19 +20,23 @@ pub record Counts (t : List ℕ) : Type 0 where
 abbrev pub heldOf : List ℕ → ℕ → ℕ → ℕ
 heldOf s p n = fieldAt s p n * 2 ^ (64 - n)
 
--- a cursor with nothing held
-abbrev pub bareAt : Cursor → Ahead
-bareAt c = record { cursor = c; held = 0; count = 0 }
+-- a place with nothing held
+abbrev pub bareAt : ℕ → Ahead
+bareAt p = record { bit = p; held = 0; count = 0 }
 
--- what is held are the tile's bits from the cursor's place on
+-- n of the bits held are used
+abbrev pub pastOf : Ahead → ℕ → Ahead
+pastOf a n = record { bit = a .bit + n; held = a .held * 2 ^ n % 2 ^ 64; count = a .count - n }
+
+-- what is held are the tile's bits from the place on
 pub record Holds (s : List ℕ) (a : Ahead) : Type 0 where
   pub few : a .count ≤ 64
-  pub within : a .cursor .bit + a .count ≤ bitsIn s
-  pub held : a .held ≡ heldOf s (a .cursor .bit) (a .count)
+  pub within : a .bit + a .count ≤ bitsIn s
+  pub held : a .held ≡ heldOf s (a .bit) (a .count)
 
 -- a read finds u, and what is ahead stands after it
 abbrev pub After : List ℕ → Read → ℕ → Ahead → Type 0
-After s r u a = (r ≡ found u (a .cursor .bit)) × Holds s a
+After s r u a = (r ≡ found u (a .bit)) × Holds s a
 
 -- an answer to a read, where there is one
 abbrev pub Found : List ℕ → Read → Got → Type 0

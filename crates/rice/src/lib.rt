@@ -1,13 +1,15 @@
 // One tile of Rice-coded pixels, decoded whole or block by block (document 01, "One tile"; FITS Standard 10.4.1).
 ghost use mathlib.Core.Path.{_≡_};
 ghost use mathlib.Core.Bool.{true};
-ghost use Prim.Native.Nat.{_+_, _-_, _*_, _^_, _<_, _≤_, min, suc};
+ghost use mathlib.Core.List.{List};
+ghost use Prim.Native.Nat.{ℕ, _+_, _-_, _*_, _^_, _<_, _≤_, min, suc};
 ghost use lib.ListN.{length};
 ghost use lib.Seq.{sets};
 ghost use Rattle.rice.specs.Tile.{bitsIn};
 ghost use Rattle.rice.specs.Widths.{inWidth};
 ghost use Rattle.rice.specs.Reads.{moved, takeOf, skipOf, mostBytes};
 ghost use Rattle.rice.specs.Held.{CodeFits};
+ghost use Rattle.rice.specs.declared.width.Width.{Width};
 ghost use Rattle.rice.specs.Blocks.{runFrom, filledOf, blockOf};
 ghost use Rattle.rice.specs.Steps.{planOf, stands, stepOf, openOf, stepsOf, decodeOf};
 
@@ -242,7 +244,29 @@ impl Cursor {
         let Coded::Known(code) = width.code(field) else {
             return Stepped::Refused(Refusal::FsAboveTop, 0);
         };
-        start.fill(tile, width, code, part)
+        let Code::Same = code else {
+            return start.fill(tile, width, code, part);
+        };
+        start.level(part)
+    }
+
+    // The pixels of a block whose differences are all 0.
+    fn level(self, part: &mut [i32]) -> Stepped
+        requires { ⌜ self .done + length (now part) < 2 ^ 32 ⌝ }
+        ensures { λ r. ⌜ ((w : Width) → inWidth w (self .last) ≡ true → (s : List ℕ) → r ≡ filledOf self (length (now (part .entry))) (runFrom w Code.Same s self (length (now (part .entry))))) ⌝ }
+        ensures { λ _. ⌜ ((w : Width) → inWidth w (self .last) ≡ true → (s : List ℕ) → now (part .exit) ≡ sets (now (part .entry)) 0 (runFrom w Code.Same s self (length (now (part .entry))) .pixels)) ⌝ }
+    {
+        let last = self.last;
+        let mut i = 0;
+        while i < part.len() {
+            part[i] = last;
+            i += 1;
+        }
+        Stepped::Next(Cursor {
+            bit: self.bit,
+            done: self.done + i,
+            last,
+        })
     }
 
     // The pixels of a block, into the part that is lent for them.
@@ -252,7 +276,7 @@ impl Cursor {
         ensures { λ _. ⌜ now (part .exit) ≡ sets (now (part .entry)) 0 (runFrom width code (now (tile .entry)) self (length (now (part .entry))) .pixels) ⌝ }
     {
         let table = table::nonzero_count();
-        let mut a = ahead::bare(self);
+        let mut a = ahead::bare(self.bit);
         let last = self.last;
         let mut v = width.bits_of(last);
         let mask = width.mask();
@@ -270,9 +294,8 @@ impl Cursor {
         }
         let last = width.pixel(v);
         let done = self.done + i;
-        let end = a.cursor;
         Stepped::Next(Cursor {
-            bit: end.bit,
+            bit: a.bit,
             done,
             last,
         })

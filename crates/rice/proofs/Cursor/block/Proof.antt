@@ -1,5 +1,5 @@
 -- `rice::Cursor::block`: the FS field, its code, and the run of its pixels. Assumes nothing.
-use mathlib.Core.Path.{_≡_, ap, sym, subst, _∙_}
+use mathlib.Core.Path.{_≡_, refl, ap, sym, subst, _∙_}
 use mathlib.Core.Bool.{true}
 use Prim.Native.Nat.{ℕ, _+_, _^_, _<_}
 use native.Mathlib.Omega.{arith}
@@ -8,8 +8,9 @@ use denote.Ref.{now}
 use lib.ListN.{length}
 use Rattle.rice.specs.Widths.{fsBits, inWidth}
 use Rattle.rice.specs.Reads.{found, fieldRead, moved, takenOf}
-use Rattle.rice.specs.Blocks.{Outcome, codeOf}
+use Rattle.rice.specs.Blocks.{Outcome, codeOf, coded, blockOf}
 use Rattle.rice.specs.declared.Cursor.{Cursor}
+use Rattle.rice.specs.declared.width.Code.{Code}
 use Rattle.rice.specs.declared.width.Coded.the-variants.{Known}
 use Rattle.rice.proofs.Wrapping.{sizes}
 use Rattle.rice.proofs.Reading.{take-read, taken-found, taken-short, field-of}
@@ -81,15 +82,47 @@ known-code : (c : tie.After-known-told2)
     (c .before .before .before .before .before .field .given .0 .0) ≡ Known (c .before .code2 .given .0 .0)
 known-code c = sym (c .before .before .before .code .ensures) ∙ c .before .code2 .given .1
 
+-- the cursor behind the FS field keeps the pixel and the count
+in-width : (k : tie.After-known-told)
+    → inWidth (start (k .before .before .before) .args .width) (k .before .field .given .0 .1 .0 .last) ≡ true
+in-width k =
+    let a = start (k .before .before .before) in
+    subst (λ (d : Cursor). inWidth (a .args .width) (d .last) ≡ true) (sym (found-field k .1)) (a .pre .1)
+
+few-done : (k : tie.After-known-told)
+    → k .before .field .given .0 .1 .0 .done + length (now (start (k .before .before .before) .args .part)) < 2 ^ 32
+few-done k =
+    let a = start (k .before .before .before) in
+    subst (λ (d : Cursor). d .done + length (now (a .args .part)) < 2 ^ 32) (sym (found-field k .1)) (a .pre .2)
+
+-- the block, where its code is known
+known : (c : tie.After-known-told2) (code : Code) → c .before .code2 .given .0 .0 ≡ code
+    → blockOf (start (c .before .before .before .before .before .before .before) .args .width)
+    (now (start (c .before .before .before .before .before .before .before) .args .tile))
+    (start (c .before .before .before .before .before .before .before) .args .self)
+    (now (start (c .before .before .before .before .before .before .before) .args .part))
+    ≡ coded (start (c .before .before .before .before .before .before .before) .args .width)
+    (now (start (c .before .before .before .before .before .before .before) .args .tile))
+    (c .before .before .before .before .before .field .given .0 .1 .0)
+    (now (start (c .before .before .before .before .before .before .before) .args .part)) (Known code)
+known c code e =
+    let k = c .before .before .before .before in
+    let a = start (k .before .before .before) .args in
+    block-known (a .width) (now (a .tile)) (a .self) (now (a .part)) _ _ (found-field k .0) (found-field k .1) code
+    (known-code c ∙ ap Known e)
+
+enum-told-3 : tie.Need-enum-told-3
+enum-told-3 c = search needs
+
 fill-requires : tie.Need-fill-requires
 fill-requires c κs =
-    let k = c .before .before .before .before .before in
-    let a = k .before .before .before .before .before .before in (
+    let k = c .before .before .before .before .before .before in
+    let a = start (k .before .before .before) in (
       a .pre .0,
       field-of _ _ _ _ _ (found-field k .0) .within,
-      code-fits (a .args .width) _ _ (known-code (c .before)),
-      subst (λ (d : Cursor). inWidth (a .args .width) (d .last) ≡ true) (sym (found-field k .1)) (a .pre .1),
-      subst (λ (d : Cursor). d .done + length (now (a .args .part)) < 2 ^ 32) (sym (found-field k .1)) (a .pre .2),
+      code-fits (a .args .width) _ _ (known-code (c .before .before)),
+      in-width k,
+      few-done k,
     )
 
 same-length : tie.Need-same-length
@@ -97,13 +130,24 @@ same-length c = search needs
 
 returns-3 : tie.Need-returns-3
 returns-3 c =
-    let k = c .before .before .before .before .before .before .before in
-    let a = k .before .before .before .before .before .before .args in
-    let is = block-known (a .width) (now (a .tile)) (a .self) (now (a .part)) _ _ (found-field k .0) (found-field k .1) _
-    (known-code (c .before .before .before)) in (
+    let is = known (c .before .before .before .before) _ refl in (
       c .before .fill .ensures .0 ∙ sym (ap (λ (o : Outcome). o .answer) is),
-      c .before .fill .ensures .1
-          ∙ sym (ap (λ (o : Outcome). o .content) is),
+      c .before .fill .ensures .1 ∙ sym (ap (λ (o : Outcome). o .content) is),
+    )
+
+level-requires : tie.Need-level-requires
+level-requires c κs = few-done (c .before .before .before .before .before .before .before)
+
+same-length-2 : tie.Need-same-length-2
+same-length-2 c = search needs
+
+returns-4 : tie.Need-returns-4
+returns-4 c =
+    let t = c .before .before .before in
+    let is = known (t .before .before) _ (t .enum-told3 .given .1) in
+    let w = in-width (t .before .before .before .before .before .before) in (
+      c .before .level .ensures .0 _ w _ ∙ sym (ap (λ (o : Outcome). o .answer) is),
+      c .before .level .ensures .1 _ w _ ∙ sym (ap (λ (o : Outcome). o .content) is),
     )
 
 pub block-spec : {M : Type 1} → statement M
@@ -119,6 +163,10 @@ block-spec =
     enum-known-code
     enum-told-2
     returns-2
+    enum-told-3
     fill-requires
     same-length
-    returns-3)
+    returns-3
+    level-requires
+    same-length-2
+    returns-4)

@@ -33,7 +33,7 @@ record Stored (self : Cursor) (tile : List ℕ) (width : Width) (code : Code) (p
   holds : Holds tile a
   bits : v < 2 ^ bitsOf width
   going : Going (runOf width code tile (length part₀) (self .bit) (self .last))
-      (runOf width code tile (length part₀ - i) (a .cursor .bit) (pixelOf width v)) part₀ part i
+      (runOf width code tile (length part₀ - i) (a .bit) (pixelOf width v)) part₀ part i
 
 abbrev Inv-loop : tie.InvT-loop
 Inv-loop self tile width code part₀ table a₀ last v₀ mask below i₀ part a v i = Stored self tile width code part₀ part a v i
@@ -46,17 +46,17 @@ start l = l .before .before .before .before .before .before .before .before
 
 -- nothing is stored yet
 none-yet : (self : Cursor) (tile : List ℕ) (width : Width) (code : Code) (part : List ℤ) (a : Ahead) (v : ℕ)
-    → a ≡ bareAt self → self .bit ≤ bitsIn tile → v < 2 ^ bitsOf width → pixelOf width v ≡ self .last
+    → a ≡ bareAt (self .bit) → self .bit ≤ bitsIn tile → v < 2 ^ bitsOf width → pixelOf width v ≡ self .last
     → Stored self tile width code part part a v 0
 none-yet self tile width code part a v e h few last =
     let R = runOf width code tile (length part) (self .bit) (self .last) in
-    let same : R ≡ runOf width code tile (length part) (a .cursor .bit) (pixelOf width v) =
-    ap₂ (λ (x : Ahead) (y : ℤ). runOf width code tile (length part) (x .cursor .bit) y) (sym e) (sym last)
+    let same : R ≡ runOf width code tile (length part) (a .bit) (pixelOf width v) =
+    ap₂ (λ (x : Ahead) (y : ℤ). runOf width code tile (length part) (x .bit) y) (sym e) (sym last)
     in
     record {
       within = omega arith;
       same = refl;
-      holds = bare-holds tile a self e h;
+      holds = bare-holds tile a (self .bit) e h;
       bits = few;
       going = rw sub-zero (subst (λ (r : Run). Going R r part part 0) same (going-start R part));
     }
@@ -65,7 +65,7 @@ none-yet self tile width code part a v e h few last =
 one-more : (self : Cursor) (tile : List ℕ) (width : Width) (code : Code) (part₀ part : List ℤ) (a d : Ahead)
     (v i u w : ℕ) (z : ℤ)
     → Stored self tile width code part₀ part a v i → i < length part₀
-    → diffRead code tile (a .cursor .bit) ≡ found u (d .cursor .bit) → Holds tile d
+    → diffRead code tile (a .bit) ≡ found u (d .bit) → Holds tile d
     → w < 2 ^ bitsOf width → pixelOf width w ≡ following width (pixelOf width v) u → z ≡ pixelOf width w
     → Stored self tile width code part₀ (set part i z) d w (i + 1)
 one-more self tile width code part₀ part a d v i u w z f h e l few we ze = record {
@@ -75,8 +75,8 @@ one-more self tile width code part₀ part a d v i u w z f h e l few we ze = rec
   bits = few;
   going =
       going-on z (f .going)
-      (run-on width code tile (length part₀) i (a .cursor .bit) (pixelOf width v) h e
-      ∙ ap₂ (λ (x y : ℤ). also x (runOf width code tile (length part₀ - (i + 1)) (d .cursor .bit) y)) (sym (ze ∙ we))
+      (run-on width code tile (length part₀) i (a .bit) (pixelOf width v) h e
+      ∙ ap₂ (λ (x y : ℤ). also x (runOf width code tile (length part₀ - (i + 1)) (d .bit) y)) (sym (ze ∙ we))
       (sym we));
 }
 
@@ -127,7 +127,7 @@ returns c =
     let d = c .before .before in
     let l = d .before .before .before in
     let a = start l .args in
-    let read : diffRead (a .code) (now (a .tile)) (l .loop .a .cursor .bit) ≡ short =
+    let read : diffRead (a .code) (now (a .tile)) (l .loop .a .bit) ≡ short =
     subst (Gives _ _) (c .enum-told .given .1) (d .difference .ensures) in
     let test : l .loop .i < length (now (a .part)) = omega (arith, l .loop .inv .same) in
     filled-cut (a .self) _ refl
@@ -137,13 +137,13 @@ returns c =
 read : (c : tie.After-known-told Inv-loop μ-loop)
     → (diffRead (start (c .before .before .before .before .before .before) .args .code)
     (now (start (c .before .before .before .before .before .before) .args .tile))
-    (c .before .before .before .before .before .before .loop .a .cursor .bit)
-    ≡ found (c .before .u .given .0 .0) (c .before .u .given .0 .1 .0 .cursor .bit))
+    (c .before .before .before .before .before .before .loop .a .bit)
+    ≡ found (c .before .u .given .0 .0) (c .before .u .given .0 .1 .0 .bit))
     × Holds (now (start (c .before .before .before .before .before .before) .args .tile)) (c .before .u .given .0 .1 .0)
 read c =
     let l = c .before .before .before .before .before .before in
     subst (Gives (now (start l .args .tile))
-    (diffRead (start l .args .code) (now (start l .args .tile)) (l .loop .a .cursor .bit))) (c .before .u .given .1)
+    (diffRead (start l .args .code) (now (start l .args .tile)) (l .loop .a .bit))) (c .before .u .given .1)
     (c .before .before .before .difference .ensures)
 
 next-by-requires : tie.Need-next-by-requires Inv-loop μ-loop
@@ -187,11 +187,11 @@ add-done : tie.Need-add-done Inv-loop μ-loop
 add-done c = search needs
 
 same-length-2 : tie.Need-same-length-2 Inv-loop μ-loop
-same-length-2 c = c .before .before .before .before .loop .inv .same
+same-length-2 c = c .before .before .before .loop .inv .same
 
 returns-2 : tie.Need-returns-2 Inv-loop μ-loop
 returns-2 c =
-    let p = c .before .before in
+    let p = c .before in
     let l = p .before .before in
     let a = start l .args in
     let left : length (now (a .part)) ≤ l .loop .i = omega (arith, l .loop .inv .same) in

@@ -12,8 +12,8 @@ add-if1 c = search needs
 window-requires : tie.Need-window-requires
 window-requires c κs = search needs
 
-sub-t11 : tie.Need-sub-t11
-sub-t11 c = search needs
+sub-t10 : tie.Need-sub-t10
+sub-t10 c = search needs
 
 bare-requires : tie.Need-bare-requires
 bare-requires c κs = search needs
@@ -23,7 +23,7 @@ returns c = search needs
 
 returns-2 : tie.Need-returns-2
 returns-2 c =
-    (ap (λ (a : Ahead). a .cursor) (c .bare .ensures), bare-holds _ _ _ (c .bare .ensures) (c .before .before .before .pre))
+    (ap (λ (a : Ahead). a .bit) (c .bare .ensures), bare-holds _ _ _ (c .bare .ensures) (c .before .before .before .pre))
 
 pub full-spec : {M : Type 1} → statement M
-full-spec = tie.close (tie.spec add-if1 window-requires sub-t11 bare-requires returns returns-2)
+full-spec = tie.close (tie.spec add-if1 window-requires sub-t10 bare-requires returns returns-2)

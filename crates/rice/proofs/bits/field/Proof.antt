@@ -1,12 +1,10 @@
 -- `rice::bits::field`: the first n bits of the word that starts at p. Assumes nothing.
-use mathlib.Core.Path.{_≡_, ap, _∙_}
+use mathlib.Core.Path.{ap, _∙_}
 use Prim.Native.Nat.{ℕ, _+_, _-_, _*_, _/_, _%_, _^_}
 use native.Mathlib.Omega.{arith}
 use borrow.Author.Needs.{needs}
 use denote.Ref.{now}
-use lib.Pow.{shr-shr}
-use Rattle.rice.specs.Held.{heldOf}
-use Rattle.rice.proofs.HeldBits.{window-held, held-first}
+use Rattle.rice.proofs.HeldBits.{window-held, held-cut}
 use Rattle.rice.proofs.bits.field.Statement.{statement}
 use Rattle.rice.proofs.bits.field.Tie as tie
 
@@ -25,13 +23,9 @@ shr-result c = search needs
 returns : tie.Need-returns
 returns c =
     let a = c .before .before .args in
-    let m = 64 - a .p % 8 in
-    let e : 1 + (63 - a .n) ≡ 64 - a .n = omega arith in
     ap (λ (w : ℕ). w * 2 ^ (a .p % 8) % 2 ^ 64 / 2 ^ 1 / 2 ^ (63 - a .n)) (c .word .ensures)
     ∙ ap (λ (w : ℕ). w / 2 ^ 1 / 2 ^ (63 - a .n)) (window-held (now (a .s)) (a .p))
-    ∙ shr-shr (heldOf (now (a .s)) (a .p) m) 1 (63 - a .n)
-    ∙ ap (λ (k : ℕ). heldOf (now (a .s)) (a .p) m / 2 ^ k) e
-    ∙ held-first (now (a .s)) (a .p) (a .n) m (omega arith) (omega arith)
+    ∙ held-cut (now (a .s)) (a .p) (a .n) (64 - a .p % 8) (omega arith) (omega arith) (omega arith)
 
 pub field-spec : {M : Type 1} → statement M
 field-spec = tie.close (tie.spec word-requires shl-result sub-result shr-result returns)

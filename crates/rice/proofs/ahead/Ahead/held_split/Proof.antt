@@ -3,9 +3,8 @@ use Prim.Native.Nat.{_+_, _-_, _/_, _^_, _<_, _≤_}
 use native.Mathlib.Omega.{arith}
 use borrow.Author.Needs.{needs}
 use lib.Pow.{pow-pos}
-use Rattle.rice.specs.declared.ahead.Ahead.{Ahead}
 use Rattle.rice.proofs.Reading.{one-shifted, word-cut, word-fits}
-use Rattle.rice.proofs.Giving.{held-gives}
+use Rattle.rice.proofs.Giving.{split-gives}
 use Rattle.rice.proofs.ahead.Ahead.held_split.Statement.{statement}
 use Rattle.rice.proofs.ahead.Ahead.held_split.Tie as tie
 
@@ -45,27 +44,16 @@ add-value c =
           (arith, word-fits n fs l few (c .before .before .before .before .args .self .held / 2 ^ (64 - (n + 1 + fs))));
     })
 
-add-place : tie.Need-add-place
-add-place c = search needs
-
-at-requires : tie.Need-at-requires
-at-requires c κs = search needs
-
-shl-held : tie.Need-shl-held
-shl-held c = search needs
-
-sub-count : tie.Need-sub-count
-sub-count c = search needs
+past-requires : tie.Need-past-requires
+past-requires c κs = search needs
 
 returns : tie.Need-returns
 returns c =
-    let b = c .before .before .before in
-    let t = b .before .before .before in
+    let t = c .before .before in
     let lead = t .before .before in
     let l : lead .before .args .fs ≤ 24 = search needs in
-    λ s H. held-gives s (lead .before .args .self) (lead .leading .result) (lead .before .args .fs) H l
-    (lead .leading .ensures .1) (t .if1 .taken) _
-    (c .before .before .at .ensures)
+    λ s H. split-gives s (lead .before .args .self) H (lead .leading .result) (lead .before .args .fs) l
+    (lead .leading .ensures .1) (t .if1 .taken) _ (c .past .ensures)
 
 returns-2 : tie.Need-returns-2
 returns-2 c = search needs
@@ -83,9 +71,6 @@ held-split-spec =
     sub-rest-2
     shl-value
     add-value
-    add-place
-    at-requires
-    shl-held
-    sub-count
+    past-requires
     returns
     returns-2)
