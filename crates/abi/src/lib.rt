@@ -1,7 +1,8 @@
 // The C boundary: functions over slices and numbers, which take anything. A slice is a pointer and a length there.
 ghost use mathlib.Core.Path.{_≡_};
 ghost use Rattle.value.specs.Units.{unitOf};
-ghost use Rattle.card_record.specs.Records.{answerOf, leftOf, numberLeft, unitEnd};
+ghost use Rattle.value_record.specs.Telling.{unitEnd};
+ghost use Rattle.card_record.specs.Records.{answerOf, leftOf, numberLeft};
 ghost use Rattle.header.specs.Answers.{lookupOf, entryOf};
 ghost use Rattle.listing.specs.Listing.{listOf};
 ghost use Rattle.header_record.specs.Headers.{isFit, entryAnswer, entryText, entryComment, entryDigits, entryNumbers, entryNumber};
@@ -35,7 +36,7 @@ pub extern "C" fn widrekas_card(card: &[u8], out: &mut [u8], number: &mut i64) -
 pub extern "C" fn widrekas_unit(comment: &[u8]) -> usize
     ensures { λ r. ⌜ r ≡ unitEnd (unitOf (now (comment .entry))) ⌝ }
 {
-    card_record::unit_end(comment)
+    value_record::unit_end(comment)
 }
 
 // ---- headers

@@ -7,19 +7,14 @@ use lib.IntN.{ℤ, pos}
 use lib.ListN.{length}
 use Rattle.refusal.specs.Numbers.{numberOf}
 use Rattle.text.specs.declared.Text.{Text}
-use Rattle.numbers.specs.declared.Size.{Size}
-use Rattle.numbers.specs.declared.Size.the-variants.{Finite, Infinite, Nan}
-use Rattle.numbers.specs.declared.Value.{Value}
-use Rattle.numbers.specs.declared.Value.the-variants.{Integer, Float, Logical, String, Undefined, Invalid}
-use Rattle.value.specs.declared.UnitPlace.{UnitPlace}
-use Rattle.value.specs.declared.UnitPlace.the-variants.{Between, Nowhere}
 use Rattle.card.specs.declared.Card.{Card}
 use Rattle.card.specs.declared.Card.the-variants as C
 use Rattle.card.specs.declared.CardAnswer.{CardAnswer}
 use Rattle.card.specs.declared.CardAnswer.the-variants.{Read, Refused}
 use Rattle.card.specs.declared.CardRead.{CardRead}
 use Rattle.card.specs.Cards.{cardOf}
-use Rattle.card_record.specs.declared.Told.{Told}
+use Rattle.value_record.specs.declared.Told.{Told}
+use Rattle.value_record.specs.Telling.{told, valueTold, bitOf, wrongLength}
 
 -- ---- a card in numbers
 
@@ -35,23 +30,6 @@ classNumber C.Space = 7
 classNumber C.End = 8
 classNumber C.Undefined = 9
 
--- a kind, whether it is true or negative, and its integer or power of ten
-abbrev pub told : ℕ → Bool → ℤ → Told
-told kind flag number = record { kind = kind; flag = flag; number = number }
-
-abbrev pub sizeTold : Bool → Size → Told
-sizeTold minus (Finite power) = told 2 minus power
-sizeTold minus Infinite = told 3 minus (pos 0)
-sizeTold minus Nan = told 4 minus (pos 0)
-
-abbrev pub valueTold : Value → Told
-valueTold (Integer z) = told 1 false z
-valueTold (Float minus size) = sizeTold minus size
-valueTold (Logical t) = told 5 t (pos 0)
-valueTold String = told 6 false (pos 0)
-valueTold Undefined = told 7 false (pos 0)
-valueTold Invalid = told 8 false (pos 0)
-
 -- a card without a value has kind 0
 abbrev pub cardTold : Card → Told
 cardTold (C.Value v) = valueTold v
@@ -65,10 +43,6 @@ cardTold C.End = told 0 false (pos 0)
 cardTold C.Undefined = told 0 false (pos 0)
 
 -- ---- the record
-
--- 1 for true and 0 for false
-abbrev pub bitOf : Bool → ℕ
-bitOf t = cond t 1 0
 
 -- a length in a byte
 abbrev pub byteOf : ℕ → ℕ
@@ -103,9 +77,6 @@ numberAfter (Refused why) z = z
 unfoldable pub isFit : List ℕ → List ℕ → Bool
 isFit card o = eqb (length card) 80 && eqb (length o) 248
 
-abbrev pub wrongLength : ℕ
-wrongLength = 255
-
 abbrev pub answerOf : List ℕ → List ℕ → ℕ
 answerOf card o = cond (isFit card o) (said (cardOf card .answer)) wrongLength
 
@@ -114,10 +85,3 @@ leftOf card o = cond (isFit card o) (recordAfter (cardOf card .answer) (cardOf c
 
 abbrev pub numberLeft : List ℕ → List ℕ → ℤ → ℤ
 numberLeft card o z = cond (isFit card o) (numberAfter (cardOf card .answer) z) z
-
--- ---- units
-
--- the end of a unit, which starts at byte 1; 0 where there is none
-abbrev pub unitEnd : UnitPlace → ℕ
-unitEnd (Between from to) = to
-unitEnd Nowhere = 0

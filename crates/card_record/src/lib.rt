@@ -4,24 +4,13 @@ ghost use mathlib.Core.List.{_++_};
 ghost use mathlib.Core.Bool.{false};
 ghost use lib.IntN.{pos};
 ghost use lib.ListN.{length};
-ghost use Rattle.value.specs.Units.{unitOf};
-ghost use Rattle.card_record.specs.Records.{told, classNumber, sizeTold, valueTold, cardTold, bitOf, byteOf, headOf, recordOf};
-ghost use Rattle.card_record.specs.Records.{said, recordAfter, numberAfter, answerOf, leftOf, numberLeft, unitEnd};
+ghost use Rattle.value_record.specs.Telling.{told};
+ghost use Rattle.card_record.specs.Records.{classNumber, cardTold, byteOf, headOf, recordOf, said, recordAfter, numberAfter, answerOf, leftOf, numberLeft};
 use card::Card;
 use card::CardAnswer;
 use card::CardRead;
-use numbers::Size;
-use numbers::Value;
-use refusal::Refusal;
 use text::Text;
-use value::UnitPlace;
-
-// What a card's value comes to in numbers: its kind, whether it is true or negative, and its integer or power of ten.
-pub struct Told {
-    pub kind: u8,
-    pub flag: bool,
-    pub number: i64,
-}
+use value_record::Told;
 
 // The bytes of a card.
 const CARD: usize = 80;
@@ -35,9 +24,6 @@ const TEXT: usize = 88;
 
 const COMMENT: usize = 168;
 
-// The answer to a slice of another length than the one asked for: no refusal has this number.
-pub const WRONG_LENGTH: u8 = 255;
-
 // Reads a card of 80 bytes into a record of 248 bytes and a number, and answers 0.
 // Otherwise it answers the refusal's number, or 255 where a slice has another length, and both stay as they are.
 pub fn read_into(card: &[u8], out: &mut [u8], number: &mut i64) -> u8
@@ -46,26 +32,15 @@ pub fn read_into(card: &[u8], out: &mut [u8], number: &mut i64) -> u8
     ensures { λ _. ⌜ now (number .exit) ≡ numberLeft (now (card .entry)) (now (out .entry)) (now (number .entry)) ⌝ }
 {
     if card.len() != CARD {
-        return WRONG_LENGTH;
+        return value_record::WRONG_LENGTH;
     }
     if out.len() != RECORD {
-        return WRONG_LENGTH;
+        return value_record::WRONG_LENGTH;
     }
     let copy = text::text_of(card);
     let bytes = copy.bytes;
     let read = card::read_card(&bytes);
     write_card(read, out, number)
-}
-
-// The end of the unit that a comment names, which starts at byte 1; 0 where it names none.
-pub fn unit_end(comment: &[u8]) -> usize
-    ensures { λ r. ⌜ r ≡ unitEnd (unitOf (now (comment .entry))) ⌝ }
-{
-    let place = value::unit(comment);
-    match place {
-        UnitPlace::Between(_, end) => end,
-        UnitPlace::Nowhere => 0,
-    }
 }
 
 // ---- a card in numbers
@@ -91,8 +66,8 @@ fn card_told(card: Card) -> Told
     ensures { λ r. ⌜ r ≡ cardTold card ⌝ }
 {
     match card {
-        Card::Value(v) => value_told(v),
-        Card::Hierarch(v) => value_told(v),
+        Card::Value(v) => value_record::value_told(v),
+        Card::Hierarch(v) => value_record::value_told(v),
         Card::Continuation => no_value(),
         Card::Xtension => no_value(),
         Card::Comment => no_value(),
@@ -114,69 +89,7 @@ fn no_value() -> Told
     }
 }
 
-pub fn value_told(value: Value) -> Told
-    ensures { λ r. ⌜ r ≡ valueTold value ⌝ }
-{
-    match value {
-        Value::Integer(z) => Told {
-            kind: 1,
-            flag: false,
-            number: z,
-        },
-        Value::Float(minus, size) => size_told(minus, size),
-        Value::Logical(t) => Told {
-            kind: 5,
-            flag: t,
-            number: 0,
-        },
-        Value::String => Told {
-            kind: 6,
-            flag: false,
-            number: 0,
-        },
-        Value::Undefined => Told {
-            kind: 7,
-            flag: false,
-            number: 0,
-        },
-        Value::Invalid => Told {
-            kind: 8,
-            flag: false,
-            number: 0,
-        },
-    }
-}
-
-fn size_told(minus: bool, size: Size) -> Told
-    ensures { λ r. ⌜ r ≡ sizeTold minus size ⌝ }
-{
-    match size {
-        Size::Finite(power) => Told {
-            kind: 2,
-            flag: minus,
-            number: power,
-        },
-        Size::Infinite => Told {
-            kind: 3,
-            flag: minus,
-            number: 0,
-        },
-        Size::Nan => Told {
-            kind: 4,
-            flag: minus,
-            number: 0,
-        },
-    }
-}
-
 // ---- the record
-
-// 1 for true and 0 for false.
-pub fn bit(t: bool) -> u8
-    ensures { λ r. ⌜ r ≡ bitOf t ⌝ }
-{
-    if t { 1 } else { 0 }
-}
 
 // A length in a byte.
 fn byte(n: usize) -> u8
@@ -195,8 +108,8 @@ fn head(read: CardRead, class: u8, value: Told) -> [u8; 8]
     [
         class,
         value.kind,
-        bit(value.flag),
-        bit(read.commented),
+        value_record::bit(value.flag),
+        value_record::bit(read.commented),
         byte(name.len),
         byte(text.len),
         byte(comment.len),

@@ -4,7 +4,7 @@ use mathlib.Core.Path.{_≡_, refl}
 use mathlib.Core.Bool.{Bool, true, false}
 use mathlib.Core.List.{List}
 use lib.IntN.{ℤ}
-use Rattle.card_record.specs.Records.{wrongLength}
+use Rattle.value_record.specs.Telling.{wrongLength}
 use Rattle.header.specs.declared.Header.{Header}
 use Rattle.header.specs.declared.LookupAnswer.{LookupAnswer}
 use Rattle.header.specs.declared.Looked.{Looked}

@@ -7,8 +7,8 @@ use lib.IntN.{ℤ}
 use lib.ListN.{length, set}
 use Rattle.refusal.specs.Numbers.{numberOf}
 use Rattle.text.specs.Text.{size}
-use Rattle.card_record.specs.declared.Told.{Told}
-use Rattle.card_record.specs.Records.{valueTold, bitOf, wrongLength}
+use Rattle.value_record.specs.declared.Told.{Told}
+use Rattle.value_record.specs.Telling.{valueTold, bitOf, wrongLength}
 use Rattle.header.specs.declared.Header.{Header}
 use Rattle.header.specs.declared.Header.the-variants.{Accepted, Refused}
 use Rattle.header.specs.declared.LookupAnswer.{LookupAnswer}

@@ -6,11 +6,11 @@ ghost use Rattle.listing.specs.Listing.{listOf};
 ghost use Rattle.header_record.specs.Headers.{numbersOf, said, numbersAfter, digitsAfter, numberAfter, isFit};
 ghost use Rattle.header_record.specs.Headers.{entryAnswer, entryText, entryComment, entryDigits, entryNumbers, entryNumber};
 ghost use Rattle.header_record.specs.Headers.{listSaid, placesAfter, countAfter, isRoom, listAnswer, listFirst, listLast, listCount};
-use card_record::Told;
 use header::Header;
 use header::Looked;
 use header::LookupAnswer;
 use listing::Listing;
+use value_record::Told;
 
 // The numbers of an entry, the bytes of its digits, and the places of a list.
 const NUMBERS: usize = 7;
@@ -42,7 +42,7 @@ pub fn lookup_into(
         let read = header::lookup(header, name, text, comment);
         return write_looked(read, digits, out, number);
     }
-    card_record::WRONG_LENGTH
+    value_record::WRONG_LENGTH
 }
 
 // Reads the entry at a card's number, as a lookup does.
@@ -66,7 +66,7 @@ pub fn entry_into(
         let read = header::read_entry(header, card, text, comment);
         return write_looked(read, digits, out, number);
     }
-    card_record::WRONG_LENGTH
+    value_record::WRONG_LENGTH
 }
 
 // Lists a header's names. Answers 0, with the first cards, the last entries and their count. Otherwise it answers the refusal's
@@ -81,7 +81,7 @@ pub fn list_into(header: &[u8], first: &mut [usize], last: &mut [usize], count: 
         let read = listing::list(header);
         return write_listing(read, first, last, count);
     }
-    card_record::WRONG_LENGTH
+    value_record::WRONG_LENGTH
 }
 
 // What was looked up, in lent memory.
@@ -100,7 +100,7 @@ fn write_looked(read: Looked, digits: &mut [u8], out: &mut [usize], number: &mut
         }
         LookupAnswer::Refused(why) => why.number(),
         LookupAnswer::Found(v) => {
-            let value = card_record::value_told(v);
+            let value = value_record::value_told(v);
             let numbers = numbers_of(value, read);
             put_numbers(&numbers, out);
             let own = read.digits;
@@ -147,8 +147,8 @@ fn numbers_of(value: Told, read: Looked) -> [usize; 7]
     [
         0,
         value.kind as usize,
-        card_record::bit(value.flag) as usize,
-        card_record::bit(read.commented) as usize,
+        value_record::bit(value.flag) as usize,
+        value_record::bit(read.commented) as usize,
         read.text,
         read.comment,
         own.len,

@@ -8,7 +8,8 @@ use lib.ListN.{length}
 use Rattle.text.specs.declared.Text.{Text}
 use Rattle.card.specs.declared.CardRead.{CardRead}
 use Rattle.card.specs.Cards.{cardOf}
-use Rattle.card_record.specs.Records.{said, recordAfter, numberAfter, isFit, wrongLength, answerOf, leftOf, numberLeft}
+use Rattle.value_record.specs.Telling.{wrongLength}
+use Rattle.card_record.specs.Records.{said, recordAfter, numberAfter, isFit, answerOf, leftOf, numberLeft}
 use Rattle.card_record.proofs.Fitting.{wrong-card, wrong-record, fit, whole-array}
 use borrow.Author.Needs.{needs}
 use Rattle.card_record.proofs.read_into.Statement.{statement}

@@ -2,7 +2,7 @@
 use mathlib.Core.Path.{_≡_, refl, sym, ap, _∙_}
 use mir.Syntax.{w64}
 use mir.Val.{toZ, ofZ}
-use Rattle.card_record.specs.declared.Told.{Told}
+use Rattle.value_record.specs.declared.Told.{Told}
 use Rattle.card.specs.declared.CardAnswer.{CardAnswer}
 use Rattle.card_record.specs.Records.{said, recordAfter, numberAfter}
 use borrow.Author.Needs.{needs}

@@ -4,7 +4,7 @@ use mathlib.Core.Path.{_≡_, refl, sym, ap, _∙_}
 use lib.ListN.{length}
 use mir.Syntax.{w64}
 use mir.Val.{toZ, ofZ}
-use Rattle.card_record.specs.declared.Told.{Told}
+use Rattle.value_record.specs.declared.Told.{Told}
 use Rattle.header_record.specs.Headers.{numbersOf}
 use Rattle.overlay.proofs.Laying.{fits, over-all}
 use Rattle.header_record.proofs.Leaving.{by}

@@ -1,11 +1,11 @@
--- `card_record::value_told` meets its contract: by the kind that an arm knows.
+-- `value_record::value_told` meets its contract: by the kind that an arm knows.
 use mathlib.Core.Bool.{false}
 use mathlib.Core.Path.{_≡_, sym, ap, _∙_}
 use mir.Facts.{toZ-ofZ}
-use Rattle.card_record.specs.Records.{told, valueTold}
+use Rattle.value_record.specs.Telling.{told, valueTold}
 use borrow.Author.Needs.{needs}
-use Rattle.card_record.proofs.value_told.Statement.{statement}
-use Rattle.card_record.proofs.value_told.Tie as tie
+use Rattle.value_record.proofs.value_told.Statement.{statement}
+use Rattle.value_record.proofs.value_told.Tie as tie
 
 enum-known-value : tie.Need-enum-known-value
 enum-known-value c = search needs

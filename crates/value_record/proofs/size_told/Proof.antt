@@ -1,11 +1,11 @@
--- `card_record::size_told` meets its contract: by the size that an arm knows.
+-- `value_record::size_told` meets its contract: by the size that an arm knows.
 use lib.IntN.{ℤ}
 use mathlib.Core.Path.{_≡_, sym, ap, _∙_}
 use mir.Facts.{toZ-ofZ}
-use Rattle.card_record.specs.Records.{told, sizeTold}
+use Rattle.value_record.specs.Telling.{told, sizeTold}
 use borrow.Author.Needs.{needs}
-use Rattle.card_record.proofs.size_told.Statement.{statement}
-use Rattle.card_record.proofs.size_told.Tie as tie
+use Rattle.value_record.proofs.size_told.Statement.{statement}
+use Rattle.value_record.proofs.size_told.Tie as tie
 
 enum-known-size : tie.Need-enum-known-size
 enum-known-size c = search needs

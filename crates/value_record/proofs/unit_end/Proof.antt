@@ -1,9 +1,9 @@
--- `card_record::unit_end` meets its contract: by the place that an arm knows.
+-- `value_record::unit_end` meets its contract: by the place that an arm knows.
 use mathlib.Core.Path.{_≡_, sym, ap, _∙_}
-use Rattle.card_record.specs.Records.{unitEnd}
+use Rattle.value_record.specs.Telling.{unitEnd}
 use borrow.Author.Needs.{needs}
-use Rattle.card_record.proofs.unit_end.Statement.{statement}
-use Rattle.card_record.proofs.unit_end.Tie as tie
+use Rattle.value_record.proofs.unit_end.Statement.{statement}
+use Rattle.value_record.proofs.unit_end.Tie as tie
 
 unit-requires : tie.Need-unit-requires
 unit-requires c κs = search needs

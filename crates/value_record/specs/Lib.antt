@@ -1,0 +1,2 @@
+-- What the contracts of `value_record` cite.
+pub mod Telling
