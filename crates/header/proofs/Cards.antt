@@ -1,11 +1,18 @@
 -- A header's cards, by number.
 use Prim.Native.Nat.{ℕ, zero, suc, _+_, _*_, _-_, _/_, _<_, _≤_}
 use native.Mathlib.Omega.{arith}
-use mathlib.Core.Path.{_≡_, refl, sym, ap, ap₂, _∙_}
-use mathlib.Core.List.{List, [], _∷_}
+use mathlib.Core.Path.{_≡_, refl, ap, ap₂, _∙_}
+use mathlib.Core.List.{List, [], _∷_, map}
 use lib.ListN.{length, take, drop, drop-of-length-le}
 use lib.Seq.{drop-drop}
 use Rattle.header.specs.Reading.{pieces, cardsOf}
+
+-- a part of a list that is mapped
+pub drop-map : {A B : Type 0} (f : A → B) (l : List A) (i : ℕ) → drop i (map f l) ≡ map f (drop i l)
+drop-map f [] zero = refl
+drop-map f [] (suc i) = refl
+drop-map f (x ∷ l) zero = refl
+drop-map f (x ∷ l) (suc i) = drop-map f l i
 
 -- the pieces from number i on are those of what stands from byte 80 i on
 pieces-from : (n i : ℕ) (h : List ℕ) → i < n → drop i (pieces n h) ≡ take 80 (drop (i * 80) h) ∷ drop (i + 1) (pieces n h)

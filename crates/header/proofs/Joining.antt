@@ -1,134 +1,292 @@
 -- Words in scratch, and CONTINUE cards joined to them.
-use Prim.Native.Nat.{ℕ, zero, suc, _+_, _*_, _-_, _/_, _<_, _≤_}
-use native.Mathlib.Numerals.{add-one}
+use Prim.Native.Nat.{ℕ, zero, suc, _+_, _*_, _/_, _<_, _≤_}
 use native.Mathlib.Omega.{arith}
-use mathlib.Core.Path.{_≡_, refl, sym, ap, _∙_}
+use mathlib.Core.Path.{_≡_, refl, sym, ap, subst, _∙_}
 use mathlib.Core.Bool.{Bool, true, false, cond, true≢false, _&&_}
-use mathlib.Core.List.{List, [], _∷_, _++_, map}
-use mathlib.Core.Option.{Option, none, some}
-use lib.Dec.{eqb}
-use lib.ListN.{length, take, drop, getD, length-take}
+use mathlib.Core.List.{List, [], _∷_}
+use mathlib.Core.Option.{none, some}
+use borrow.Author.Tests.{eqb-true, ne-eqb}
+use lib.ListN.{length, take, drop, set}
+use types.Run.{OneOf, miss}
+use denote.Enum.Declared.{tagOf}
 use Rattle.text.specs.Text.{bytesOf}
 use Rattle.numbers.specs.declared.Value.{Value}
+use Rattle.numbers.specs.declared.Value.the-variants as Val
+use Rattle.card.specs.declared.Card.the-variants as C
+use Rattle.card.specs.declared.CardAnswer.{CardAnswer}
+use Rattle.card.specs.declared.CardAnswer.the-variants as A
 use Rattle.card.specs.declared.CardRead.{CardRead}
 use Rattle.card.specs.Cards.{cardOf}
-use Rattle.joining.specs.Words.{Words, endsOpen, opens, joinText, joinComment, joinWords}
-use Rattle.joining.specs.Roles.{Role, commentOf, roleOf}
+use Rattle.joining.specs.Words.{Comment, Words, endsOpen, opens, stem, addsNothing, joinText, joinComment, joinWords}
+use Rattle.joining.specs.Roles.{Role, entry, more, neutral, last, isString, commentOf, heldOf, roleBy}
 use Rattle.joining.specs.Lookup.{joinOn}
+use Rattle.joining.proofs.Answers.{joinOn-shut}
 use Rattle.header.specs.declared.Lengths.{Lengths}
 use Rattle.header.specs.declared.Kind.{Kind}
 use Rattle.header.specs.declared.Kind.the-variants.{Entry, More, Neutral, Last}
-use Rattle.header.specs.Reading.{cardsOf, roleAt, rolesOf}
-use Rattle.header.specs.Passes.{wordsIn, kindOf, Joined, Room, JoinedOn}
-use Rattle.header.proofs.Cards.{cardNo, cards-from, cards-past}
-use Rattle.header.proofs.Playing.{roleAs, role-kind}
+use Rattle.header.specs.Reading.{rolesOf}
+use Rattle.header.specs.Answers.{isThere, bytesIn, over}
+use Rattle.header.specs.Passes.{partOf, roleNo, wordsOf, moreOf, begun, beginning, isNeutral, joinedBy, goesOn, placeBehind, laidBehind, Stands, Stepped, Space, Room}
+use Rattle.header.proofs.Kind as kind
+use Rattle.header.proofs.Buffers.{joined-length, joined-laid}
+use Rattle.header.proofs.Cards.{cardNo}
+use Rattle.header.proofs.Playing.{roleAs}
+use Rattle.header.proofs.Looking.{roles-from, roles-past}
 
--- ---- comments, by which of the two are there
-module _ (a c : List ℕ) {x y : Bool} where
-  pub both-there : x ≡ true → y ≡ true → some (a ++ 10 ∷ c) ≡ joinComment (commentOf x a) (commentOf y c)
-  unfolding joinComment
-  both-there e d = rw (e, d)
-
-  pub second-there : x ≡ false → y ≡ true → some c ≡ joinComment (commentOf x a) (commentOf y c)
-  unfolding joinComment
-  second-there e d = rw (e, d)
-
-pub none-more : (a c : List ℕ) (x : Bool) {y : Bool} → y ≡ false → commentOf x a ≡ joinComment (commentOf x a) (commentOf y c)
-unfolding joinComment
-none-more a c true e = rw e
-none-more a c false e = rw e
-
--- ---- a part of a list that is mapped
-pub drop-map : {A B : Type 0} (f : A → B) (l : List A) (i : ℕ) → drop i (map f l) ≡ map f (drop i l)
-drop-map f [] zero = refl
-drop-map f [] (suc i) = refl
-drop-map f (x ∷ l) zero = refl
-drop-map f (x ∷ l) (suc i) = drop-map f l i
-
--- a text that is open is not empty
-pub open-some : (s : List ℕ) (n : ℕ) (joins : Bool) → (joins && endsOpen (take n s)) ≡ true → 0 < n
+-- ---- open texts and words
+-- a text that is open is not empty, and adds something
+open-some : (s : List ℕ) (n : ℕ) → endsOpen (take n s) ≡ true → 0 < n
 unfolding endsOpen
-open-some s zero true e = absurd (true≢false (sym e))
-open-some s zero false e = absurd (true≢false (sym e))
-open-some s (suc n) true e = omega arith
-open-some s (suc n) false e = omega arith
+open-some s zero e = absurd (true≢false (sym e))
+open-some s (suc n) e = omega arith
+
+open-adds : (t : List ℕ) → endsOpen t ≡ true → addsNothing t ≡ false
+unfolding endsOpen addsNothing
+open-adds [] e = absurd (true≢false (sym e))
+open-adds (b ∷ []) e = let is : b ≡ 38 = eqb-true b 38 e in ne-eqb b 32 (λ (d : b ≡ 32). omega arith)
+open-adds (b ∷ c ∷ t) e = refl
+
+pub and-false : (u : Bool) → (u && false) ≡ false
+and-false true = refl
+and-false false = refl
+
+and-second : (u v : Bool) → (u && v) ≡ true → v ≡ true
+and-second true v e = e
+and-second false v e = absurd (true≢false (sym e))
+
+opens-text : (w : Words) → opens w ≡ true → endsOpen (w .text) ≡ true
+unfolding opens
+opens-text w e = and-second (w .joins) (endsOpen (w .text)) e
+
+text-opens : (w : Words) → w .joins ≡ true → endsOpen (w .text) ≡ true → opens w ≡ true
+unfolding opens
+text-opens w d e = rw (d, e)
+
+text-shut : (w : Words) → endsOpen (w .text) ≡ false → opens w ≡ false
+unfolding opens
+text-shut w e = rw (e, and-false)
+
+-- ---- the words of an open string are those of an & that its card is joined to
+begun-by : (r : CardRead) → endsOpen (bytesOf (r .text)) ≡ true → heldOf Val.String true r .words ≡ joinedBy (moreOf (partOf r)) begun
+unfolding joinWords joinText joinComment stem
+begun-by r e =
+    let adds : bytesOf (r .text) ≡ joinText (38 ∷ []) (bytesOf (r .text)) = rw (open-adds (bytesOf (r .text)) e) in
+    λ j. record { text = adds j; comment = heldOf Val.String true r .words .comment; joins = true }
+
+value-begun : (v : Value) (r : CardRead) → opens (heldOf v (isString v) r .words) ≡ true → heldOf v (isString v) r .words ≡ joinedBy (moreOf (partOf r)) begun
+unfolding opens
+value-begun (Val.Integer z) r e = absurd (true≢false (sym e))
+value-begun (Val.Float minus size) r e = absurd (true≢false (sym e))
+value-begun (Val.Logical t) r e = absurd (true≢false (sym e))
+value-begun Val.String r e = begun-by r e
+value-begun Val.Undefined r e = absurd (true≢false (sym e))
+value-begun Val.Invalid r e = absurd (true≢false (sym e))
+
+answer-begun : (a : CardAnswer) (r : CardRead) → opens (wordsOf (roleBy a r)) ≡ true → wordsOf (roleBy a r) ≡ joinedBy (moreOf (partOf r)) begun
+unfolding opens
+answer-begun (A.Read (C.Value v)) r e = value-begun v r e
+answer-begun (A.Read (C.Hierarch v)) r e = value-begun v r e
+answer-begun (A.Read C.Xtension) r e = absurd (true≢false (sym e))
+answer-begun (A.Read C.Continuation) r e = absurd (true≢false (sym e))
+answer-begun (A.Read C.Comment) r e = absurd (true≢false (sym e))
+answer-begun (A.Read C.History) r e = absurd (true≢false (sym e))
+answer-begun (A.Read C.Space) r e = absurd (true≢false (sym e))
+answer-begun (A.Read C.End) r e = absurd (true≢false (sym e))
+answer-begun (A.Read C.Undefined) r e = absurd (true≢false (sym e))
+answer-begun (A.Refused why) r e = absurd (true≢false (sym e))
+
+-- ---- one card behind open words
+joined-joins : (r : Role) (w : Words) → joinedBy r w .joins ≡ w .joins
+unfolding joinWords
+joined-joins (entry n v) w = refl
+joined-joins (more t c) w = refl
+joined-joins neutral w = refl
+joined-joins last w = refl
+
+module _ (w : Words) (joins : w .joins ≡ true) (opened : opens w ≡ true) where
+  still-open : (r : Role) → goesOn r (joinedBy r w .text) ≡ true → opens (joinedBy r w) ≡ true
+  still-open (entry n v) e = absurd (true≢false (sym e))
+  still-open (more t c) e = text-opens (joinWords w t c) (joined-joins (more t c) w ∙ joins) e
+  still-open neutral e = opened
+  still-open last e = absurd (true≢false (sym e))
+
+  one-more : (r : Role) (h : List Role) → joinOn w (r ∷ h) ≡ cond (goesOn r (joinedBy r w .text)) (joinOn (joinedBy r w) h) (joinedBy r w)
+  unfolding joinOn
+  one-more (entry n v) h = refl
+  one-more (more t c) h = rw opened (go (endsOpen (joinWords w t c .text)) refl)
+    where
+      go : (b : Bool) → endsOpen (joinWords w t c .text) ≡ b → joinOn (joinWords w t c) h ≡ cond b (joinOn (joinWords w t c) h) (joinWords w t c)
+      go true e = refl
+      go false e = joinOn-shut (joinWords w t c) (text-shut (joinWords w t c) e) h
+  one-more neutral h = refl
+  one-more last h = refl
 
 -- ---- where the loop stands: what is left is joined to the words as they stand
-pub record Going (h : List ℕ) (i : ℕ) (joins : Bool) (start : Lengths) (texts₀ comments₀ : List ℕ) (held : Lengths) (texts comments : List ℕ) (j : ℕ) : Type 0 where
+pub record Going (h : List ℕ) (i : ℕ) (held : Lengths) (texts before comments : List ℕ) (j : ℕ) : Type 0 where
+  pub w : Words
+  pub stands : Stands w held texts before comments
+  pub joins : w .joins ≡ true
   pub past : i < j
   pub within : j ≤ length h / 80
-  pub text : held .text ≤ 81 * j
+  pub text : held .text ≤ 1 + 79 * j
   pub comment : held .comment ≤ 81 * j
-  pub left : joinOn (wordsIn joins held texts comments) (map roleAt (drop j (cardsOf h))) ≡ joinOn (wordsIn joins start texts₀ comments₀) (drop (i + 1) (rolesOf h))
+  pub going : held .going ≡ true → opens w ≡ true
+  pub left : cond (held .going) (joinOn w (drop j (rolesOf h))) w ≡ joinOn (wordsOf (roleNo h i)) (drop (i + 1) (rolesOf h))
 
-module _ {h : List ℕ} {i : ℕ} {joins : Bool} {start : Lengths} {texts₀ comments₀ : List ℕ} (room : Room h i start texts₀ comments₀) where
-  pub begin : Going h i joins start texts₀ comments₀ start texts₀ comments₀ (i + 1)
-  begin =
+-- an & stands in scratch
+begun-stands : (texts before : List ℕ) → 0 < length texts → Stands begun beginning (set texts 0 38) before before
+begun-stands [] before h = absurd (omega arith)
+begun-stands (b ∷ texts) before h = record { text = refl; within = omega arith; commented = refl; comment = refl; laid = λ _. refl }
+
+module _ {h : List ℕ} {i : ℕ} {texts₀ : List ℕ} (room : Room h i texts₀) where
+  pub begin : {r : Lengths} {texts before comments : List ℕ} → Stepped (moreOf (partOf (cardOf (cardNo h i)))) beginning r (set texts₀ 0 38) before texts comments
+      → Going h i r texts before comments (i + 1)
+  unfolding joinWords
+  begin {r} {texts} {before} {comments} S =
+      let card = cardOf (cardNo h i) in
+      let w = joinedBy (moreOf (partOf card)) begun in
+      let same : wordsOf (roleNo h i) ≡ w = answer-begun (card .answer) card (room .opened) in
+      let opened : opens w ≡ true = ap opens (sym same) ∙ room .opened in
+      let stands : Stands w r texts before comments = S .words begun before (begun-stands texts₀ before (omega (arith, room .card, room .wide))) in
+      let on : r .going ≡ true = S .going ∙ ap endsOpen (stands .text) ∙ opens-text w opened in
       record {
+        w = w;
+        stands = stands;
+        joins = refl;
         past = omega arith;
         within = omega (arith, room .card);
-        text = omega (arith, room .text);
-        comment = omega (arith, room .comment);
-        left = ap (joinOn (wordsIn joins start texts₀ comments₀)) (sym (drop-map roleAt (cardsOf h) (i + 1)));
+        text = omega (arith, S .text);
+        comment = omega (arith, S .comment);
+        going = λ _. opened;
+        left = ap (λ (b : Bool). cond b (joinOn w (drop (i + 1) (rolesOf h))) w) on ∙ ap (λ (x : Words). joinOn x (drop (i + 1) (rolesOf h))) (sym same);
       }
 
-  module _ {held : Lengths} {texts comments : List ℕ} {j : ℕ} (G : Going h i joins start texts₀ comments₀ held texts comments j) where
-    -- the words are whole where nothing that is left adds to them
-    done : joinOn (wordsIn joins held texts comments) (map roleAt (drop j (cardsOf h))) ≡ wordsIn joins held texts comments
-        → JoinedOn h i joins start held texts₀ comments₀ texts comments
-    done e =
-        record {
-          words = sym e ∙ G .left;
-          text = omega (arith, G .text, G .within);
-          comment = omega (arith, G .comment, G .within);
-        }
+  module _ {held : Lengths} {texts before comments : List ℕ} {j : ℕ} (G : Going h i held texts before comments j) where
+    -- the words are whole where nothing more is joined
+    pub at-stop : held .going ≡ false → Stands (joinOn (wordsOf (roleNo h i)) (drop (i + 1) (rolesOf h))) held texts before comments
+    at-stop e =
+        let all : G .w ≡ joinOn (wordsOf (roleNo h i)) (drop (i + 1) (rolesOf h)) = sym (ap (λ (b : Bool). cond b (joinOn (G .w) (drop j (rolesOf h))) (G .w)) e) ∙ G .left in
+        subst (λ (x : Words). Stands x held texts before comments) all (G .stands)
 
-    pub at-end : length h / 80 ≤ j → JoinedOn h i joins start held texts₀ comments₀ texts comments
+    pub at-end : length h / 80 ≤ j → Stands (joinOn (wordsOf (roleNo h i)) (drop (i + 1) (rolesOf h))) held texts before comments
     unfolding joinOn
-    at-end p = done (rw (cards-past h j p))
+    at-end p = subst (λ (x : Words). Stands x held texts before comments) (sym (go (held .going) (drop j (rolesOf h)) (roles-past h j p)) ∙ G .left) (G .stands)
+      where
+        go : (b : Bool) (l : List Role) → l ≡ [] → cond b (joinOn (G .w) l) (G .w) ≡ G .w
+        go true l e = ap (joinOn (G .w)) e
+        go false l e = refl
 
-    module _ (more : j < length h / 80) (r : CardRead) (is : r ≡ cardOf (cardNo h j)) where
-      next : (k : Kind) → kindOf (r .answer) ≡ k
-          → joinOn (wordsIn joins held texts comments) (map roleAt (drop j (cardsOf h))) ≡ joinOn (wordsIn joins held texts comments) (roleAs k r ∷ map roleAt (drop (j + 1) (cardsOf h)))
-      next k e =
-          ap (λ (l : List (List ℕ)). joinOn (wordsIn joins held texts comments) (map roleAt l)) (cards-from h j more)
-          ∙ ap (λ (x : Role). joinOn (wordsIn joins held texts comments) (x ∷ map roleAt (drop (j + 1) (cardsOf h)))) (sym (ap roleOf is) ∙ role-kind r k e)
-
-      pub on-entry : (v : Value) (b : Bool) → kindOf (r .answer) ≡ Entry v b → JoinedOn h i joins start held texts₀ comments₀ texts comments
-      unfolding joinOn
-      on-entry v b e = done (next (Entry v b) e)
-
-      pub on-last : kindOf (r .answer) ≡ Last → JoinedOn h i joins start held texts₀ comments₀ texts comments
-      unfolding joinOn
-      on-last e = done (next Last e)
-
-      pub on-neutral : kindOf (r .answer) ≡ Neutral → Going h i joins start texts₀ comments₀ held texts comments (j + 1)
-      unfolding joinOn
-      on-neutral e =
+    module _ (on : held .going ≡ true) (next : j < length h / 80) where
+      pub space : length texts ≡ length texts₀ → Space held texts
+      space same =
           record {
-            past = omega (arith, G .past);
-            within = omega arith;
-            text = omega (arith, G .text);
-            comment = omega (arith, G .comment);
-            left = sym (next Neutral e) ∙ G .left;
+            some-text = open-some texts (held .text) (ap endsOpen (G .stands .text) ∙ opens-text (G .w) (G .going on));
+            text = omega (arith, G .text, room .wide);
+            comment = omega (arith, G .comment, room .few);
           }
 
-      module _ (e : kindOf (r .answer) ≡ More) where
-        pub on-shut : (joins && endsOpen (take (held .text) texts)) ≡ false → JoinedOn h i joins start held texts₀ comments₀ texts comments
-        unfolding joinOn opens
-        on-shut d = done (next More e ∙ rw d)
+      pub on-card : {r : Lengths} {texts₁ comments₁ : List ℕ} → Stepped (roleNo h j) held r texts comments texts₁ comments₁ → Going h i r texts₁ before comments₁ (j + 1)
+      on-card {r} {texts₁} {comments₁} S =
+          let role = roleNo h j in
+          let w = joinedBy role (G .w) in
+          let stands : Stands w r texts₁ before comments₁ = S .words (G .w) before (G .stands) in
+          let goes : r .going ≡ goesOn role (w .text) = S .going ∙ ap (goesOn role) (stands .text) in
+          record {
+            w = w;
+            stands = stands;
+            joins = joined-joins role (G .w) ∙ G .joins;
+            past = omega (arith, G .past);
+            within = omega arith;
+            text = omega (arith, G .text, S .text);
+            comment = omega (arith, G .comment, S .comment);
+            going = λ (e : r .going ≡ true). still-open (G .w) (G .joins) (G .going on) role (sym goes ∙ e);
+            left =
+                ap (λ (b : Bool). cond b (joinOn w (drop (j + 1) (rolesOf h))) w) goes
+                ∙ sym (one-more (G .w) (G .joins) (G .going on) role (drop (j + 1) (rolesOf h)))
+                ∙ ap (joinOn (G .w)) (sym (roles-from h j next))
+                ∙ sym (ap (λ (b : Bool). cond b (joinOn (G .w) (drop j (rolesOf h))) (G .w)) on)
+                ∙ G .left;
+          }
 
-        pub on-open : (joins && endsOpen (take (held .text) texts)) ≡ true → {r₁ : Lengths} {texts₁ comments₁ : List ℕ} → Joined r held r₁ texts comments texts₁ comments₁
-            → Going h i joins start texts₀ comments₀ r₁ texts₁ comments₁ (j + 1)
-        unfolding joinOn opens
-        on-open d {r₁} {texts₁} {comments₁} J =
-            record {
-              past = omega (arith, G .past);
-              within = omega arith;
-              text = omega (arith, G .text, J .text);
-              comment = omega (arith, G .comment, J .comment);
-              left =
-                  ap (λ (w : Words). joinOn w (map roleAt (drop (j + 1) (cardsOf h)))) (J .words joins)
-                  ∙ sym (next More e ∙ rw d)
-                  ∙ G .left;
-            }
+-- ---- a card that is not a CONTINUE card is passed, or lets no more be joined
+abbrev pub passing : Lengths → Bool → Lengths
+passing held going = record { text = held .text; comment = held .comment; commented = held .commented; going = going }
+
+pub passed : (k : Kind) → OneOf (0 ∷ 2 ∷ 3 ∷ []) (tagOf kind.the-type k) → (r : CardRead) (held : Lengths) (texts comments : List ℕ)
+    → Stepped (roleAs k r) held (passing held (isNeutral k)) texts comments texts comments
+passed k e r held texts comments =
+    record {
+      words = λ (w : Words) (before : List ℕ). same k e w before;
+      going = goes k e;
+      text = omega arith;
+      comment = omega arith;
+    }
+  where
+    same : (k : Kind) → OneOf (0 ∷ 2 ∷ 3 ∷ []) (tagOf kind.the-type k) → (w : Words) (before : List ℕ) → Stands w held texts before comments
+        → Stands (joinedBy (roleAs k r) w) (passing held (isNeutral k)) texts before comments
+    same (Entry v joins) e w before S = record { text = S .text; within = S .within; commented = S .commented; comment = S .comment; laid = S .laid }
+    same More e w before S = absurd (miss (0 ∷ 2 ∷ 3 ∷ []) 1 tt e)
+    same Neutral e w before S = record { text = S .text; within = S .within; commented = S .commented; comment = S .comment; laid = S .laid }
+    same Last e w before S = record { text = S .text; within = S .within; commented = S .commented; comment = S .comment; laid = S .laid }
+
+    goes : (k : Kind) → OneOf (0 ∷ 2 ∷ 3 ∷ []) (tagOf kind.the-type k) → isNeutral k ≡ goesOn (roleAs k r) (take (held .text) texts)
+    goes (Entry v joins) e = refl
+    goes More e = absurd (miss (0 ∷ 2 ∷ 3 ∷ []) 1 tt e)
+    goes Neutral e = refl
+    goes Last e = refl
+
+-- ---- a CONTINUE card joined: its text in scratch, and its comment where there is one
+there-joined : (k : Comment) (c : List ℕ) → true ≡ isThere (joinComment k (some c))
+unfolding joinComment
+there-joined none c = refl
+there-joined (some a) c = refl
+
+none-joined : (k : Comment) → k ≡ joinComment k none
+unfolding joinComment
+none-joined none = refl
+none-joined (some a) = refl
+
+module _ (t c : List ℕ) (held : Lengths) {texts comments texts₁ : List ℕ} {n : ℕ} {there going : Bool}
+    (joined : take n texts₁ ≡ joinText (take (held .text) texts) t) (within : n ≤ length texts₁) (short : n ≤ held .text + 79) (goes : going ≡ endsOpen (take n texts₁)) where
+  pub with-comment : {comments₁ : List ℕ} {m : ℕ} → there ≡ true → length c ≤ 80 → m ≡ placeBehind (held .commented) (held .comment) + length c → comments₁ ≡ laidBehind (held .commented) (held .comment) comments c
+      → Stepped (more t (commentOf there c)) held (record { text = n; comment = m; commented = true; going = going }) texts comments texts₁ comments₁
+  unfolding joinWords
+  with-comment {comments₁} {m} e small count laid =
+      subst (λ (b : Bool). Stepped (more t (commentOf b c)) held (record { text = n; comment = m; commented = true; going = going }) texts comments texts₁ comments₁) (sym e)
+      record {
+        words =
+            λ (w : Words) (before : List ℕ) (S : Stands w held texts before comments). record {
+              text = joined ∙ ap (λ (s : List ℕ). joinText s t) (S .text);
+              within = within;
+              commented = there-joined (w .comment) c;
+              comment = count ∙ joined-length c before comments (w .comment) (held .commented) (held .comment) (S .commented) (S .comment);
+              laid =
+                  λ (fit : m ≤ length before). laid
+                  ∙ joined-laid c before comments (w .comment) (held .commented) (held .comment) (S .commented) (S .comment) (S .laid) (rw count at fit);
+            };
+        going = goes;
+        text = short;
+        comment = omega (arith, below (held .commented));
+      }
+    where
+      below : (b : Bool) → placeBehind b (held .comment) ≤ held .comment + 1
+      below true = omega arith
+      below false = omega arith
+
+  pub with-none : there ≡ false → Stepped (more t (commentOf there c)) held (record { text = n; comment = held .comment; commented = held .commented; going = going }) texts comments texts₁ comments
+  unfolding joinWords
+  with-none e =
+      subst (λ (b : Bool). Stepped (more t (commentOf b c)) held (record { text = n; comment = held .comment; commented = held .commented; going = going }) texts comments texts₁ comments) (sym e)
+      record {
+        words =
+            λ (w : Words) (before : List ℕ) (S : Stands w held texts before comments). record {
+              text = joined ∙ ap (λ (s : List ℕ). joinText s t) (S .text);
+              within = within;
+              commented = S .commented ∙ ap isThere (none-joined (w .comment));
+              comment = S .comment ∙ ap (λ (k : Comment). length (bytesIn k)) (none-joined (w .comment));
+              laid = λ (fit : held .comment ≤ length before). S .laid fit ∙ ap (λ (k : Comment). over (bytesIn k) before) (none-joined (w .comment));
+            };
+        going = goes;
+        text = short;
+        comment = omega arith;
+      }

@@ -1,6 +1,5 @@
 -- The last card that bears a name gives what the name is answered.
-use Prim.Native.Nat.{ℕ, zero, suc, _+_, _/_, _%_, _<_, _≤_}
-use native.Mathlib.Nat.{zero-add}
+use Prim.Native.Nat.{ℕ, suc, _+_, _/_, _%_, _<_, _≤_}
 use native.Mathlib.Numerals.{add-one}
 use native.Mathlib.Omega.{arith}
 use mathlib.Core.Path.{_≡_, refl, sym, ap, subst, _∙_}
@@ -20,17 +19,16 @@ use Rattle.text.proofs.Finding.{Under}
 use Rattle.card.specs.declared.CardRead.{CardRead}
 use Rattle.card.specs.Cards.{cardOf}
 use Rattle.joining.specs.Roles.{Held, Role, entry, more, neutral, last, roleOf}
-use Rattle.joining.specs.Lookup.{orElse, ifSame, whole, lookup}
+use Rattle.joining.specs.Lookup.{orElse, whole, lookup}
 use Rattle.header.specs.declared.Header.{Header}
 use Rattle.header.specs.declared.Header.the-variants.{Accepted, Refused}
 use Rattle.header.specs.declared.Kind.{Kind}
 use Rattle.header.specs.declared.Scan.{Scan}
 use Rattle.header.specs.Reading.{cardsOf, roleAt, rolesOf, isBadLength, headerFrom, headerOf}
 use Rattle.header.specs.Answers.{entryHead}
-use Rattle.header.specs.Passes.{kindOf, isLast, foundAt, lastFrom, scanBy, scanOf}
-use Rattle.header.proofs.Cards.{cardNo, card-count, cards-from, cards-past}
+use Rattle.header.specs.Passes.{kindOf, lastFrom, scanBy, scanOf}
+use Rattle.header.proofs.Cards.{drop-map, cardNo, card-count, cards-from, cards-past}
 use Rattle.header.proofs.Playing.{roleAs, role-kind}
-use Rattle.header.proofs.Joining.{drop-map}
 
 -- ---- lengths
 or-false : (u v : Bool) → (u || v) ≡ false → (u ≡ false) × (v ≡ false)
@@ -137,6 +135,9 @@ role-past h i p =
     let long : length (rolesOf h) ≡ length h / 80 = length-map (cardsOf h) roleAt ∙ card-count h in
     List·getD-eq-default (rolesOf h) neutral (omega arith)
 
--- beyond the cards there is no entry
+-- beyond the cards there is nothing, and no entry
+pub roles-past : (h : List ℕ) (i : ℕ) → length h / 80 ≤ i → drop i (rolesOf h) ≡ []
+roles-past h i p = drop-map roleAt (cardsOf h) i ∙ ap (map roleAt) (cards-past h i p)
+
 pub no-entry : (h : List ℕ) (i : ℕ) → length h / 80 ≤ i → none ≡ entryHead (drop i (rolesOf h))
-no-entry h i p = sym (ap entryHead (drop-map roleAt (cardsOf h) i ∙ ap (map roleAt) (cards-past h i p)))
+no-entry h i p = sym (ap entryHead (roles-past h i p))

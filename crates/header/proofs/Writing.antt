@@ -1,110 +1,169 @@
--- What a lookup writes, by the lengths of the words in scratch.
-use Prim.Native.Nat.{ℕ, zero, suc, _+_, _<_, _≤_}
+-- What is written of an entry, by the lengths of its words.
+use Prim.Native.Nat.{ℕ, _≤_}
 use native.Mathlib.Omega.{arith}
-use mathlib.Core.Path.{_≡_, refl, sym, ap, ap₂, _∙_}
-use mathlib.Core.Bool.{Bool, true, false, cond, _&&_}
-use mathlib.Core.List.{List, [], _∷_, _++_}
-use borrow.Author.Tests.{le-leb, lt-leb}
+use mathlib.Core.Path.{_≡_, refl, sym, ap, ap₂, subst, _∙_}
+use mathlib.Core.Bool.{Bool, true, false, cond, true≢false, _&&_}
+use mathlib.Core.List.{List, []}
+use borrow.Author.Tests.{leb-true}
 use lib.Dec.{leb}
-use lib.ListN.{length, take, drop}
+use lib.ListN.{length, take}
 use lib.Seq.{length-take-le}
 use Rattle.refusal.specs.Numbers.{refusal}
+use Rattle.text.specs.declared.Text.{Text}
 use Rattle.text.specs.Text.{textOf, bytesOf}
 use Rattle.numbers.specs.declared.Value.{Value}
-use Rattle.card.specs.declared.CardRead.{CardRead}
+use Rattle.numbers.specs.declared.Value.the-variants as Val
+use Rattle.card.specs.declared.Card.{Card}
+use Rattle.card.specs.declared.Card.the-variants as C
+use Rattle.card.specs.declared.CardAnswer.{CardAnswer}
+use Rattle.card.specs.declared.CardAnswer.the-variants as A
 use Rattle.joining.specs.Words.{Words, endsOpen, opens}
-use Rattle.joining.specs.Roles.{Held, Role, hasText, commentOf, heldOf}
-use Rattle.joining.specs.Lookup.{joinOn, whole}
+use Rattle.joining.specs.Roles.{Held, Role, hasText, hasDigits, isString, commentOf}
+use Rattle.joining.specs.Lookup.{joinOn}
 use Rattle.joining.proofs.Answers.{joinOn-shut}
+use Rattle.overlay.specs.Overlay.{overlaid}
 use Rattle.header.specs.declared.LookupAnswer.the-variants as L
-use Rattle.header.specs.declared.Looked.{Looked}
+use Rattle.header.specs.declared.Kind.the-variants.{Entry}
 use Rattle.header.specs.declared.Lengths.{Lengths}
-use Rattle.header.specs.Answers.{Outcome, isThere, bytesIn, found, unread, untouched, over, written}
-use Rattle.header.specs.Passes.{wordsIn, heldIn}
+use Rattle.header.specs.declared.Part.{Part}
+use Rattle.header.specs.declared.Written.{Written}
+use Rattle.header.specs.Answers.{isThere, bytesIn, found, untouched, over, written}
+use Rattle.header.specs.Passes.{kindIn, kindOf, wordsIn, Stands, Put, Wrote, leaves, answerBy}
+use Rattle.header.proofs.Buffers.{first-laid}
+use Rattle.header.proofs.Joining.{and-false}
 
--- the bytes of a comment in scratch, and whether it is there
-pub comment-bytes : (b : Bool) (k : ℕ) (c : List ℕ) → bytesIn (commentOf b (take k c)) ≡ take (cond b k 0) c
-comment-bytes true k c = refl
-comment-bytes false k c = refl
-
-comment-there : (b : Bool) (c : List ℕ) → isThere (commentOf b c) ≡ b
-comment-there true c = refl
-comment-there false c = refl
-
-and-false : (u : Bool) → (u && false) ≡ false
-and-false true = refl
-and-false false = refl
-
-module _ (value : Value) (read : CardRead) (l : Lengths) (texts comments text comment : List ℕ) (fits : l .text ≤ length texts) (fits-too : l .comment ≤ length comments) where
-  abbrev m : ℕ
-  m = cond (l .commented) (l .comment) 0
-
-  abbrev pub held : Held
-  held = heldIn value read l texts comments
-
-  m-fits : m ≤ length comments
-  m-fits = go (l .commented)
-    where
-      go : (b : Bool) → cond b (l .comment) 0 ≤ length comments
-      go true = fits-too
-      go false = omega arith
-
-  text-long : length (take (l .text) texts) ≡ l .text
-  text-long = length-take-le (l .text) texts fits
-
-  comment-long : length (bytesIn (commentOf (l .commented) (take (l .comment) comments))) ≡ m
-  comment-long = ap length (comment-bytes (l .commented) (l .comment) comments) ∙ length-take-le m comments m-fits
-
-  pub short-text : length text < l .text → untouched (L.Refused (refusal 13)) text comment ≡ written held text comment
-  unfolding written
-  short-text h = rw (text-long, lt-leb (l .text) (length text) h)
-
-  pub short-comment : length comment < m → untouched (L.Refused (refusal 13)) text comment ≡ written held text comment
-  unfolding written
-  short-comment h = rw (comment-long, lt-leb m (length comment) h, and-false)
-
-  pub both-fit : l .text ≤ length text → m ≤ length comment
-      → _≡_ {A = Outcome} (record {
-        answer = record { answer = L.Found value; digits = textOf (heldOf value false read .digits); commented = l .commented; text = l .text; comment = m };
-        text = over (take (l .text) texts) text;
-        comment = over (take m comments) comment;
-      }) (written held text comment)
-  unfolding written
-  both-fit h k =
-      (λ j. record {
-        answer = record { answer = L.Found value; digits = textOf (heldOf value false read .digits); commented = sym (comment-there (l .commented) (take (l .comment) comments)) j; text = sym text-long j; comment = sym comment-long j };
-        text = over (take (l .text) texts) text;
-        comment = over (sym (comment-bytes (l .commented) (l .comment) comments) j) comment;
-      })
-      ∙ chosen _ (untouched (L.Refused (refusal 13)) text comment) (leb (length (take (l .text) texts)) (length text)) (leb (length (bytesIn (commentOf (l .commented) (take (l .comment) comments)))) (length comment))
-      (le-leb (length (take (l .text) texts)) (length text) (omega (arith, text-long))) (le-leb (length (bytesIn (commentOf (l .commented) (take (l .comment) comments)))) (length comment) (omega (arith, comment-long)))
-    where
-      chosen : (x y : Outcome) (u v : Bool) → u ≡ true → v ≡ true → x ≡ cond (u && v) x y
-      chosen x y u v p q = rw (p, q)
-
--- what is written does not depend on whether the entry may be continued
-pub any-joins : (value : Value) (read : CardRead) (joins : Bool) (l : Lengths) (texts comments text comment : List ℕ)
-    → written (heldIn value read l texts comments) text comment
-    ≡ written (record { value = value; digits = heldOf value false read .digits; words = wordsIn joins l texts comments }) text comment
+-- what was written is what a lookup writes
+pub wrote : (v : Held) (own : Text) (r : Written) (text comment text₁ comment₁ : List ℕ) → v .digits ≡ cond (hasDigits (v .value)) (bytesOf own) []
+    → Wrote (v .words .text) (v .words .comment) r text comment text₁ comment₁ → leaves (answerBy (v .value) own r) text₁ comment₁ ≡ written v text comment
 unfolding written
-any-joins value read joins l texts comments text comment = refl
+wrote v own r text comment text₁ comment₁ digits W =
+    (λ j. leaves (answerBy (v .value) own r) (W .put .in-text j) (W .put .in-comment j))
+    ∙ by (r .fits) refl
+    ∙ ap (λ (b : Bool). cond b (record { answer = found v; text = over (v .words .text) text; comment = over (bytesIn (v .words .comment)) comment }) (untouched (L.Refused (refusal 13)) text comment)) (W .put .fit)
+  where
+    by : (b : Bool) → r .fits ≡ b
+        → leaves (answerBy (v .value) own r) (cond (r .fits) (over (v .words .text) text) text) (cond (r .fits) (over (bytesIn (v .words .comment)) comment) comment)
+        ≡ cond (r .fits) (record { answer = found v; text = over (v .words .text) text; comment = over (bytesIn (v .words .comment)) comment }) (untouched (L.Refused (refusal 13)) text comment)
+    by true e = rw e (λ j. record {
+      answer = record { answer = L.Found (v .value); digits = textOf (sym digits j); commented = W .there j; text = W .text-long j; comment = W .comment-long j };
+      text = over (v .words .text) text;
+      comment = over (bytesIn (v .words .comment)) comment;
+    })
+    by false e = rw e
 
-pub any-own : (value : Value) (joins : Bool) (read : CardRead) (text comment : List ℕ)
-    → written (heldOf value false read) text comment ≡ written (heldOf value joins read) text comment
-unfolding written
-any-own value joins read text comment = refl
+-- ---- the words of an entry's own card
+taken-if : (b : Bool) (n : ℕ) (l : List ℕ) → take (cond b n 0) l ≡ cond b (take n l) []
+taken-if true n l = refl
+taken-if false n l = refl
 
+comment-if : (b : Bool) (n : ℕ) (l : List ℕ) → take (cond b n 0) l ≡ bytesIn (commentOf b (take n l))
+comment-if true n l = refl
+comment-if false n l = refl
+
+there-if : (b : Bool) (c : List ℕ) → b ≡ isThere (commentOf b c)
+there-if true c = refl
+there-if false c = refl
+
+pub own-wrote : (shown there : Bool) (own remark : Text) {s c : List ℕ} {fits : Bool} {text comment text₁ comment₁ : List ℕ}
+    → s ≡ take (cond shown (own .len) 0) (own .bytes) → c ≡ take (cond there (remark .len) 0) (remark .bytes) → Put s c fits text comment text₁ comment₁
+    → Wrote (cond shown (bytesOf own) []) (commentOf there (bytesOf remark)) (record { fits = fits; commented = there; text = length s; comment = length c }) text comment text₁ comment₁
+own-wrote shown there own remark {s} {c} {fits} {text} {comment} {text₁} {comment₁} e d P =
+    let is : s ≡ cond shown (bytesOf own) [] = e ∙ taken-if shown (own .len) (own .bytes) in
+    let are : c ≡ bytesIn (commentOf there (bytesOf remark)) = d ∙ comment-if there (remark .len) (remark .bytes) in
+    record {
+      put = subst (λ (l : List ℕ). Put l (bytesIn (commentOf there (bytesOf remark))) fits text comment text₁ comment₁) is (subst (λ (l : List ℕ). Put s l fits text comment text₁ comment₁) are P);
+      text-long = ap length is;
+      comment-long = ap length are;
+      there = there-if there (bytesOf remark);
+    }
+
+-- ---- words that are joined: their text stands in scratch, and their comment is measured
+and-both : (u v : Bool) → (u && v) ≡ true → (u ≡ true) × (v ≡ true)
+and-both true v e = (refl, e)
+and-both false v e = absurd (true≢false (sym e))
+
+module _ {w : Words} {end : Lengths} {texts nowhere nowhere₁ : List ℕ} (S : Stands w end texts nowhere nowhere₁) {fits : Bool} (text comment : List ℕ)
+    (fit : fits ≡ (leb (end .text) (length text) && leb (end .comment) (length comment))) where
+  text-long : end .text ≡ length (w .text)
+  text-long = sym (length-take-le (end .text) texts (S .within)) ∙ ap length (S .text)
+
+  pub held-text : fits ≡ true → end .text ≤ length text
+  held-text e = leb-true (end .text) (length text) (and-both (leb (end .text) (length text)) (leb (end .comment) (length comment)) (sym fit ∙ e) .0)
+
+  pub held-comment : fits ≡ true → end .comment ≤ length comment
+  held-comment e = leb-true (end .comment) (length comment) (and-both (leb (end .text) (length text)) (leb (end .comment) (length comment)) (sym fit ∙ e) .1)
+
+  told : {text₁ comment₁ : List ℕ} → text₁ ≡ cond fits (over (w .text) text) text → comment₁ ≡ cond fits (over (bytesIn (w .comment)) comment) comment
+      → Wrote (w .text) (w .comment) (record { fits = fits; commented = end .commented; text = end .text; comment = end .comment }) text comment text₁ comment₁
+  told e d =
+      record {
+        put =
+            record {
+              fit = fit ∙ ap₂ (λ (n m : ℕ). leb n (length text) && leb m (length comment)) text-long (S .comment);
+              in-text = e;
+              in-comment = d;
+            };
+        text-long = text-long;
+        comment-long = S .comment;
+        there = S .commented;
+      }
+
+  -- where the buffers hold them, the text is laid, and the comment as it is joined again
+  pub joined-wrote : {again : Lengths} {texts₁ text₁ comment₁ : List ℕ} → fits ≡ true → text₁ ≡ overlaid text 0 (take (end .text) texts) → Stands w again texts₁ comment comment₁
+      → Wrote (w .text) (w .comment) (record { fits = fits; commented = end .commented; text = end .text; comment = end .comment }) text comment text₁ comment₁
+  joined-wrote {again} e put T =
+      let long : length (take (end .text) texts) ≡ end .text = length-take-le (end .text) texts (S .within) in
+      told
+      (put ∙ first-laid (take (end .text) texts) text (omega (arith, held-text e)) ∙ ap (λ (l : List ℕ). over l text) (S .text) ∙ sym (ap (λ (b : Bool). cond b (over (w .text) text) text) e))
+      (T .laid (omega (arith, T .comment, S .comment, held-comment e)) ∙ sym (ap (λ (b : Bool). cond b (over (bytesIn (w .comment)) comment) comment) e))
+
+  pub nothing-wrote : fits ≡ false
+      → Wrote (w .text) (w .comment) (record { fits = fits; commented = end .commented; text = end .text; comment = end .comment }) text comment text comment
+  nothing-wrote e = told (sym (ap (λ (b : Bool). cond b (over (w .text) text) text) e)) (sym (ap (λ (b : Bool). cond b (over (bytesIn (w .comment)) comment) comment) e))
+
+-- ---- an entry that may be continued is a string
+string-text : (v : Value) → isString v ≡ true → hasText v ≡ true
+string-text (Val.Integer z) e = absurd (true≢false (sym e))
+string-text (Val.Float minus size) e = absurd (true≢false (sym e))
+string-text (Val.Logical t) e = absurd (true≢false (sym e))
+string-text Val.String e = refl
+string-text Val.Undefined e = absurd (true≢false (sym e))
+string-text Val.Invalid e = absurd (true≢false (sym e))
+
+kind-text : (c : Card) (v : Value) (joins : Bool) → kindIn c ≡ Entry v joins → joins ≡ true → hasText v ≡ true
+kind-text (C.Value u) v joins e d = let same : u ≡ v = cc in let is : isString u ≡ joins = cc in string-text v (sym (ap isString same) ∙ is ∙ d)
+kind-text (C.Hierarch u) v joins e d = let same : u ≡ v = cc in let is : isString u ≡ joins = cc in string-text v (sym (ap isString same) ∙ is ∙ d)
+kind-text C.Xtension v joins e d = let same : Val.String ≡ v = cc in sym (ap hasText same)
+kind-text C.Continuation v joins e d = cc
+kind-text C.Comment v joins e d = cc
+kind-text C.History v joins e d = cc
+kind-text C.Space v joins e d = cc
+kind-text C.End v joins e d = cc
+kind-text C.Undefined v joins e d = cc
+
+pub joins-text : (a : CardAnswer) (v : Value) (joins : Bool) → kindOf a ≡ Entry v joins → joins ≡ true → hasText v ≡ true
+joins-text (A.Read c) v joins e d = kind-text c v joins e d
+joins-text (A.Refused why) v joins e d = cc
+
+-- ---- an entry's own words are open where its text is
 empty-shut : endsOpen [] ≡ false
 unfolding endsOpen
 empty-shut = refl
 
--- nothing is joined to an entry whose own text is not open
-pub shut : (value : Value) (joins : Bool) (read : CardRead) (h : List Role) → (joins && endsOpen (bytesOf (read .text))) ≡ false
-    → whole (heldOf value joins read) h ≡ heldOf value joins read
-unfolding opens
-shut value joins read h e =
-    ap (λ (w : Words). record { value = value; digits = heldOf value joins read .digits; words = w }) (joinOn-shut (heldOf value joins read .words) (closed (hasText value)) h)
-  where
-    closed : (t : Bool) → (joins && endsOpen (cond t (bytesOf (read .text)) [])) ≡ false
-    closed true = e
-    closed false = ap (λ (b : Bool). joins && b) empty-shut ∙ and-false joins
+module _ (v : Value) (joins : Bool) (p : Part) where
+  pub own-open : (joins ≡ true → hasText v ≡ true) → (joins && endsOpen (bytesOf (p .text))) ≡ true → opens (wordsIn v joins p) ≡ true
+  unfolding opens
+  own-open text e = go joins refl e
+    where
+      go : (b : Bool) → joins ≡ b → (b && endsOpen (bytesOf (p .text))) ≡ true → (b && endsOpen (cond (hasText v) (bytesOf (p .text)) [])) ≡ true
+      go true d o = rw (text d) o
+      go false d o = o
+
+  -- and nothing is joined to them where it is not
+  pub own-shut : (h : List Role) → (joins && endsOpen (bytesOf (p .text))) ≡ false → joinOn (wordsIn v joins p) h ≡ wordsIn v joins p
+  unfolding opens
+  own-shut h e = joinOn-shut (wordsIn v joins p) (go (hasText v)) h
+    where
+      go : (t : Bool) → (joins && endsOpen (cond t (bytesOf (p .text)) [])) ≡ false
+      go true = e
+      go false = ap (λ (b : Bool). joins && b) empty-shut ∙ and-false joins

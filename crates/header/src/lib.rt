@@ -1,17 +1,19 @@
 // A header: its cards read up to END, an entry joined with the CONTINUE cards that follow it, a name looked up.
 ghost use mathlib.Core.Path.{_≡_};
-ghost use mathlib.Core.Bool.{true, false, cond, _&&_};
-ghost use mathlib.Core.List.{[], _∷_, _++_};
-ghost use Prim.Native.Nat.{_+_, _*_, _/_, _≤_, _<_};
-ghost use lib.ListN.{length, take, drop, getD};
+ghost use mathlib.Core.Bool.{true, cond, _&&_};
+ghost use mathlib.Core.List.{[], _∷_};
+ghost use Prim.Native.Nat.{_+_, _*_, _-_, _/_, _≤_, _<_};
+ghost use lib.Dec.{leb};
+ghost use lib.ListN.{length, take, drop, getD, set};
+ghost use Rattle.text.specs.Same.{same};
 ghost use Rattle.text.specs.Text.{textOf, bytesOf};
 ghost use Rattle.card.specs.Cards.{cardOf};
-ghost use Rattle.joining.specs.Words.{endsOpen, addsNothing, joinText, joinComment, joinWords, opens};
-ghost use Rattle.joining.specs.Roles.{neutral, hasText, hasDigits, isString, commentOf, heldOf, roleOf};
-ghost use Rattle.joining.specs.Lookup.{joinOn, whole};
+ghost use Rattle.joining.specs.Words.{endsOpen, addsNothing, joinText, opens};
+ghost use Rattle.joining.specs.Roles.{neutral, more, hasText, hasDigits, isString, commentOf, roleOf};
+ghost use Rattle.joining.specs.Lookup.{joinOn};
 ghost use Rattle.header.specs.Reading.{rolesOf, isBadLength, isEnd, headerOf};
-ghost use Rattle.header.specs.Answers.{unread, given, lookupOf, entryOf, entryHead, written, namelessOf, entryNameOf};
-ghost use Rattle.header.specs.Passes.{Begun, Joined, Room, JoinedOn, kindOf, refusalIn, foundAt, scanOf, refusedScan, refusedHeader, wordsIn, heldIn};
+ghost use Rattle.header.specs.Answers.{unread, given, lookupOf, entryOf, entryHead, namelessOf, entryNameOf};
+ghost use Rattle.header.specs.Passes.{kindIn, kindOf, partOf, refusalIn, foundAt, scanOf, refusedScan, refusedHeader, leaves, answerBy, roleNo, wordsIn, wordsOf, moreOf, beginning, isNeutral, placeBehind, laidBehind, Stands, Stepped, Space, Room, Put, Wrote, WroteAt};
 use card::Card;
 use card::CardAnswer;
 use card::CardRead;
@@ -63,11 +65,28 @@ pub enum Kind {
     Last,
 }
 
-// How much of the scratch an entry's text and comment take, and whether there is a comment.
+// How long a joined text and comment are, whether there is a comment, and whether more may be joined.
 pub struct Lengths {
     pub text: usize,
     pub comment: usize,
     pub commented: bool,
+    pub going: bool,
+}
+
+// Whether the lent buffers held the words of an entry, whether there is a comment, and how long they are.
+pub struct Written {
+    pub fits: bool,
+    pub commented: bool,
+    pub text: usize,
+    pub comment: usize,
+}
+
+// What a card is to its header, with its text and comment.
+pub struct Part {
+    pub kind: Kind,
+    pub text: Text,
+    pub commented: bool,
+    pub comment: Text,
 }
 
 // The bytes of a card.
@@ -93,10 +112,10 @@ pub fn lookup(header: &[u8], name: &[u8], text: &mut [u8], comment: &mut [u8]) -
     let answer = scanned.header;
     let last = scanned.last;
     let Header::Accepted(_) = answer else {
-        return unread(refused_header(answer));
+        return refused_header(answer);
     };
     let Place::At(i) = last else {
-        return unread(LookupAnswer::Refused(Refusal::NameNotFound));
+        return not_found();
     };
     entry_at(header, i, text, comment)
 }
@@ -108,10 +127,10 @@ pub fn read_entry(header: &[u8], i: usize, text: &mut [u8], comment: &mut [u8]) 
     ensures { λ _. ⌜ now (comment .exit) ≡ entryOf (now (header .entry)) i (now (text .entry)) (now (comment .entry)) .comment ⌝ }
 {
     if is_bad_length(header.len()) {
-        return unread(LookupAnswer::Header(Refusal::HeaderLength, 0));
+        return refused_header(Header::Refused(Refusal::HeaderLength, 0));
     }
     if header.len() / CARD <= i {
-        return unread(LookupAnswer::Refused(Refusal::NameNotFound));
+        return not_found();
     }
     entry_at(header, i, text, comment)
 }
@@ -170,13 +189,19 @@ fn unread(answer: LookupAnswer) -> Looked
     }
 }
 
-fn refused_header(header: Header) -> LookupAnswer
-    ensures { λ r. ⌜ r ≡ refusedHeader header ⌝ }
+fn not_found() -> Looked
+    ensures { λ r. ⌜ r ≡ unread (LookupAnswer.Refused Refusal.NameNotFound) ⌝ }
 {
-    match header {
-        Header::Accepted(_) => LookupAnswer::Refused(Refusal::NameNotFound),
-        Header::Refused(why, i) => LookupAnswer::Header(why, i),
-    }
+    unread(LookupAnswer::Refused(Refusal::NameNotFound))
+}
+
+fn refused_header(header: Header) -> Looked
+    ensures { λ r. ⌜ r ≡ unread (refusedHeader header) ⌝ }
+{
+    let Header::Refused(why, i) = header else {
+        return not_found();
+    };
+    unread(LookupAnswer::Header(why, i))
 }
 
 // ---- reading
@@ -208,17 +233,10 @@ fn card_at(header: &[u8], i: usize) -> CardRead
 fn is_end(card: Card) -> bool
     ensures { λ r. ⌜ r ≡ isEnd card ⌝ }
 {
-    match card {
-        Card::End => true,
-        Card::Value(_) => false,
-        Card::Hierarch(_) => false,
-        Card::Continuation => false,
-        Card::Xtension => false,
-        Card::Comment => false,
-        Card::History => false,
-        Card::Space => false,
-        Card::Undefined => false,
-    }
+    let Card::End = card else {
+        return false;
+    };
+    true
 }
 
 fn refusal_in(answer: CardAnswer) -> Refusal
@@ -249,17 +267,44 @@ fn kind_of(answer: CardAnswer) -> Kind
     let CardAnswer::Read(card) = answer else {
         return Kind::Neutral;
     };
+    kind_in(card)
+}
+
+fn kind_in(card: Card) -> Kind
+    ensures { λ r. ⌜ r ≡ kindIn card ⌝ }
+{
     match card {
         Card::Value(v) => Kind::Entry(v, is_string(v)),
         Card::Hierarch(v) => Kind::Entry(v, is_string(v)),
         Card::Xtension => Kind::Entry(Value::String, false),
         Card::Continuation => Kind::More,
         Card::End => Kind::Last,
-        Card::Comment => Kind::Neutral,
-        Card::History => Kind::Neutral,
-        Card::Space => Kind::Neutral,
-        Card::Undefined => Kind::Neutral,
+        _ => Kind::Neutral,
     }
+}
+
+// The card with a number, as a part of its header.
+fn part_at(header: &[u8], i: usize) -> Part
+    requires { ⌜ i < length (now header) / 80 ⌝ }
+    ensures { λ r. ⌜ r ≡ partOf (cardOf (take 80 (drop (i * 80) (now (header .entry))))) ⌝ }
+{
+    let read = card_at(header, i);
+    let answer = read.answer;
+    let text = read.text;
+    let comment = read.comment;
+    Part {
+        kind: kind_of(answer),
+        text: text,
+        commented: read.commented,
+        comment: comment,
+    }
+}
+
+fn bears(own: Text, name: &[u8]) -> bool
+    ensures { λ r. ⌜ r ≡ same (bytesOf own) (now (name .entry)) ⌝ }
+{
+    let bytes = own.bytes;
+    text::same_bytes(text::first_of(&bytes, own.len), name)
 }
 
 // The last place of a name so far, with the card of number i.
@@ -267,19 +312,14 @@ fn found_at(card: CardRead, name: &[u8], i: usize, last: Place) -> Place
     ensures { λ r. ⌜ r ≡ foundAt (roleOf card) (now (name .entry)) i last ⌝ }
 {
     let answer = card.answer;
+    let Kind::Entry(_, _) = kind_of(answer) else {
+        return last;
+    };
     let own = card.name;
-    let bytes = own.bytes;
-    match kind_of(answer) {
-        Kind::Entry(_, _) => {
-            if text::same_bytes(text::first_of(&bytes, own.len), name) {
-                return Place::At(i);
-            }
-            last
-        }
-        Kind::More => last,
-        Kind::Neutral => last,
-        Kind::Last => last,
+    if bears(own, name) {
+        return Place::At(i);
     }
+    last
 }
 
 // The cards from number 0 up to END, and the last of them that bears the name.
@@ -321,30 +361,25 @@ fn refused_scan(why: Refusal, i: usize) -> Scan
 
 // ---- joining
 
-// A text put at the front where it is there, and how long it then is.
-fn put_if(there: bool, s: &[u8], out: &mut [u8]) -> usize
-    requires { ⌜ length (now s) ≤ length (now out) ⌝ }
-    ensures { λ r. ⌜ (take r (now (out .exit)) ≡ cond there (now (s .entry)) []) × (r ≤ length (now (s .entry))) ⌝ }
+// Whether buffers of two lengths hold a text and a comment.
+fn both_fit(n: usize, m: usize, text: usize, comment: usize) -> bool
+    ensures { λ r. ⌜ r ≡ (leb n text && leb m comment) ⌝ }
 {
-    if there {
-        overlay::put_at(s, out, 0);
-        return s.len();
-    }
-    0
-}
-
-// Whether a string that may be continued ends in &.
-fn is_open(joins: bool, s: &[u8]) -> bool
-    ensures { λ r. ⌜ r ≡ (joins && endsOpen (now (s .entry))) ⌝ }
-{
-    if joins {
-        let n = s.len();
-        if n == 0 {
-            return false;
-        }
-        return s[n - 1] == AMPERSAND;
+    if n <= text {
+        return m <= comment;
     }
     false
+}
+
+// Whether a text ends in &.
+fn ends_open(s: &[u8]) -> bool
+    ensures { λ r. ⌜ r ≡ endsOpen (now (s .entry)) ⌝ }
+{
+    let n = s.len();
+    if n == 0 {
+        return false;
+    }
+    s[n - 1] == AMPERSAND
 }
 
 // Empty, or one space.
@@ -362,8 +397,8 @@ fn adds_nothing(t: &[u8]) -> bool
 
 // The text of a CONTINUE card joined to the n bytes before it, and how long they then are.
 fn join_text(held: &mut [u8], n: usize, t: &[u8]) -> usize
-    requires { ⌜ (0 < n) × (n + length (now t) ≤ length (now held)) ⌝ }
-    ensures { λ r. ⌜ (take r (now (held .exit)) ≡ joinText (take n (now (held .entry))) (now (t .entry))) × (r ≤ n + length (now (t .entry))) ⌝ }
+    requires { ⌜ (0 < n) × (n - 1 + length (now t) ≤ length (now held)) × (n ≤ length (now held)) ⌝ }
+    ensures { λ r. ⌜ (take r (now (held .exit)) ≡ joinText (take n (now (held .entry))) (now (t .entry))) × (r ≤ n - 1 + length (now (t .entry))) ⌝ }
 {
     let m = n - 1;
     if adds_nothing(t) {
@@ -373,89 +408,127 @@ fn join_text(held: &mut [u8], n: usize, t: &[u8]) -> usize
     m + t.len()
 }
 
-// A comment joined to the n bytes before it, and how long they then are.
-fn join_comment(held: &mut [u8], n: usize, c: &[u8]) -> usize
-    requires { ⌜ n + 1 + length (now c) ≤ length (now held) ⌝ }
-    ensures { λ r. ⌜ (take r (now (held .exit)) ≡ take n (now (held .entry)) ++ 10 ∷ now (c .entry)) × (r ≡ n + 1 + length (now (c .entry))) ⌝ }
+// A comment laid behind the n bytes of the one before it, with a line feed between them, and how long they then are.
+fn join_comment(out: &mut [u8], there: bool, n: usize, c: &[u8]) -> usize
+    requires { ⌜ (n ≤ 58320) × (length (now c) ≤ 80) ⌝ }
+    ensures { λ r. ⌜ (r ≡ placeBehind there n + length (now (c .entry))) × (now (out .exit) ≡ laidBehind there n (now (out .entry)) (now (c .entry))) ⌝ }
 {
-    held[n] = LINE_FEED;
-    let m = n + 1;
-    overlay::put_at(c, held, m);
-    m + c.len()
-}
-
-// A CONTINUE card joined to the words that stand in scratch.
-fn join_card(read: CardRead, held: Lengths, texts: &mut [u8], comments: &mut [u8]) -> Lengths
-    requires { ⌜ (0 < held .text) × (held .text + 80 ≤ length (now texts)) × (held .comment + 81 ≤ length (now comments)) ⌝ }
-    ensures { λ r. ⌜ Joined read held r (now (texts .entry)) (now (comments .entry)) (now (texts .exit)) (now (comments .exit)) ⌝ }
-{
-    let own = read.text;
-    let bytes = own.bytes;
-    let remark = read.comment;
-    let words = remark.bytes;
-    let there = read.commented;
-    let text = join_text(texts, held.text, text::first_of(&bytes, own.len));
     if there {
-        let c = text::first_of(&words, remark.len);
-        let first = held.commented;
-        if first {
-            let comment = join_comment(comments, held.comment, c);
-            return Lengths {
-                text: text,
-                comment: comment,
-                commented: true,
-            };
-        }
-        let comment = put_if(true, c, comments);
-        return Lengths {
-            text: text,
-            comment: comment,
-            commented: true,
-        };
+        overlay::put_at(b"\n", out, n);
+        overlay::put_at(c, out, n + 1);
+        return n + 1 + c.len();
     }
-    Lengths {
-        text: text,
-        comment: held.comment,
-        commented: held.commented,
-    }
+    overlay::put_at(c, out, n);
+    n + c.len()
 }
 
-// The CONTINUE cards behind card i joined to the words that stand in scratch, while they are open.
-fn join_on(
-    header: &[u8],
-    i: usize,
-    joins: bool,
-    start: Lengths,
+// The text and the comment of a CONTINUE card joined to the words before it.
+fn join_words(
+    own: Text,
+    there: bool,
+    remark: Text,
+    held: Lengths,
     texts: &mut [u8],
     comments: &mut [u8],
 ) -> Lengths
-    requires { ⌜ Room (now header) i start (now texts) (now comments) ⌝ }
-    ensures { λ r. ⌜ JoinedOn (now (header .entry)) i joins start r (now (texts .entry)) (now (comments .entry)) (now (texts .exit)) (now (comments .exit)) ⌝ }
+    requires { ⌜ Space held (now texts) ⌝ }
+    ensures { λ r. ⌜ Stepped (more (bytesOf own) (commentOf there (bytesOf remark))) held r (now (texts .entry)) (now (comments .entry)) (now (texts .exit)) (now (comments .exit)) ⌝ }
 {
-    let n = header.len() / CARD;
-    let mut held = start;
+    let bytes = own.bytes;
+    let n = join_text(texts, held.text, text::first_of(&bytes, own.len));
+    let going = ends_open(&texts[..n]);
+    if there {
+        let words = remark.bytes;
+        let m = join_comment(
+            comments,
+            held.commented,
+            held.comment,
+            text::first_of(&words, remark.len),
+        );
+        return Lengths {
+            text: n,
+            comment: m,
+            commented: true,
+            going: going,
+        };
+    }
+    Lengths {
+        text: n,
+        comment: held.comment,
+        commented: held.commented,
+        going: going,
+    }
+}
+
+fn is_neutral(kind: Kind) -> bool
+    ensures { λ r. ⌜ r ≡ isNeutral kind ⌝ }
+{
+    match kind {
+        Kind::Neutral => true,
+        Kind::Entry(_, _) => false,
+        Kind::More => false,
+        Kind::Last => false,
+    }
+}
+
+// Card j joined to the open words before it, where it is a CONTINUE card; an entry or END lets no more be joined.
+fn join_card(
+    header: &[u8],
+    j: usize,
+    held: Lengths,
+    texts: &mut [u8],
+    comments: &mut [u8],
+) -> Lengths
+    requires { ⌜ (j < length (now header) / 80) × Space held (now texts) ⌝ }
+    ensures { λ r. ⌜ Stepped (roleNo (now (header .entry)) j) held r (now (texts .entry)) (now (comments .entry)) (now (texts .exit)) (now (comments .exit)) ⌝ }
+{
+    let part = part_at(header, j);
+    let kind = part.kind;
+    let Kind::More = kind else {
+        return Lengths {
+            text: held.text,
+            comment: held.comment,
+            commented: held.commented,
+            going: is_neutral(kind),
+        };
+    };
+    let own = part.text;
+    let remark = part.comment;
+    join_words(own, part.commented, remark, held, texts, comments)
+}
+
+// The open string of card i as a CONTINUE card of an &.
+fn join_first(header: &[u8], i: usize, texts: &mut [u8], comments: &mut [u8]) -> Lengths
+    requires { ⌜ (i < length (now header) / 80) × (80 ≤ length (now texts)) ⌝ }
+    ensures { λ r. ⌜ Stepped (moreOf (partOf (cardOf (take 80 (drop (i * 80) (now (header .entry))))))) beginning r (set (now (texts .entry)) 0 38) (now (comments .entry)) (now (texts .exit)) (now (comments .exit)) ⌝ }
+{
+    texts[0] = AMPERSAND;
+    let part = part_at(header, i);
+    let own = part.text;
+    let remark = part.comment;
+    let start = Lengths {
+        text: 1,
+        comment: 0,
+        commented: false,
+        going: true,
+    };
+    join_words(own, part.commented, remark, start, texts, comments)
+}
+
+// The open string of card i with the cards that are joined to it: its text in scratch, its comment laid where there is room.
+fn join_cards(header: &[u8], i: usize, texts: &mut [u8], comments: &mut [u8]) -> Lengths
+    requires { ⌜ Room (now header) i (now texts) ⌝ }
+    ensures { λ r. ⌜ Stands (joinOn (wordsOf (roleNo (now (header .entry)) i)) (drop (i + 1) (rolesOf (now (header .entry))))) r (now (texts .exit)) (now (comments .entry)) (now (comments .exit)) ⌝ }
+{
+    let mut held = join_first(header, i, texts, comments);
     let mut j = i + 1;
-    'cards: while j < n {
-        let read = card_at(header, j);
-        j += 1;
-        let answer = read.answer;
-        match kind_of(answer) {
-            Kind::Entry(_, _) => {
-                return held;
-            }
-            Kind::Last => {
-                return held;
-            }
-            Kind::Neutral => {
-                continue 'cards;
-            }
-            Kind::More => {}
-        }
-        let m = held.text;
-        if !is_open(joins, &texts[..m]) {
+    while j < header.len() / CARD {
+        let going = held.going;
+        if !going {
             return held;
         }
-        held = join_card(read, held, texts, comments);
+        held = join_card(header, j, held, texts, comments);
+        j += 1;
     }
     held
 }
@@ -477,217 +550,163 @@ fn has_text(value: Value) -> bool
 }
 
 // The digits of a decimal.
-fn digits_of(value: Value, read: CardRead) -> Text
-    ensures { λ r. ⌜ r ≡ textOf (heldOf value false read .digits) ⌝ }
+fn digits_of(value: Value, own: Text) -> Text
+    ensures { λ r. ⌜ r ≡ textOf (cond (hasDigits value) (bytesOf own) []) ⌝ }
 {
-    let own = read.text;
+    let Value::Float(_, _) = value else {
+        return text::empty_text();
+    };
     let bytes = own.bytes;
-    match value {
-        Value::Float(_, _) => text::text_of(text::first_of(&bytes, own.len)),
-        Value::String => text::empty_text(),
-        Value::Invalid => text::empty_text(),
-        Value::Integer(_) => text::empty_text(),
-        Value::Logical(_) => text::empty_text(),
-        Value::Undefined => text::empty_text(),
-    }
+    text::text_of(text::first_of(&bytes, own.len))
 }
 
-// The words of an entry's own card, put into scratch.
-fn first_words(value: Value, read: CardRead, texts: &mut [u8], comments: &mut [u8]) -> Lengths
-    requires { ⌜ (80 ≤ length (now texts)) × (80 ≤ length (now comments)) ⌝ }
-    ensures { λ r. ⌜ Begun value read r (now (texts .exit)) (now (comments .exit)) ⌝ }
+// The value of an entry with what was written of it.
+fn answer_of(value: Value, own: Text, put: Written) -> Looked
+    ensures { λ r. ⌜ r ≡ answerBy value own put ⌝ }
 {
-    let own = read.text;
-    let bytes = own.bytes;
-    let remark = read.comment;
-    let words = remark.bytes;
-    let there = read.commented;
-    let text = put_if(has_text(value), text::first_of(&bytes, own.len), texts);
-    let comment = put_if(there, text::first_of(&words, remark.len), comments);
-    Lengths {
-        text: text,
-        comment: comment,
-        commented: there,
+    if put.fits {
+        return Looked {
+            answer: LookupAnswer::Found(value),
+            digits: digits_of(value, own),
+            commented: put.commented,
+            text: put.text,
+            comment: put.comment,
+        };
     }
+    unread(LookupAnswer::Refused(Refusal::BufferShort))
 }
 
-// How long a comment is: a missing one has length 0.
-fn comment_length(held: Lengths) -> usize
-    ensures { λ r. ⌜ r ≡ cond (held .commented) (held .comment) 0 ⌝ }
+// How many bytes a text has, where it is there.
+fn count_if(there: bool, n: usize) -> usize
+    ensures { λ r. ⌜ r ≡ cond there n 0 ⌝ }
 {
-    if held.commented {
-        return held.comment;
+    if there {
+        return n;
     }
     0
 }
 
-// An entry, joined and read into the lent buffers: with the CONTINUE cards behind it where its text is open.
-fn read_held(
-    header: &[u8],
-    i: usize,
-    value: Value,
-    joins: bool,
-    read: CardRead,
+// A text and a comment laid over the lent buffers, where both hold them.
+fn put_both(s: &[u8], c: &[u8], text: &mut [u8], comment: &mut [u8]) -> bool
+    ensures { λ r. ⌜ Put (now (s .entry)) (now (c .entry)) r (now (text .entry)) (now (comment .entry)) (now (text .exit)) (now (comment .exit)) ⌝ }
+{
+    if text.len() < s.len() {
+        return false;
+    }
+    if comment.len() < c.len() {
+        return false;
+    }
+    overlay::put_at(s, text, 0);
+    overlay::put_at(c, comment, 0);
+    true
+}
+
+// The words of an entry's own card, written where both lent buffers hold them.
+fn write_own(
+    shown: bool,
+    own: Text,
+    there: bool,
+    remark: Text,
     text: &mut [u8],
     comment: &mut [u8],
-) -> Looked
-    requires { ⌜ (i < length (now header) / 80) × (length (now header) / 80 ≤ 720) ⌝ }
-    ensures { λ r. ⌜ r ≡ written (whole (heldOf value joins read) (drop (i + 1) (rolesOf (now (header .entry))))) (now (text .entry)) (now (comment .entry)) .answer ⌝ }
-    ensures { λ _. ⌜ now (text .exit) ≡ written (whole (heldOf value joins read) (drop (i + 1) (rolesOf (now (header .entry))))) (now (text .entry)) (now (comment .entry)) .text ⌝ }
-    ensures { λ _. ⌜ now (comment .exit) ≡ written (whole (heldOf value joins read) (drop (i + 1) (rolesOf (now (header .entry))))) (now (text .entry)) (now (comment .entry)) .comment ⌝ }
+) -> Written
+    ensures { λ r. ⌜ Wrote (cond shown (bytesOf own) []) (commentOf there (bytesOf remark)) r (now (text .entry)) (now (comment .entry)) (now (text .exit)) (now (comment .exit)) ⌝ }
 {
-    let own = read.text;
     let bytes = own.bytes;
-    if is_open(joins, text::first_of(&bytes, own.len)) {
-        return read_joined(header, i, value, joins, read, text, comment);
+    let words = remark.bytes;
+    let s = text::first_of(&bytes, count_if(shown, own.len));
+    let c = text::first_of(&words, count_if(there, remark.len));
+    Written {
+        fits: put_both(s, c, text, comment),
+        commented: there,
+        text: s.len(),
+        comment: c.len(),
     }
-    read_alone(value, read, text, comment)
 }
 
-// An entry and the CONTINUE cards that are joined to it, in scratch for as many cards as the header may have.
-fn read_joined(
-    header: &[u8],
-    i: usize,
-    value: Value,
-    joins: bool,
-    read: CardRead,
-    text: &mut [u8],
-    comment: &mut [u8],
-) -> Looked
-    requires { ⌜ (i < length (now header) / 80) × (length (now header) / 80 ≤ 720) ⌝ }
-    ensures { λ r. ⌜ r ≡ written (whole (heldOf value joins read) (drop (i + 1) (rolesOf (now (header .entry))))) (now (text .entry)) (now (comment .entry)) .answer ⌝ }
-    ensures { λ _. ⌜ now (text .exit) ≡ written (whole (heldOf value joins read) (drop (i + 1) (rolesOf (now (header .entry))))) (now (text .entry)) (now (comment .entry)) .text ⌝ }
-    ensures { λ _. ⌜ now (comment .exit) ≡ written (whole (heldOf value joins read) (drop (i + 1) (rolesOf (now (header .entry))))) (now (text .entry)) (now (comment .entry)) .comment ⌝ }
-{
-    if header.len() / CARD <= FEW_CARDS {
-        return read_few(header, i, value, joins, read, text, comment);
-    }
-    let mut texts = [0u8; 58320];
-    let mut comments = [0u8; 58320];
-    join_within(
-        header,
-        i,
-        value,
-        joins,
-        read,
-        &mut texts,
-        &mut comments,
-        text,
-        comment,
-    )
-}
-
-// The same in a header of few cards, whose scratch is soon cleared.
-fn read_few(
-    header: &[u8],
-    i: usize,
-    value: Value,
-    joins: bool,
-    read: CardRead,
-    text: &mut [u8],
-    comment: &mut [u8],
-) -> Looked
-    requires { ⌜ (i < length (now header) / 80) × (length (now header) / 80 ≤ 108) ⌝ }
-    ensures { λ r. ⌜ r ≡ written (whole (heldOf value joins read) (drop (i + 1) (rolesOf (now (header .entry))))) (now (text .entry)) (now (comment .entry)) .answer ⌝ }
-    ensures { λ _. ⌜ now (text .exit) ≡ written (whole (heldOf value joins read) (drop (i + 1) (rolesOf (now (header .entry))))) (now (text .entry)) (now (comment .entry)) .text ⌝ }
-    ensures { λ _. ⌜ now (comment .exit) ≡ written (whole (heldOf value joins read) (drop (i + 1) (rolesOf (now (header .entry))))) (now (text .entry)) (now (comment .entry)) .comment ⌝ }
-{
-    let mut texts = [0u8; 8748];
-    let mut comments = [0u8; 8748];
-    join_within(
-        header,
-        i,
-        value,
-        joins,
-        read,
-        &mut texts,
-        &mut comments,
-        text,
-        comment,
-    )
-}
-
-// The same in lent scratch: a card's bytes, and one more, for every card of the header.
+// The open string of card i, joined in lent scratch and written where both lent buffers hold it. What is joined is measured first.
 fn join_within(
     header: &[u8],
     i: usize,
+    texts: &mut [u8],
+    text: &mut [u8],
+    comment: &mut [u8],
+) -> Written
+    requires { ⌜ Room (now header) i (now texts) ⌝ }
+    ensures { λ r. ⌜ WroteAt (now (header .entry)) i r (now (text .entry)) (now (comment .entry)) (now (text .exit)) (now (comment .exit)) ⌝ }
+{
+    let mut nowhere = [0u8; 0];
+    let end = join_cards(header, i, texts, &mut nowhere);
+    let n = end.text;
+    let fits = both_fit(n, end.comment, text.len(), comment.len());
+    if fits {
+        overlay::put_at(&texts[..n], text, 0);
+        join_cards(header, i, texts, comment);
+    }
+    Written {
+        fits: fits,
+        commented: end.commented,
+        text: n,
+        comment: end.comment,
+    }
+}
+
+// The same in scratch as large as the header asks: clearing the large one costs more than reading a card.
+fn write_joined(header: &[u8], i: usize, text: &mut [u8], comment: &mut [u8]) -> Written
+    requires { ⌜ (i < length (now header) / 80) × (length (now header) / 80 ≤ 720) × (opens (wordsOf (roleNo (now header) i)) ≡ true) ⌝ }
+    ensures { λ r. ⌜ WroteAt (now (header .entry)) i r (now (text .entry)) (now (comment .entry)) (now (text .exit)) (now (comment .exit)) ⌝ }
+{
+    if header.len() / CARD <= FEW_CARDS {
+        let mut few = [0u8; 8640];
+        return join_within(header, i, &mut few, text, comment);
+    }
+    let mut texts = [0u8; 57600];
+    join_within(header, i, &mut texts, text, comment)
+}
+
+// Whether a string that may be continued ends in &.
+fn is_open(joins: bool, own: Text) -> bool
+    ensures { λ r. ⌜ r ≡ (joins && endsOpen (bytesOf own)) ⌝ }
+{
+    if joins {
+        let bytes = own.bytes;
+        return ends_open(text::first_of(&bytes, own.len));
+    }
+    false
+}
+
+// The words of the entry at card i, with those that are joined to them.
+fn write_entry(
+    header: &[u8],
+    i: usize,
     value: Value,
     joins: bool,
-    read: CardRead,
-    texts: &mut [u8],
-    comments: &mut [u8],
+    part: Part,
     text: &mut [u8],
     comment: &mut [u8],
-) -> Looked
-    requires { ⌜ (i < length (now header) / 80) × (81 * (length (now header) / 80) ≤ length (now texts)) × (81 * (length (now header) / 80) ≤ length (now comments)) ⌝ }
-    ensures { λ r. ⌜ r ≡ written (whole (heldOf value joins read) (drop (i + 1) (rolesOf (now (header .entry))))) (now (text .entry)) (now (comment .entry)) .answer ⌝ }
-    ensures { λ _. ⌜ now (text .exit) ≡ written (whole (heldOf value joins read) (drop (i + 1) (rolesOf (now (header .entry))))) (now (text .entry)) (now (comment .entry)) .text ⌝ }
-    ensures { λ _. ⌜ now (comment .exit) ≡ written (whole (heldOf value joins read) (drop (i + 1) (rolesOf (now (header .entry))))) (now (text .entry)) (now (comment .entry)) .comment ⌝ }
+) -> Written
+    requires { ⌜ (i < length (now header) / 80) × (length (now header) / 80 ≤ 720) × (wordsOf (roleNo (now header) i) ≡ wordsIn value joins part) × (joins ≡ true → hasText value ≡ true) ⌝ }
+    ensures { λ r. ⌜ WroteAt (now (header .entry)) i r (now (text .entry)) (now (comment .entry)) (now (text .exit)) (now (comment .exit)) ⌝ }
 {
-    let start = first_words(value, read, texts, comments);
-    let end = join_on(header, i, joins, start, texts, comments);
-    give(value, read, end, texts, comments, text, comment)
-}
-
-// An entry by its own card.
-fn read_alone(value: Value, read: CardRead, text: &mut [u8], comment: &mut [u8]) -> Looked
-    ensures { λ r. ⌜ r ≡ written (heldOf value false read) (now (text .entry)) (now (comment .entry)) .answer ⌝ }
-    ensures { λ _. ⌜ now (text .exit) ≡ written (heldOf value false read) (now (text .entry)) (now (comment .entry)) .text ⌝ }
-    ensures { λ _. ⌜ now (comment .exit) ≡ written (heldOf value false read) (now (text .entry)) (now (comment .entry)) .comment ⌝ }
-{
-    let mut texts = [0u8; 80];
-    let mut comments = [0u8; 80];
-    let own = first_words(value, read, &mut texts, &mut comments);
-    give(value, read, own, &texts, &comments, text, comment)
-}
-
-// The words that stand in scratch, written where both lent buffers hold them.
-fn give(
-    value: Value,
-    read: CardRead,
-    held: Lengths,
-    texts: &[u8],
-    comments: &[u8],
-    text: &mut [u8],
-    comment: &mut [u8],
-) -> Looked
-    requires { ⌜ (held .text ≤ length (now texts)) × (held .comment ≤ length (now comments)) ⌝ }
-    ensures { λ r. ⌜ r ≡ written (heldIn value read held (now (texts .entry)) (now (comments .entry))) (now (text .entry)) (now (comment .entry)) .answer ⌝ }
-    ensures { λ _. ⌜ now (text .exit) ≡ written (heldIn value read held (now (texts .entry)) (now (comments .entry))) (now (text .entry)) (now (comment .entry)) .text ⌝ }
-    ensures { λ _. ⌜ now (comment .exit) ≡ written (heldIn value read held (now (texts .entry)) (now (comments .entry))) (now (text .entry)) (now (comment .entry)) .comment ⌝ }
-{
-    let n = held.text;
-    let m = comment_length(held);
-    if text.len() < n {
-        return unread(LookupAnswer::Refused(Refusal::BufferShort));
+    let own = part.text;
+    if is_open(joins, own) {
+        return write_joined(header, i, text, comment);
     }
-    if comment.len() < m {
-        return unread(LookupAnswer::Refused(Refusal::BufferShort));
-    }
-    overlay::put_at(&texts[..n], text, 0);
-    overlay::put_at(&comments[..m], comment, 0);
-    Looked {
-        answer: LookupAnswer::Found(value),
-        digits: digits_of(value, read),
-        commented: held.commented,
-        text: n,
-        comment: m,
-    }
+    let remark = part.comment;
+    write_own(has_text(value), own, part.commented, remark, text, comment)
 }
 
 // The entry at card i.
 fn entry_at(header: &[u8], i: usize, text: &mut [u8], comment: &mut [u8]) -> Looked
     requires { ⌜ (i < length (now header) / 80) × (length (now header) / 80 ≤ 720) ⌝ }
-    ensures { λ r. ⌜ r ≡ given (entryHead (drop i (rolesOf (now (header .entry))))) (now (text .entry)) (now (comment .entry)) .answer ⌝ }
-    ensures { λ _. ⌜ now (text .exit) ≡ given (entryHead (drop i (rolesOf (now (header .entry))))) (now (text .entry)) (now (comment .entry)) .text ⌝ }
-    ensures { λ _. ⌜ now (comment .exit) ≡ given (entryHead (drop i (rolesOf (now (header .entry))))) (now (text .entry)) (now (comment .entry)) .comment ⌝ }
+    ensures { λ r. ⌜ leaves r (now (text .exit)) (now (comment .exit)) ≡ given (entryHead (drop i (rolesOf (now (header .entry))))) (now (text .entry)) (now (comment .entry)) ⌝ }
 {
-    let read = card_at(header, i);
-    let answer = read.answer;
-    match kind_of(answer) {
-        Kind::Entry(value, joins) => read_held(header, i, value, joins, read, text, comment),
-        Kind::More => unread(LookupAnswer::Refused(Refusal::NameNotFound)),
-        Kind::Neutral => unread(LookupAnswer::Refused(Refusal::NameNotFound)),
-        Kind::Last => unread(LookupAnswer::Refused(Refusal::NameNotFound)),
-    }
+    let part = part_at(header, i);
+    let kind = part.kind;
+    let Kind::Entry(value, joins) = kind else {
+        return not_found();
+    };
+    let own = part.text;
+    let put = write_entry(header, i, value, joins, part, text, comment);
+    answer_of(value, own, put)
 }

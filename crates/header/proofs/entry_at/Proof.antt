@@ -1,60 +1,92 @@
 -- `header::entry_at` meets its contract: by what the card is.
-use mathlib.Core.Path.{_≡_, sym, ap, _∙_}
-use mathlib.Core.List.{_∷_}
-use mathlib.Core.Option.{Option}
 use Prim.Native.Nat.{_+_}
+use mathlib.Core.Path.{_≡_, refl, sym, ap, subst, _∙_}
+use mathlib.Core.Bool.{Bool, cond}
+use mathlib.Core.List.{List, [], _∷_}
+use mathlib.Core.Option.{Option}
 use lib.ListN.{drop}
-use Rattle.joining.specs.Roles.{Held}
+use Rattle.text.specs.Text.{bytesOf}
+use Rattle.numbers.specs.declared.Value.{Value}
+use Rattle.card.specs.declared.CardRead.{CardRead}
+use Rattle.card.specs.Cards.{cardOf}
+use Rattle.joining.specs.Words.{Words}
+use Rattle.joining.specs.Roles.{Held, Role, hasDigits, heldOf}
+use Rattle.joining.specs.Lookup.{joinOn, whole}
 use Rattle.header.specs.declared.Kind.{Kind}
-use Rattle.header.specs.declared.Kind.the-variants.{Entry, More, Neutral, Last}
+use Rattle.header.specs.declared.Kind.the-variants.{Entry}
+use Rattle.header.specs.declared.Part.{Part}
 use Rattle.header.specs.Reading.{rolesOf}
-use Rattle.header.specs.Answers.{Outcome, given, entryHead}
-use Rattle.header.proofs.Playing.{roleAs}
+use Rattle.header.specs.Answers.{given, entryHead}
+use Rattle.header.specs.Passes.{kindOf, wordsOf, roleNo, wordsIn, Wrote, leaves}
+use Rattle.header.proofs.Cards.{cardNo}
+use Rattle.header.proofs.Playing.{roleAs, role-kind}
+use Rattle.header.proofs.Telling.{gives-none}
 use Rattle.header.proofs.Looking.{head-kind}
+use Rattle.header.proofs.Writing.{joins-text, wrote}
 use borrow.Author.Needs.{needs}
 use Rattle.header.proofs.entry_at.Statement.{statement}
 use Rattle.header.proofs.entry_at.Tie as tie
 
-abbrev start : tie.After-kind-of → tie.Start
-start c = c .before .before .before .before .before
+abbrev start : tie.After-part-at → tie.Start
+start c = c .before .before .before .before
 
--- the kind that an arm knows gives the entry
-by : (c : tie.After-kind-of) (k : Kind) → c .kind-of .result ≡ k
-    → let a = start c .args in
-    given (entryHead (roleAs k (c .before .card-at .result) ∷ drop (a .i + 1) (rolesOf (a .header .now)))) (a .text .now) (a .comment .now) ≡ given (entryHead (drop (a .i) (rolesOf (a .header .now)))) (a .text .now) (a .comment .now)
+abbrev card : tie.After-part-at → CardRead
+card c = cardOf (cardNo (start c .args .header .now) (start c .args .i))
+
+-- the cards behind it
+abbrev rest : tie.After-part-at → List Role
+rest c = drop (start c .args .i + 1) (rolesOf (start c .args .header .now))
+
+-- the kind that is known gives the entry
+kind-is : (c : tie.After-part-at) (k : Kind) → c .part-at .result .kind ≡ k → kindOf (card c .answer) ≡ k
+kind-is c k e = sym (ap (λ (p : Part). p .kind) (c .part-at .ensures)) ∙ e
+
+by : (c : tie.After-part-at) (k : Kind) → c .part-at .result .kind ≡ k
+    → let a = start c .args in given (entryHead (roleAs k (card c) ∷ rest c)) (a .text .now) (a .comment .now) ≡ given (entryHead (drop (a .i) (rolesOf (a .header .now)))) (a .text .now) (a .comment .now)
 by c k e =
     let a = start c .args in
-    ap (λ (v : Option Held). given v (a .text .now) (a .comment .now)) (head-kind (a .header .now) (a .i) (start c .pre .0) (c .before .card-at .result) (c .before .card-at .ensures) k (sym (c .kind-of .ensures) ∙ e))
+    ap (λ (v : Option Held). given v (a .text .now) (a .comment .now)) (head-kind (a .header .now) (a .i) (start c .pre .0) (card c) refl k (kind-is c k e))
 
-card-at-requires : tie.Need-card-at-requires
-card-at-requires c κs = search needs
+abbrev value : tie.After-kind → Value
+value c = c .kind .given .0 .0
 
-kind-of-requires : tie.Need-kind-of-requires
-kind-of-requires c κs = search needs
+abbrev joins : tie.After-kind → Bool
+joins c = c .kind .given .0 .1 .0
 
-enum-known-value : tie.Need-enum-known-value
-enum-known-value c = search needs
+entry-is : (c : tie.After-kind) → kindOf (card (c .before .before) .answer) ≡ Entry (value c) (joins c)
+entry-is c = kind-is (c .before .before) (Entry (value c) (joins c)) (c .kind .given .1)
 
-read-held-requires : tie.Need-read-held-requires
-read-held-requires c κs = search needs
+words-are : (c : tie.After-kind)
+    → let a = start (c .before .before) .args in wordsOf (roleNo (a .header .now) (a .i)) ≡ heldOf (value c) (joins c) (card (c .before .before)) .words
+words-are c = ap wordsOf (role-kind (card (c .before .before)) (Entry (value c) (joins c)) (entry-is c))
 
-enum-told : tie.Need-enum-told
-enum-told c = search needs
+part-at-requires : tie.Need-part-at-requires
+part-at-requires c κs = search needs
 
-unread-requires : tie.Need-unread-requires
-unread-requires c κs = search needs
+enum-known-kind : tie.Need-enum-known-kind
+enum-known-kind c = search needs
 
-enum-told-2 : tie.Need-enum-told-2
-enum-told-2 c = search needs
+not-found-requires : tie.Need-not-found-requires
+not-found-requires c κs = search needs
 
-unread-requires-2 : tie.Need-unread-requires-2
-unread-requires-2 c κs = search needs
+returns : tie.Need-returns
+returns c =
+    let part = c .before .before in
+    let a = start part .args in
+    let kind = part .part-at .result .kind in
+    (λ j. leaves (c .not-found .ensures j) (a .text .now) (a .comment .now))
+    ∙ ap (λ (v : Option Held). given v (a .text .now) (a .comment .now)) (gives-none (card part) kind (c .before .match .keys2) (rest part))
+    ∙ by part kind refl
 
-enum-told-3 : tie.Need-enum-told-3
-enum-told-3 c = search needs
+write-entry-requires : tie.Need-write-entry-requires
+write-entry-requires c κs =
+    let kind = c .before .before .before .before in
+    let part = kind .before .before in
+    let s = start part in
+    (s .pre .0, s .pre .1, words-are kind ∙ ap (wordsIn (value kind) (joins kind)) (sym (part .part-at .ensures)), joins-text (card part .answer) (value kind) (joins kind) (entry-is kind))
 
-unread-requires-3 : tie.Need-unread-requires-3
-unread-requires-3 c κs = search needs
+answer-of-requires : tie.Need-answer-of-requires
+answer-of-requires c κs = search needs
 
 same-length : tie.Need-same-length
 same-length c = search needs
@@ -62,45 +94,30 @@ same-length c = search needs
 same-length-2 : tie.Need-same-length-2
 same-length-2 c = search needs
 
-returns : tie.Need-returns
-returns c =
-    let held = c .before .before .before .before in
-    let value = held .before .before .before .before in
-    let o = by (value .before .before) (Entry (value .value .given .0 .0) (value .value .given .0 .1 .0)) (value .value .given .1) in
-    (held .read-held .ensures .0 ∙ ap (λ (x : Outcome). x .answer) o, (held .read-held .ensures .1 .0 ∙ ap (λ (x : Outcome). x .text) o, held .read-held .ensures .1 .1 ∙ ap (λ (x : Outcome). x .comment) o))
-
 returns-2 : tie.Need-returns-2
 returns-2 c =
-    let o = by (c .before .before .before) More (c .before .enum-told .given .1) in
-    (c .unread .ensures ∙ ap (λ (x : Outcome). x .answer) o, (ap (λ (x : Outcome). x .text) o, ap (λ (x : Outcome). x .comment) o))
-
-returns-3 : tie.Need-returns-3
-returns-3 c =
-    let o = by (c .before .before .before) Neutral (c .before .enum-told2 .given .1) in
-    (c .unread2 .ensures ∙ ap (λ (x : Outcome). x .answer) o, (ap (λ (x : Outcome). x .text) o, ap (λ (x : Outcome). x .comment) o))
-
-returns-4 : tie.Need-returns-4
-returns-4 c =
-    let o = by (c .before .before .before) Last (c .before .enum-told3 .given .1) in
-    (c .unread3 .ensures ∙ ap (λ (x : Outcome). x .answer) o, (ap (λ (x : Outcome). x .text) o, ap (λ (x : Outcome). x .comment) o))
+    let put = c .before .before .before .before .before in
+    let kind = put .before .before .before .before .before in
+    let part = kind .before .before in
+    let a = start part .args in
+    let text₁ = put .write-entry .last .1 .1 .1 .1 .1 .0 in
+    let comment₁ = put .write-entry .last .1 .1 .1 .1 .1 .1 .0 in
+    (λ j. leaves (c .answer-of .ensures j) text₁ comment₁)
+    ∙ wrote (whole (heldOf (value kind) (joins kind) (card part)) (rest part)) (part .part-at .result .text) (put .write-entry .result) (a .text .now) (a .comment .now) text₁ comment₁
+    (ap (λ (p : Part). cond (hasDigits (value kind)) (bytesOf (p .text)) []) (sym (part .part-at .ensures)))
+    (subst (λ (w : Words). Wrote (joinOn w (rest part) .text) (joinOn w (rest part) .comment) (put .write-entry .result) (a .text .now) (a .comment .now) text₁ comment₁) (words-are kind) (put .write-entry .ensures))
+    ∙ by part (Entry (value kind) (joins kind)) (kind .kind .given .1)
 
 pub entry-at-spec : {M : Type 1} → statement M
 entry-at-spec =
     tie.close
     (tie.spec
-    card-at-requires
-    kind-of-requires
-    enum-known-value
-    read-held-requires
-    enum-told
-    unread-requires
-    enum-told-2
-    unread-requires-2
-    enum-told-3
-    unread-requires-3
+    part-at-requires
+    enum-known-kind
+    not-found-requires
+    returns
+    write-entry-requires
+    answer-of-requires
     same-length
     same-length-2
-    returns
-    returns-2
-    returns-3
-    returns-4)
+    returns-2)

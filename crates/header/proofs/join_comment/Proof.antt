@@ -1,49 +1,77 @@
--- `header::join_comment` meets its contract: a line feed, and the comment behind it.
-use Prim.Native.Nat.{ℕ, _+_, _≤_}
-use native.Mathlib.Omega.{arith}
-use mathlib.Core.Path.{_≡_, refl, sym, ap, _∙_}
+-- `header::join_comment` meets its contract: a line feed stands between two comments.
+use Prim.Native.Nat.{ℕ, _+_}
+use mathlib.Core.Path.{sym, ap, _∙_}
+use mathlib.Core.Bool.{Bool}
 use mathlib.Core.List.{List}
-use lib.ListN.{length, take, set, length-set}
-use Rattle.overlay.specs.Overlay.{spliced}
-use Rattle.overlay.proofs.Laying.{fits}
-use Rattle.header.proofs.Buffers.{length-spliced, comment-put}
+use lib.ListN.{length}
+use Rattle.overlay.specs.Overlay.{overlaid}
+use Rattle.header.specs.Passes.{placeBehind, laidBehind}
 use borrow.Author.Needs.{needs}
 use Rattle.header.proofs.join_comment.Statement.{statement}
 use Rattle.header.proofs.join_comment.Tie as tie
 
--- the comment behind the line feed
-laid : (c : tie.After-put-at) → c .put-at .last .1 .0 ≡ spliced (set (c .before .before .before .before .args .held .now) (c .before .before .before .before .args .n) 10) (c .before .before .before .before .args .n + 1) (c .before .before .before .before .args .c .now)
-laid c =
-    let a = c .before .before .before .before .args in
-    let long : length (set (a .held .now) (a .n) 10) ≡ length (a .held .now) = simp length-set in
-    c .put-at .ensures ∙ fits (set (a .held .now) (a .n) 10) (a .n + 1) (a .c .now) (omega arith)
-
-slice-write-held : tie.Need-slice-write-held
-slice-write-held c = search needs
-
-add-m : tie.Need-add-m
-add-m c = search needs
+slice-aggregate-put-at : tie.Need-slice-aggregate-put-at
+slice-aggregate-put-at c = search needs
 
 put-at-requires : tie.Need-put-at-requires
 put-at-requires c κs = search needs
 
+add-put-at : tie.Need-add-put-at
+add-put-at c = search needs
+
+put-at-requires-2 : tie.Need-put-at-requires-2
+put-at-requires-2 c κs = search needs
+
 add-result : tie.Need-add-result
 add-result c = search needs
 
+add-result-2 : tie.Need-add-result-2
+add-result-2 c = search needs
+
 same-length : tie.Need-same-length
-same-length c =
-    let put = c .before .before in
-    let a = put .before .before .before .before .args in
-    let d = a .held .now in
-    let long : length (set d (a .n) 10) ≡ length d = simp length-set in
-    ap length (laid put) ∙ length-spliced (set d (a .n) 10) (a .c .now) (a .n + 1) (omega arith) ∙ long
+same-length c = search needs
 
 returns : tie.Need-returns
 returns c =
     let put = c .before .before in
-    let a = put .before .before .before .before .args in
-    (ap (take (a .n + 1 + length (a .c .now))) (laid put) ∙ comment-put (a .held .now) (a .c .now) (a .n) (put .before .before .before .before .pre), refl)
+    let line = put .before .before .before .before in
+    let test = line .before .before .before in
+    let a = test .before .before .before .args in (
+      sym (ap (λ (b : Bool). placeBehind b (a .n) + length (a .c .now)) (test .if1 .taken)),
+      put .put-at2 .ensures ∙ ap (λ (l : List ℕ). overlaid l (a .n + 1) (a .c .now)) (line .put-at .ensures) ∙ sym (ap (λ (b : Bool). laidBehind b (a .n) (a .out .now) (a .c .now)) (test .if1 .taken)),
+    )
+
+put-at-requires-3 : tie.Need-put-at-requires-3
+put-at-requires-3 c κs = search needs
+
+add-result-3 : tie.Need-add-result-3
+add-result-3 c = search needs
+
+same-length-2 : tie.Need-same-length-2
+same-length-2 c = search needs
+
+returns-2 : tie.Need-returns-2
+returns-2 c =
+    let put = c .before .before in
+    let test = put .before .before in
+    let a = test .before .before .before .args in (
+      sym (ap (λ (b : Bool). placeBehind b (a .n) + length (a .c .now)) (test .if1 .left)),
+      put .put-at3 .ensures ∙ sym (ap (λ (b : Bool). laidBehind b (a .n) (a .out .now) (a .c .now)) (test .if1 .left)),
+    )
 
 pub join-comment-spec : {M : Type 1} → statement M
 join-comment-spec =
-    tie.close (tie.spec slice-write-held add-m put-at-requires add-result same-length returns)
+    tie.close
+    (tie.spec
+    slice-aggregate-put-at
+    put-at-requires
+    add-put-at
+    put-at-requires-2
+    add-result
+    add-result-2
+    same-length
+    returns
+    put-at-requires-3
+    add-result-3
+    same-length-2
+    returns-2)

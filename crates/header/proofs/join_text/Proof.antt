@@ -8,7 +8,6 @@ use lib.Seq.{length-take-le}
 use Rattle.text.specs.Bytes.{isSpace}
 use Rattle.text.specs.Trim.{trimEnd}
 use Rattle.text.proofs.Trimming.{end-shorter}
-use Rattle.overlay.specs.Overlay.{spliced}
 use Rattle.overlay.proofs.Laying.{fits}
 use Rattle.header.proofs.Buffers.{joined-cut, joined-put}
 use borrow.Author.Needs.{needs}
@@ -43,7 +42,7 @@ returns c =
     let cut : c .trim-end .result .now ≡ trimEnd isSpace (take (a .n - 1) d) = c .trim-end .ensures in
     let short : length (trimEnd isSpace (take (a .n - 1) d)) ≤ a .n - 1 = omega (arith, end-shorter isSpace (take (a .n - 1) d), length-take (a .n - 1) d) in (
       ap (λ (l : List ℕ). take (length l) d) cut
-          ∙ joined-cut d (a .t .now) (a .n) (omega (arith, test .before .before .before .pre)) (test .before .before .before .pre .1) (sym (test .adds-nothing .ensures) ∙ c .before .before .if1 .taken),
+          ∙ joined-cut d (a .t .now) (a .n) (test .before .before .before .pre .0) (test .before .before .before .pre .2) (sym (test .adds-nothing .ensures) ∙ c .before .before .if1 .taken),
       rw cut (omega arith),
     )
 
@@ -62,7 +61,7 @@ returns-2 c =
     let test = put .before .before .before in
     let a = test .before .before .before .args in (
       ap (take (a .n - 1 + length (a .t .now))) (put .put-at .ensures ∙ fits (a .held .now) (a .n - 1) (a .t .now) (omega (arith, test .before .before .before .pre)))
-          ∙ joined-put (a .held .now) (a .t .now) (a .n) (test .before .before .before .pre .0) (test .before .before .before .pre .1) (sym (test .adds-nothing .ensures) ∙ put .before .before .if1 .left),
+          ∙ joined-put (a .held .now) (a .t .now) (a .n) (test .before .before .before .pre .0) (test .before .before .before .pre .2) (sym (test .adds-nothing .ensures) ∙ put .before .before .if1 .left),
       omega arith,
     )
 

@@ -1,44 +1,33 @@
--- `header::join_within` meets its contract: the words in scratch are the entry's with what is joined to it.
-use Prim.Native.Nat.{_+_}
-use mathlib.Core.Path.{_≡_, ap, _∙_}
-use mathlib.Core.Bool.{false}
-use lib.ListN.{drop}
-use Rattle.joining.specs.Words.{Words}
-use Rattle.joining.specs.Roles.{Held, heldOf}
-use Rattle.joining.specs.Lookup.{joinOn, whole}
-use Rattle.header.specs.Reading.{rolesOf}
-use Rattle.header.specs.Answers.{Outcome, written}
-use Rattle.header.specs.Passes.{heldIn}
-use Rattle.header.proofs.Writing.{any-joins}
+-- `header::join_within` meets its contract: what is joined is measured, and written where it fits.
+use mathlib.Core.Path.{sym}
+use lib.Seq.{length-take-le}
+use Rattle.header.proofs.Writing.{joined-wrote, nothing-wrote}
 use borrow.Author.Needs.{needs}
 use Rattle.header.proofs.join_within.Statement.{statement}
 use Rattle.header.proofs.join_within.Tie as tie
 
-abbrev begun : tie.After-join-on → tie.After-first-words
-begun c = c .before .before .before .before .before .before .before
+slice-aggregate-join-cards : tie.Need-slice-aggregate-join-cards
+slice-aggregate-join-cards c = search needs
 
-abbrev start : tie.After-join-on → tie.Start
-start c = begun c .before .before .before .before .before .before .before .before
+join-cards-requires : tie.Need-join-cards-requires
+join-cards-requires c κs = search needs
 
--- the words in scratch are the joined ones
-all : (c : tie.After-join-on)
-    → let a = start c .args in
-    written (heldIn (a .value) (a .read) (c .join-on .result) (c .join-on .last .1 .1 .1 .1 .0) (c .join-on .last .1 .1 .1 .1 .1 .0)) (a .text .now) (a .comment .now)
-    ≡ written (whole (heldOf (a .value) (a .joins) (a .read)) (drop (a .i + 1) (rolesOf (a .header .now)))) (a .text .now) (a .comment .now)
-all c =
-    let a = start c .args in
-    any-joins (a .value) (a .read) (a .joins) (c .join-on .result) (c .join-on .last .1 .1 .1 .1 .0) (c .join-on .last .1 .1 .1 .1 .1 .0) (a .text .now) (a .comment .now)
-    ∙ ap (λ (w : Words). written (record { value = a .value; digits = heldOf (a .value) false (a .read) .digits; words = w }) (a .text .now) (a .comment .now))
-    (c .join-on .ensures .words ∙ ap (λ (w : Words). joinOn w (drop (a .i + 1) (rolesOf (a .header .now)))) (begun c .first-words .ensures .words (a .joins)))
+both-fit-requires : tie.Need-both-fit-requires
+both-fit-requires c κs = search needs
 
-first-words-requires : tie.Need-first-words-requires
-first-words-requires c κs = search needs
+slice-reshare-prefix-put-at : tie.Need-slice-reshare-prefix-put-at
+slice-reshare-prefix-put-at c = search needs
 
-join-on-requires : tie.Need-join-on-requires
-join-on-requires c κs = search needs
+slice-aggregate-put-at : tie.Need-slice-aggregate-put-at
+slice-aggregate-put-at c =
+    let first = c .before .before .before .before .before .before in
+    sym (length-take-le (first .join-cards .result .text) (first .join-cards .last .1 .1 .0) (first .join-cards .ensures .within))
 
-give-requires : tie.Need-give-requires
-give-requires c κs = search needs
+put-at-requires : tie.Need-put-at-requires
+put-at-requires c κs = search needs
+
+join-cards-requires-2 : tie.Need-join-cards-requires-2
+join-cards-requires-2 c κs = search needs
 
 same-length : tie.Need-same-length
 same-length c = search needs
@@ -49,24 +38,40 @@ same-length-2 c = search needs
 same-length-3 : tie.Need-same-length-3
 same-length-3 c = search needs
 
+returns : tie.Need-returns
+returns c =
+    let again = c .before .before .before .before in
+    let put = again .before .before .before .before .before in
+    let test = put .before .before .before in
+    let fit = test .before in
+    let first = fit .before .before .before .before in
+    let a = first .before .before .before .before .before .before .before .args in
+    joined-wrote (first .join-cards .ensures) (a .text .now) (a .comment .now) (fit .both-fit .ensures) (test .if1 .taken) (put .put-at .ensures) (again .join-cards2 .ensures)
+
 same-length-4 : tie.Need-same-length-4
 same-length-4 c = search needs
 
-returns : tie.Need-returns
-returns c =
-    let given = c .before .before .before .before in
-    let o = all (given .before .before .before .before .before .before .before .before .before) in
-    (given .give .ensures .0 ∙ ap (λ (x : Outcome). x .answer) o, (given .give .ensures .1 .0 ∙ ap (λ (x : Outcome). x .text) o, given .give .ensures .1 .1 ∙ ap (λ (x : Outcome). x .comment) o))
+returns-2 : tie.Need-returns-2
+returns-2 c =
+    let fit = c .before in
+    let first = fit .before .before .before .before in
+    let a = first .before .before .before .before .before .before .before .args in
+    nothing-wrote (first .join-cards .ensures) (a .text .now) (a .comment .now) (fit .both-fit .ensures) (c .if1 .left)
 
 pub join-within-spec : {M : Type 1} → statement M
 join-within-spec =
     tie.close
     (tie.spec
-    first-words-requires
-    join-on-requires
-    give-requires
+    slice-aggregate-join-cards
+    join-cards-requires
+    both-fit-requires
+    slice-reshare-prefix-put-at
+    slice-aggregate-put-at
+    put-at-requires
+    join-cards-requires-2
     same-length
     same-length-2
     same-length-3
+    returns
     same-length-4
-    returns)
+    returns-2)

@@ -1,8 +1,6 @@
 -- `header::lookup` meets its contract: the last card that bears the name gives the entry.
-use Prim.Native.Nat.{ℕ, _/_, _<_, _≤_}
-use mathlib.Core.Path.{_≡_, refl, sym, ap, _∙_}
-use mathlib.Core.Bool.{false}
-use mathlib.Core.List.{List}
+use Prim.Native.Nat.{ℕ}
+use mathlib.Core.Path.{_≡_, sym, ap, _∙_}
 use mathlib.Core.Option.{Option}
 use lib.ListN.{length}
 use Rattle.text.specs.declared.Place.{Place}
@@ -10,7 +8,6 @@ use Rattle.text.specs.declared.Place.the-variants.{At, Nowhere}
 use Rattle.joining.specs.Roles.{Held}
 use Rattle.header.specs.declared.Header.{Header}
 use Rattle.header.specs.declared.Header.the-variants.{Accepted, Refused}
-use Rattle.header.specs.declared.LookupAnswer.{LookupAnswer}
 use Rattle.header.specs.Reading.{rolesOf, headerOf}
 use Rattle.header.specs.Answers.{Outcome, unread, given, lookedUp, lookupOf}
 use Rattle.header.specs.Passes.{refusedHeader, lastFrom}
@@ -61,16 +58,13 @@ enum-told-2 c = search needs
 refused-header-requires : tie.Need-refused-header-requires
 refused-header-requires c κs = search needs
 
-unread-requires : tie.Need-unread-requires
-unread-requires c κs = search needs
-
 returns : tie.Need-returns
 returns c =
-    let told = c .before .before in
+    let told = c .before in
     let scanned = told .before .before in
     let x = Refused (told .enum-told2 .given .0 .0) (told .enum-told2 .given .0 .1 .0) in
     let o = by-header scanned x (told .enum-told2 .given .1) in
-    (c .unread .ensures ∙ ap unread (c .before .refused-header .ensures ∙ ap refusedHeader (told .enum-told2 .given .1)) ∙ ap (λ (x : Outcome). x .answer) o, (ap (λ (x : Outcome). x .text) o, ap (λ (x : Outcome). x .comment) o))
+    (c .refused-header .ensures ∙ ap (λ (h : Header). unread (refusedHeader h)) (told .enum-told2 .given .1) ∙ ap (λ (x : Outcome). x .answer) o, (ap (λ (x : Outcome). x .text) o, ap (λ (x : Outcome). x .comment) o))
 
 enum-known-last : tie.Need-enum-known-last
 enum-known-last c = search needs
@@ -78,14 +72,14 @@ enum-known-last c = search needs
 enum-told-3 : tie.Need-enum-told-3
 enum-told-3 c = search needs
 
-unread-requires-2 : tie.Need-unread-requires-2
-unread-requires-2 c κs = search needs
+not-found-requires : tie.Need-not-found-requires
+not-found-requires c κs = search needs
 
 returns-2 : tie.Need-returns-2
 returns-2 c =
     let accepted = c .before .before .before in
     let o = by-place accepted Nowhere (c .before .enum-told3 .given .1) in
-    (c .unread2 .ensures ∙ ap (λ (x : Outcome). x .answer) o, (ap (λ (x : Outcome). x .text) o, ap (λ (x : Outcome). x .comment) o))
+    (c .not-found .ensures ∙ ap (λ (x : Outcome). x .answer) o, (ap (λ (x : Outcome). x .text) o, ap (λ (x : Outcome). x .comment) o))
 
 entry-at-requires : tie.Need-entry-at-requires
 entry-at-requires c κs =
@@ -105,8 +99,8 @@ returns-3 : tie.Need-returns-3
 returns-3 c =
     let entry = c .before .before .before .before in
     let at-last = entry .before .before .before .before in
-    let o = by-place (at-last .before .before) (At (at-last .last .given .0 .0)) (at-last .last .given .1) in
-    (entry .entry-at .ensures .0 ∙ ap (λ (x : Outcome). x .answer) o, (entry .entry-at .ensures .1 .0 ∙ ap (λ (x : Outcome). x .text) o, entry .entry-at .ensures .1 .1 ∙ ap (λ (x : Outcome). x .comment) o))
+    let o = entry .entry-at .ensures ∙ by-place (at-last .before .before) (At (at-last .last .given .0 .0)) (at-last .last .given .1) in
+    (ap (λ (x : Outcome). x .answer) o, (ap (λ (x : Outcome). x .text) o, ap (λ (x : Outcome). x .comment) o))
 
 pub lookup-spec : {M : Type 1} → statement M
 lookup-spec =
@@ -116,11 +110,10 @@ lookup-spec =
     enum-told
     enum-told-2
     refused-header-requires
-    unread-requires
     returns
     enum-known-last
     enum-told-3
-    unread-requires-2
+    not-found-requires
     returns-2
     entry-at-requires
     same-length

@@ -1,7 +1,7 @@
 -- `header::read_entry` meets its contract: a bad length, a number beyond the cards, or the entry there.
-use Prim.Native.Nat.{ℕ, _/_, _≤_}
+use Prim.Native.Nat.{ℕ}
 use mathlib.Core.Path.{_≡_, sym, ap, _∙_}
-use mathlib.Core.Bool.{true, false, cond}
+use mathlib.Core.Bool.{true, false}
 use mathlib.Core.List.{List}
 use mathlib.Core.Option.{Option}
 use lib.ListN.{length, drop}
@@ -32,25 +32,25 @@ good h i text comment e = rw e
 is-bad-length-requires : tie.Need-is-bad-length-requires
 is-bad-length-requires c κs = search needs
 
-unread-requires : tie.Need-unread-requires
-unread-requires c κs = search needs
+refused-header-requires : tie.Need-refused-header-requires
+refused-header-requires c κs = search needs
 
 returns : tie.Need-returns
 returns c =
     let test = c .before .before in
     let a = start test .args in
     let o = bad (a .header .now) (a .i) (a .text .now) (a .comment .now) (sym (test .is-bad-length .ensures) ∙ c .before .if1 .taken) in
-    (c .unread .ensures ∙ ap (λ (x : Outcome). x .answer) o, (ap (λ (x : Outcome). x .text) o, ap (λ (x : Outcome). x .comment) o))
+    (c .refused-header .ensures ∙ ap (λ (x : Outcome). x .answer) o, (ap (λ (x : Outcome). x .text) o, ap (λ (x : Outcome). x .comment) o))
 
-unread-requires-2 : tie.Need-unread-requires-2
-unread-requires-2 c κs = search needs
+not-found-requires : tie.Need-not-found-requires
+not-found-requires c κs = search needs
 
 returns-2 : tie.Need-returns-2
 returns-2 c =
     let long = c .before .before in
     let a = start (long .before) .args in
     let o = ap (λ (v : Option Held). given v (a .text .now) (a .comment .now)) (no-entry (a .header .now) (a .i) (c .before .if2 .taken)) ∙ good (a .header .now) (a .i) (a .text .now) (a .comment .now) (length-is long) in
-    (c .unread2 .ensures ∙ ap (λ (x : Outcome). x .answer) o, (ap (λ (x : Outcome). x .text) o, ap (λ (x : Outcome). x .comment) o))
+    (c .not-found .ensures ∙ ap (λ (x : Outcome). x .answer) o, (ap (λ (x : Outcome). x .text) o, ap (λ (x : Outcome). x .comment) o))
 
 entry-at-requires : tie.Need-entry-at-requires
 entry-at-requires c κs =
@@ -68,17 +68,17 @@ returns-3 c =
     let entry = c .before .before .before .before in
     let long = entry .before .before .before .before in
     let a = start (long .before) .args in
-    let o = good (a .header .now) (a .i) (a .text .now) (a .comment .now) (length-is long) in
-    (entry .entry-at .ensures .0 ∙ ap (λ (x : Outcome). x .answer) o, (entry .entry-at .ensures .1 .0 ∙ ap (λ (x : Outcome). x .text) o, entry .entry-at .ensures .1 .1 ∙ ap (λ (x : Outcome). x .comment) o))
+    let o = entry .entry-at .ensures ∙ good (a .header .now) (a .i) (a .text .now) (a .comment .now) (length-is long) in
+    (ap (λ (x : Outcome). x .answer) o, (ap (λ (x : Outcome). x .text) o, ap (λ (x : Outcome). x .comment) o))
 
 pub read-entry-spec : {M : Type 1} → statement M
 read-entry-spec =
     tie.close
     (tie.spec
     is-bad-length-requires
-    unread-requires
+    refused-header-requires
     returns
-    unread-requires-2
+    not-found-requires
     returns-2
     entry-at-requires
     same-length
