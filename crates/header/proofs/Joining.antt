@@ -5,7 +5,8 @@ use mathlib.Core.Path.{_≡_, refl, sym, ap, subst, _∙_}
 use mathlib.Core.Bool.{Bool, true, false, cond, true≢false, _&&_}
 use mathlib.Core.List.{List, [], _∷_}
 use mathlib.Core.Option.{none, some}
-use borrow.Author.Tests.{eqb-true, ne-eqb}
+use borrow.Author.Tests.{eqb-true, eq-eqb, ne-eqb}
+use lib.Dec.{eqb}
 use lib.ListN.{length, take, drop, set}
 use types.Run.{OneOf, miss}
 use denote.Enum.Declared.{tagOf}
@@ -18,7 +19,7 @@ use Rattle.card.specs.declared.CardAnswer.the-variants as A
 use Rattle.card.specs.declared.CardRead.{CardRead}
 use Rattle.card.specs.Cards.{cardOf}
 use Rattle.joining.specs.Words.{Comment, Words, endsOpen, opens, stem, addsNothing, joinText, joinComment, joinWords}
-use Rattle.joining.specs.Roles.{Role, entry, more, neutral, last, isString, commentOf, heldOf, roleBy}
+use Rattle.joining.specs.Roles.{Role, entry, more, neutral, last, isString, commentOf, heldOf, roleBy, roleOf}
 use Rattle.joining.specs.Lookup.{joinOn}
 use Rattle.joining.proofs.Answers.{joinOn-shut}
 use Rattle.header.specs.declared.Lengths.{Lengths}
@@ -26,11 +27,11 @@ use Rattle.header.specs.declared.Kind.{Kind}
 use Rattle.header.specs.declared.Kind.the-variants.{Entry, More, Neutral, Last}
 use Rattle.header.specs.Reading.{rolesOf}
 use Rattle.header.specs.Answers.{isThere, bytesIn, over}
-use Rattle.header.specs.Passes.{partOf, roleNo, wordsOf, moreOf, begun, beginning, isNeutral, joinedBy, goesOn, placeBehind, laidBehind, Stands, Stepped, Space, Room}
+use Rattle.header.specs.Passes.{kindOf, partOf, roleNo, wordsOf, moreOf, roleFrom, isNeutral, joinedBy, goesOn, placeBehind, laidBehind, Stands, Stepped, Space, Room}
 use Rattle.header.proofs.Kind as kind
 use Rattle.header.proofs.Buffers.{joined-length, joined-laid}
 use Rattle.header.proofs.Cards.{cardNo}
-use Rattle.header.proofs.Playing.{roleAs}
+use Rattle.header.proofs.Playing.{roleAs, role-kind}
 use Rattle.header.proofs.Looking.{roles-from, roles-past}
 
 -- ---- open texts and words
@@ -67,6 +68,12 @@ unfolding opens
 text-shut w e = rw (e, and-false)
 
 -- ---- the words of an open string are those of an & that its card is joined to
+abbrev pub begun : Words
+begun = record { text = 38 ∷ []; comment = none; joins = true }
+
+abbrev pub beginning : Lengths
+beginning = record { text = 1; comment = 0; commented = false; going = true }
+
 begun-by : (r : CardRead) → endsOpen (bytesOf (r .text)) ≡ true → heldOf Val.String true r .words ≡ joinedBy (moreOf (partOf r)) begun
 unfolding joinWords joinText joinComment stem
 begun-by r e =
@@ -122,55 +129,67 @@ module _ (w : Words) (joins : w .joins ≡ true) (opened : opens w ≡ true) whe
   one-more last h = refl
 
 -- ---- where the loop stands: what is left is joined to the words as they stand
+-- the cards from number j on, where the string begins at card i
+abbrev rest : List ℕ → ℕ → ℕ → List Role
+rest h i j = cond (eqb j i) (moreOf (partOf (cardOf (cardNo h j))) ∷ drop (j + 1) (rolesOf h)) (drop j (rolesOf h))
+
 pub record Going (h : List ℕ) (i : ℕ) (held : Lengths) (texts before comments : List ℕ) (j : ℕ) : Type 0 where
   pub w : Words
   pub stands : Stands w held texts before comments
   pub joins : w .joins ≡ true
-  pub past : i < j
+  pub past : i ≤ j
   pub within : j ≤ length h / 80
   pub text : held .text ≤ 1 + 79 * j
   pub comment : held .comment ≤ 81 * j
   pub going : held .going ≡ true → opens w ≡ true
-  pub left : cond (held .going) (joinOn w (drop j (rolesOf h))) w ≡ joinOn (wordsOf (roleNo h i)) (drop (i + 1) (rolesOf h))
+  pub left : cond (held .going) (joinOn w (rest h i j)) w ≡ joinOn (wordsOf (roleNo h i)) (drop (i + 1) (rolesOf h))
 
 -- an & stands in scratch
 begun-stands : (texts before : List ℕ) → 0 < length texts → Stands begun beginning (set texts 0 38) before before
 begun-stands [] before h = absurd (omega arith)
 begun-stands (b ∷ texts) before h = record { text = refl; within = omega arith; commented = refl; comment = refl; laid = λ _. refl }
 
+begun-open : opens begun ≡ true
+unfolding opens endsOpen
+begun-open = refl
+
+begun-more : (t : List ℕ) (c : Comment) (l : List Role) → joinOn begun (more t c ∷ l) ≡ joinOn (joinWords begun t c) l
+unfolding joinOn
+begun-more t c l = rw begun-open
+
 module _ {h : List ℕ} {i : ℕ} {texts₀ : List ℕ} (room : Room h i texts₀) where
-  pub begin : {r : Lengths} {texts before comments : List ℕ} → Stepped (moreOf (partOf (cardOf (cardNo h i)))) beginning r (set texts₀ 0 38) before texts comments
-      → Going h i r texts before comments (i + 1)
-  unfolding joinWords
-  begin {r} {texts} {before} {comments} S =
+  pub begin : (before : List ℕ) → Going h i beginning (set texts₀ 0 38) before before i
+  begin before =
       let card = cardOf (cardNo h i) in
-      let w = joinedBy (moreOf (partOf card)) begun in
-      let same : wordsOf (roleNo h i) ≡ w = answer-begun (card .answer) card (room .opened) in
-      let opened : opens w ≡ true = ap opens (sym same) ∙ room .opened in
-      let stands : Stands w r texts before comments = S .words begun before (begun-stands texts₀ before (omega (arith, room .card, room .wide))) in
-      let on : r .going ≡ true = S .going ∙ ap endsOpen (stands .text) ∙ opens-text w opened in
+      let all = drop (i + 1) (rolesOf h) in
       record {
-        w = w;
-        stands = stands;
+        w = begun;
+        stands = begun-stands texts₀ before (omega (arith, room .card, room .wide));
         joins = refl;
         past = omega arith;
         within = omega (arith, room .card);
-        text = omega (arith, S .text);
-        comment = omega (arith, S .comment);
-        going = λ _. opened;
-        left = ap (λ (b : Bool). cond b (joinOn w (drop (i + 1) (rolesOf h))) w) on ∙ ap (λ (x : Words). joinOn x (drop (i + 1) (rolesOf h))) (sym same);
+        text = omega arith;
+        comment = omega arith;
+        going = λ _. begun-open;
+        left =
+            ap (λ (b : Bool). joinOn begun (cond b (moreOf (partOf card) ∷ all) (drop i (rolesOf h)))) (eq-eqb i i refl)
+            ∙ begun-more (bytesOf (card .text)) (commentOf (card .commented) (bytesOf (card .comment))) all
+            ∙ ap (λ (x : Words). joinOn x all) (sym (answer-begun (card .answer) card (room .opened)));
       }
 
   module _ {held : Lengths} {texts before comments : List ℕ} {j : ℕ} (G : Going h i held texts before comments j) where
     -- the words are whole where nothing more is joined
     pub at-stop : held .going ≡ false → Stands (joinOn (wordsOf (roleNo h i)) (drop (i + 1) (rolesOf h))) held texts before comments
     at-stop e =
-        let all : G .w ≡ joinOn (wordsOf (roleNo h i)) (drop (i + 1) (rolesOf h)) = sym (ap (λ (b : Bool). cond b (joinOn (G .w) (drop j (rolesOf h))) (G .w)) e) ∙ G .left in
+        let all : G .w ≡ joinOn (wordsOf (roleNo h i)) (drop (i + 1) (rolesOf h)) = sym (ap (λ (b : Bool). cond b (joinOn (G .w) (rest h i j)) (G .w)) e) ∙ G .left in
         subst (λ (x : Words). Stands x held texts before comments) all (G .stands)
 
     pub at-end : length h / 80 ≤ j → Stands (joinOn (wordsOf (roleNo h i)) (drop (i + 1) (rolesOf h))) held texts before comments
     unfolding joinOn
-    at-end p = subst (λ (x : Words). Stands x held texts before comments) (sym (go (held .going) (drop j (rolesOf h)) (roles-past h j p)) ∙ G .left) (G .stands)
+    at-end p =
+        let later : eqb j i ≡ false = ne-eqb j i (λ (e : j ≡ i). omega (arith, room .card)) in
+        let none-left : rest h i j ≡ [] = ap (λ (b : Bool). cond b (moreOf (partOf (cardOf (cardNo h j))) ∷ drop (j + 1) (rolesOf h)) (drop j (rolesOf h))) later ∙ roles-past h j p in
+        subst (λ (x : Words). Stands x held texts before comments) (sym (go (held .going) (rest h i j) none-left) ∙ G .left) (G .stands)
       where
         go : (b : Bool) (l : List Role) → l ≡ [] → cond b (joinOn (G .w) l) (G .w) ≡ G .w
         go true l e = ap (joinOn (G .w)) e
@@ -185,9 +204,22 @@ module _ {h : List ℕ} {i : ℕ} {texts₀ : List ℕ} (room : Room h i texts�
             comment = omega (arith, G .comment, room .few);
           }
 
-      pub on-card : {r : Lengths} {texts₁ comments₁ : List ℕ} → Stepped (roleNo h j) held r texts comments texts₁ comments₁ → Going h i r texts₁ before comments₁ (j + 1)
+      -- the next card
+      here : rest h i j ≡ roleFrom (eqb j i) h j ∷ drop (j + 1) (rolesOf h)
+      here = go (eqb j i)
+        where
+          go : (b : Bool) → cond b (moreOf (partOf (cardOf (cardNo h j))) ∷ drop (j + 1) (rolesOf h)) (drop j (rolesOf h)) ≡ roleFrom b h j ∷ drop (j + 1) (rolesOf h)
+          go true = refl
+          go false = roles-from h j next
+
+      behind : rest h i (j + 1) ≡ drop (j + 1) (rolesOf h)
+      behind =
+          let later : eqb (j + 1) i ≡ false = ne-eqb (j + 1) i (λ (e : j + 1 ≡ i). omega (arith, G .past)) in
+          ap (λ (b : Bool). cond b (moreOf (partOf (cardOf (cardNo h (j + 1)))) ∷ drop (j + 1 + 1) (rolesOf h)) (drop (j + 1) (rolesOf h))) later
+
+      pub on-card : {r : Lengths} {texts₁ comments₁ : List ℕ} → Stepped (roleFrom (eqb j i) h j) held r texts comments texts₁ comments₁ → Going h i r texts₁ before comments₁ (j + 1)
       on-card {r} {texts₁} {comments₁} S =
-          let role = roleNo h j in
+          let role = roleFrom (eqb j i) h j in
           let w = joinedBy role (G .w) in
           let stands : Stands w r texts₁ before comments₁ = S .words (G .w) before (G .stands) in
           let goes : r .going ≡ goesOn role (w .text) = S .going ∙ ap (goesOn role) (stands .text) in
@@ -201,10 +233,11 @@ module _ {h : List ℕ} {i : ℕ} {texts₀ : List ℕ} (room : Room h i texts�
             comment = omega (arith, G .comment, S .comment);
             going = λ (e : r .going ≡ true). still-open (G .w) (G .joins) (G .going on) role (sym goes ∙ e);
             left =
-                ap (λ (b : Bool). cond b (joinOn w (drop (j + 1) (rolesOf h))) w) goes
+                ap (λ (l : List Role). cond (r .going) (joinOn w l) w) behind
+                ∙ ap (λ (b : Bool). cond b (joinOn w (drop (j + 1) (rolesOf h))) w) goes
                 ∙ sym (one-more (G .w) (G .joins) (G .going on) role (drop (j + 1) (rolesOf h)))
-                ∙ ap (joinOn (G .w)) (sym (roles-from h j next))
-                ∙ sym (ap (λ (b : Bool). cond b (joinOn (G .w) (drop j (rolesOf h))) (G .w)) on)
+                ∙ ap (joinOn (G .w)) (sym here)
+                ∙ sym (ap (λ (b : Bool). cond b (joinOn (G .w) (rest h i j)) (G .w)) on)
                 ∙ G .left;
           }
 
@@ -290,3 +323,8 @@ module _ (t c : List ℕ) (held : Lengths) {texts comments texts₁ : List ℕ} 
         text = short;
         comment = omega arith;
       }
+
+-- ---- the role of a card to the string before it, by its kind
+pub role-at : (first : Bool) (r : CardRead) → roleAs (cond first More (kindOf (r .answer))) r ≡ cond first (moreOf (partOf r)) (roleOf r)
+role-at true r = refl
+role-at false r = sym (role-kind r (kindOf (r .answer)) refl)

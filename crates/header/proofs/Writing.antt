@@ -1,9 +1,9 @@
 -- What is written of an entry, by the lengths of its words.
-use Prim.Native.Nat.{ℕ, _≤_}
+use Prim.Native.Nat.{ℕ, zero, suc, _≤_}
 use native.Mathlib.Omega.{arith}
-use mathlib.Core.Path.{_≡_, refl, sym, ap, ap₂, subst, _∙_}
+use mathlib.Core.Path.{_≡_, refl, sym, ap, ap₂, _∙_}
 use mathlib.Core.Bool.{Bool, true, false, cond, true≢false, _&&_}
-use mathlib.Core.List.{List, []}
+use mathlib.Core.List.{List, [], _∷_}
 use borrow.Author.Tests.{leb-true}
 use lib.Dec.{leb}
 use lib.ListN.{length, take}
@@ -28,18 +28,22 @@ use Rattle.header.specs.declared.Lengths.{Lengths}
 use Rattle.header.specs.declared.Part.{Part}
 use Rattle.header.specs.declared.Written.{Written}
 use Rattle.header.specs.Answers.{isThere, bytesIn, found, untouched, over, written}
-use Rattle.header.specs.Passes.{kindIn, kindOf, wordsIn, Stands, Put, Wrote, leaves, answerBy}
+use Rattle.header.specs.Passes.{kindIn, kindOf, Stands, Wrote, leaves, answerBy}
 use Rattle.header.proofs.Buffers.{first-laid}
 use Rattle.header.proofs.Joining.{and-false}
+
+-- the words of an entry by its own card
+abbrev pub wordsIn : Value → Bool → Part → Words
+wordsIn v joins p = record { text = cond (hasText v) (bytesOf (p .text)) []; comment = commentOf (p .commented) (bytesOf (p .comment)); joins = joins }
 
 -- what was written is what a lookup writes
 pub wrote : (v : Held) (own : Text) (r : Written) (text comment text₁ comment₁ : List ℕ) → v .digits ≡ cond (hasDigits (v .value)) (bytesOf own) []
     → Wrote (v .words .text) (v .words .comment) r text comment text₁ comment₁ → leaves (answerBy (v .value) own r) text₁ comment₁ ≡ written v text comment
 unfolding written
 wrote v own r text comment text₁ comment₁ digits W =
-    (λ j. leaves (answerBy (v .value) own r) (W .put .in-text j) (W .put .in-comment j))
+    (λ j. leaves (answerBy (v .value) own r) (W .in-text j) (W .in-comment j))
     ∙ by (r .fits) refl
-    ∙ ap (λ (b : Bool). cond b (record { answer = found v; text = over (v .words .text) text; comment = over (bytesIn (v .words .comment)) comment }) (untouched (L.Refused (refusal 13)) text comment)) (W .put .fit)
+    ∙ ap (λ (b : Bool). cond b (record { answer = found v; text = over (v .words .text) text; comment = over (bytesIn (v .words .comment)) comment }) (untouched (L.Refused (refusal 13)) text comment)) (W .fit)
   where
     by : (b : Bool) → r .fits ≡ b
         → leaves (answerBy (v .value) own r) (cond (r .fits) (over (v .words .text) text) text) (cond (r .fits) (over (bytesIn (v .words .comment)) comment) comment)
@@ -52,36 +56,65 @@ wrote v own r text comment text₁ comment₁ digits W =
     by false e = rw e
 
 -- ---- the words of an entry's own card
-taken-if : (b : Bool) (n : ℕ) (l : List ℕ) → take (cond b n 0) l ≡ cond b (take n l) []
-taken-if true n l = refl
-taken-if false n l = refl
+and-both : (u v : Bool) → (u && v) ≡ true → (u ≡ true) × (v ≡ true)
+and-both true v e = (refl, e)
+and-both false v e = absurd (true≢false (sym e))
 
-comment-if : (b : Bool) (n : ℕ) (l : List ℕ) → take (cond b n 0) l ≡ bytesIn (commentOf b (take n l))
-comment-if true n l = refl
-comment-if false n l = refl
+taken-count : (b : Bool) (n : ℕ) (l : List ℕ) → take (length (cond b (take n l) [])) l ≡ cond b (take n l) []
+taken-count true n l = front n l
+  where
+    front : (n : ℕ) (l : List ℕ) → take (length (take n l)) l ≡ take n l
+    front zero l = refl
+    front (suc n) [] = refl
+    front (suc n) (x ∷ l) = ap (λ (t : List ℕ). x ∷ t) (front n l)
+taken-count false n l = refl
+
+comment-if : (b : Bool) (l : List ℕ) → cond b l [] ≡ bytesIn (commentOf b l)
+comment-if true l = refl
+comment-if false l = refl
 
 there-if : (b : Bool) (c : List ℕ) → b ≡ isThere (commentOf b c)
 there-if true c = refl
 there-if false c = refl
 
-pub own-wrote : (shown there : Bool) (own remark : Text) {s c : List ℕ} {fits : Bool} {text comment text₁ comment₁ : List ℕ}
-    → s ≡ take (cond shown (own .len) 0) (own .bytes) → c ≡ take (cond there (remark .len) 0) (remark .bytes) → Put s c fits text comment text₁ comment₁
-    → Wrote (cond shown (bytesOf own) []) (commentOf there (bytesOf remark)) (record { fits = fits; commented = there; text = length s; comment = length c }) text comment text₁ comment₁
-own-wrote shown there own remark {s} {c} {fits} {text} {comment} {text₁} {comment₁} e d P =
-    let is : s ≡ cond shown (bytesOf own) [] = e ∙ taken-if shown (own .len) (own .bytes) in
-    let are : c ≡ bytesIn (commentOf there (bytesOf remark)) = d ∙ comment-if there (remark .len) (remark .bytes) in
-    record {
-      put = subst (λ (l : List ℕ). Put l (bytesIn (commentOf there (bytesOf remark))) fits text comment text₁ comment₁) is (subst (λ (l : List ℕ). Put s l fits text comment text₁ comment₁) are P);
-      text-long = ap length is;
-      comment-long = ap length are;
-      there = there-if there (bytesOf remark);
-    }
+module _ (shown : Bool) (p : Part) (text comment : List ℕ) {fits : Bool} {n m : ℕ} (count : n ≡ length (cond shown (bytesOf (p .text)) [])) (count-too : m ≡ length (cond (p .commented) (bytesOf (p .comment)) []))
+    (fit : fits ≡ (leb n (length text) && leb m (length comment))) where
+  abbrev own : List ℕ
+  own = cond shown (bytesOf (p .text)) []
+
+  abbrev remark : List ℕ
+  remark = bytesIn (commentOf (p .commented) (bytesOf (p .comment)))
+
+  remark-long : m ≡ length remark
+  remark-long = count-too ∙ ap length (comment-if (p .commented) (bytesOf (p .comment)))
+
+  own-told : {text₁ comment₁ : List ℕ} → text₁ ≡ cond fits (over own text) text → comment₁ ≡ cond fits (over remark comment) comment
+      → Wrote own (commentOf (p .commented) (bytesOf (p .comment))) (record { fits = fits; commented = p .commented; text = n; comment = m }) text comment text₁ comment₁
+  own-told e d =
+      record {
+        fit = fit ∙ ap₂ (λ (n m : ℕ). leb n (length text) && leb m (length comment)) count remark-long;
+        in-text = e;
+        in-comment = d;
+        text-long = count;
+        comment-long = remark-long;
+        there = there-if (p .commented) (bytesOf (p .comment));
+      }
+
+  pub own-wrote : {text₁ comment₁ : List ℕ} → fits ≡ true → text₁ ≡ overlaid text 0 (take n (p .text .bytes)) → comment₁ ≡ overlaid comment 0 (take m (p .comment .bytes))
+      → Wrote own (commentOf (p .commented) (bytesOf (p .comment))) (record { fits = fits; commented = p .commented; text = n; comment = m }) text comment text₁ comment₁
+  own-wrote e put put-too =
+      let both = and-both (leb n (length text)) (leb m (length comment)) (sym fit ∙ e) in
+      let is : take n (p .text .bytes) ≡ own = ap (λ (k : ℕ). take k (p .text .bytes)) count ∙ taken-count shown (p .text .len) (p .text .bytes) in
+      let are : take m (p .comment .bytes) ≡ remark =
+      ap (λ (k : ℕ). take k (p .comment .bytes)) count-too ∙ taken-count (p .commented) (p .comment .len) (p .comment .bytes) ∙ comment-if (p .commented) (bytesOf (p .comment)) in
+      own-told
+      (put ∙ ap (overlaid text 0) is ∙ first-laid own text (omega (arith, leb-true n (length text) (both .0))) ∙ sym (ap (λ (b : Bool). cond b (over own text) text) e))
+      (put-too ∙ ap (overlaid comment 0) are ∙ first-laid remark comment (omega (arith, remark-long, leb-true m (length comment) (both .1))) ∙ sym (ap (λ (b : Bool). cond b (over remark comment) comment) e))
+
+  pub own-short : fits ≡ false → Wrote own (commentOf (p .commented) (bytesOf (p .comment))) (record { fits = fits; commented = p .commented; text = n; comment = m }) text comment text comment
+  own-short e = own-told (sym (ap (λ (b : Bool). cond b (over own text) text) e)) (sym (ap (λ (b : Bool). cond b (over remark comment) comment) e))
 
 -- ---- words that are joined: their text stands in scratch, and their comment is measured
-and-both : (u v : Bool) → (u && v) ≡ true → (u ≡ true) × (v ≡ true)
-and-both true v e = (refl, e)
-and-both false v e = absurd (true≢false (sym e))
-
 module _ {w : Words} {end : Lengths} {texts nowhere nowhere₁ : List ℕ} (S : Stands w end texts nowhere nowhere₁) {fits : Bool} (text comment : List ℕ)
     (fit : fits ≡ (leb (end .text) (length text) && leb (end .comment) (length comment))) where
   text-long : end .text ≡ length (w .text)
@@ -97,12 +130,9 @@ module _ {w : Words} {end : Lengths} {texts nowhere nowhere₁ : List ℕ} (S : 
       → Wrote (w .text) (w .comment) (record { fits = fits; commented = end .commented; text = end .text; comment = end .comment }) text comment text₁ comment₁
   told e d =
       record {
-        put =
-            record {
-              fit = fit ∙ ap₂ (λ (n m : ℕ). leb n (length text) && leb m (length comment)) text-long (S .comment);
-              in-text = e;
-              in-comment = d;
-            };
+        fit = fit ∙ ap₂ (λ (n m : ℕ). leb n (length text) && leb m (length comment)) text-long (S .comment);
+        in-text = e;
+        in-comment = d;
         text-long = text-long;
         comment-long = S .comment;
         there = S .commented;

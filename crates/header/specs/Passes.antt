@@ -20,8 +20,9 @@ use Rattle.card.specs.declared.Card.the-variants as C
 use Rattle.card.specs.declared.CardAnswer.{CardAnswer}
 use Rattle.card.specs.declared.CardAnswer.the-variants as A
 use Rattle.card.specs.declared.CardRead.{CardRead}
+use Rattle.card.specs.Cards.{cardOf}
 use Rattle.joining.specs.Words.{Comment, Words, endsOpen, opens, joinWords}
-use Rattle.joining.specs.Roles.{Role, entry, more, neutral, last, hasText, hasDigits, isString, commentOf}
+use Rattle.joining.specs.Roles.{Role, entry, more, neutral, last, hasDigits, isString, commentOf}
 use Rattle.joining.specs.Lookup.{joinOn}
 use Rattle.overlay.specs.Overlay.{overlaid}
 use Rattle.header.specs.declared.Header.{Header}
@@ -102,10 +103,6 @@ refusedHeader (Refused why i) = L.Header why i
 abbrev pub roleNo : List ℕ → ℕ → Role
 roleNo h i = roleAt (take 80 (drop (i * 80) h))
 
--- the words of an entry by its own card
-abbrev pub wordsIn : Value → Bool → Part → Words
-wordsIn v joins p = record { text = cond (hasText v) (bytesOf (p .text)) []; comment = commentOf (p .commented) (bytesOf (p .comment)); joins = joins }
-
 -- the words that a card begins: nothing is joined to them where it is no entry
 abbrev pub wordsOf : Role → Words
 wordsOf (entry n v) = v .words
@@ -117,12 +114,9 @@ wordsOf last = record { text = []; comment = none; joins = false }
 abbrev pub moreOf : Part → Role
 moreOf p = more (bytesOf (p .text)) (commentOf (p .commented) (bytesOf (p .comment)))
 
--- an open string is joined as a CONTINUE card to words that are one &
-abbrev pub begun : Words
-begun = record { text = 38 ∷ []; comment = none; joins = true }
-
-abbrev pub beginning : Lengths
-beginning = record { text = 1; comment = 0; commented = false; going = true }
+-- the role of card j to the string before it: the card that the string begins with counts as a CONTINUE card of an &
+abbrev pub roleFrom : Bool → List ℕ → ℕ → Role
+roleFrom first h j = cond first (moreOf (partOf (cardOf (take 80 (drop (j * 80) h))))) (roleNo h j)
 
 abbrev pub isNeutral : Kind → Bool
 isNeutral (Entry v joins) = false
@@ -180,15 +174,11 @@ pub record Room (h : List ℕ) (i : ℕ) (texts : List ℕ) : Type 0 where
   pub wide : 80 * (length h / 80) ≤ length texts
 
 -- ---- what is written
--- a text and a comment, laid over buffers that hold both
-pub record Put (s c : List ℕ) (fits : Bool) (text comment text₁ comment₁ : List ℕ) : Type 0 where
-  pub fit : fits ≡ (leb (length s) (length text) && leb (length c) (length comment))
-  pub in-text : text₁ ≡ cond fits (over s text) text
-  pub in-comment : comment₁ ≡ cond fits (over c comment) comment
-
--- the same with what is told of it
+-- a text and a comment laid over buffers that hold both, and what is told of them
 pub record Wrote (s : List ℕ) (c : Comment) (r : Written) (text comment text₁ comment₁ : List ℕ) : Type 0 where
-  pub put : Put s (bytesIn c) (r .fits) text comment text₁ comment₁
+  pub fit : r .fits ≡ (leb (length s) (length text) && leb (length (bytesIn c)) (length comment))
+  pub in-text : text₁ ≡ cond (r .fits) (over s text) text
+  pub in-comment : comment₁ ≡ cond (r .fits) (over (bytesIn c) comment) comment
   pub text-long : r .text ≡ length s
   pub comment-long : r .comment ≡ length (bytesIn c)
   pub there : r .commented ≡ isThere c

@@ -2,18 +2,19 @@
 ghost use mathlib.Core.Path.{_≡_};
 ghost use mathlib.Core.Bool.{true, cond, _&&_};
 ghost use mathlib.Core.List.{[], _∷_};
-ghost use Prim.Native.Nat.{_+_, _*_, _-_, _/_, _≤_, _<_};
+ghost use Prim.Native.Nat.{_+_, _*_, _/_, _≤_, _<_};
 ghost use lib.Dec.{leb};
-ghost use lib.ListN.{length, take, drop, getD, set};
+ghost use lib.ListN.{length, take, drop, getD};
 ghost use Rattle.text.specs.Same.{same};
 ghost use Rattle.text.specs.Text.{textOf, bytesOf};
 ghost use Rattle.card.specs.Cards.{cardOf};
 ghost use Rattle.joining.specs.Words.{endsOpen, addsNothing, joinText, opens};
-ghost use Rattle.joining.specs.Roles.{neutral, more, hasText, hasDigits, isString, commentOf, roleOf};
+ghost use Rattle.joining.specs.Roles.{neutral, hasText, hasDigits, isString, commentOf, roleOf};
 ghost use Rattle.joining.specs.Lookup.{joinOn};
 ghost use Rattle.header.specs.Reading.{rolesOf, isBadLength, isEnd, headerOf};
 ghost use Rattle.header.specs.Answers.{unread, given, lookupOf, entryOf, entryHead, namelessOf, entryNameOf};
-ghost use Rattle.header.specs.Passes.{kindIn, kindOf, partOf, refusalIn, foundAt, scanOf, refusedScan, refusedHeader, leaves, answerBy, roleNo, wordsIn, wordsOf, moreOf, beginning, isNeutral, placeBehind, laidBehind, Stands, Stepped, Space, Room, Put, Wrote, WroteAt};
+ghost use Rattle.header.specs.Passes.{kindIn, kindOf, partOf, refusalIn, foundAt, scanOf, refusedScan, refusedHeader, leaves, answerBy, roleNo, roleFrom, wordsOf, isNeutral, placeBehind, laidBehind, Stands, Stepped, Space, Room, Wrote, WroteAt};
+ghost use Rattle.overlay.specs.Overlay.{overlaid};
 use card::Card;
 use card::CardAnswer;
 use card::CardRead;
@@ -361,14 +362,25 @@ fn refused_scan(why: Refusal, i: usize) -> Scan
 
 // ---- joining
 
-// Whether buffers of two lengths hold a text and a comment.
-fn both_fit(n: usize, m: usize, text: usize, comment: usize) -> bool
-    ensures { λ r. ⌜ r ≡ (leb n text && leb m comment) ⌝ }
+// How many bytes a text has, where it is there.
+fn count_of(there: bool, t: Text) -> usize
+    ensures { λ r. ⌜ r ≡ length (cond there (bytesOf t) []) ⌝ }
 {
-    if n <= text {
-        return m <= comment;
+    if there {
+        if t.len < CARD {
+            return t.len;
+        }
+        return CARD;
     }
-    false
+    0
+}
+
+// The first n bytes of a text laid over a part of a buffer, where they fit.
+fn put_text(t: Text, n: usize, out: &mut [u8], at: usize)
+    ensures { λ _. ⌜ now (out .exit) ≡ overlaid (now (out .entry)) at (take n (t .bytes)) ⌝ }
+{
+    let bytes = t.bytes;
+    overlay::put_at(text::first_of(&bytes, n), out, at);
 }
 
 // Whether a text ends in &.
@@ -383,81 +395,54 @@ fn ends_open(s: &[u8]) -> bool
 }
 
 // Empty, or one space.
-fn adds_nothing(t: &[u8]) -> bool
-    ensures { λ r. ⌜ r ≡ addsNothing (now (t .entry)) ⌝ }
+fn adds_nothing(t: Text) -> bool
+    ensures { λ r. ⌜ r ≡ addsNothing (bytesOf t) ⌝ }
 {
-    if t.len() == 0 {
+    let bytes = t.bytes;
+    if t.len == 0 {
         return true;
     }
-    if t.len() == 1 {
-        return t[0] == b' ';
+    if t.len == 1 {
+        return bytes[0] == b' ';
     }
     false
 }
 
 // The text of a CONTINUE card joined to the n bytes before it, and how long they then are.
-fn join_text(held: &mut [u8], n: usize, t: &[u8]) -> usize
-    requires { ⌜ (0 < n) × (n - 1 + length (now t) ≤ length (now held)) × (n ≤ length (now held)) ⌝ }
-    ensures { λ r. ⌜ (take r (now (held .exit)) ≡ joinText (take n (now (held .entry))) (now (t .entry))) × (r ≤ n - 1 + length (now (t .entry))) ⌝ }
+fn join_text(held: &mut [u8], n: usize, t: Text) -> usize
+    requires { ⌜ (0 < n) × (n + 79 ≤ length (now held)) ⌝ }
+    ensures { λ r. ⌜ (take r (now (held .exit)) ≡ joinText (take n (now (held .entry))) (bytesOf t)) × (r ≤ n + 79) ⌝ }
 {
     let m = n - 1;
     if adds_nothing(t) {
         return text::trim_end(&held[..m], Cut::Spaces).len();
     }
-    overlay::put_at(t, held, m);
-    m + t.len()
+    put_text(t, t.len, held, m);
+    m + count_of(true, t)
 }
 
 // A comment laid behind the n bytes of the one before it, with a line feed between them, and how long they then are.
-fn join_comment(out: &mut [u8], there: bool, n: usize, c: &[u8]) -> usize
-    requires { ⌜ (n ≤ 58320) × (length (now c) ≤ 80) ⌝ }
-    ensures { λ r. ⌜ (r ≡ placeBehind there n + length (now (c .entry))) × (now (out .exit) ≡ laidBehind there n (now (out .entry)) (now (c .entry))) ⌝ }
+fn join_comment(out: &mut [u8], there: bool, n: usize, c: Text) -> usize
+    requires { ⌜ n ≤ 58320 ⌝ }
+    ensures { λ r. ⌜ (r ≡ placeBehind there n + length (bytesOf c)) × (now (out .exit) ≡ laidBehind there n (now (out .entry)) (bytesOf c)) ⌝ }
 {
     if there {
         overlay::put_at(b"\n", out, n);
-        overlay::put_at(c, out, n + 1);
-        return n + 1 + c.len();
+        put_text(c, c.len, out, n + 1);
+        return n + 1 + count_of(true, c);
     }
-    overlay::put_at(c, out, n);
-    n + c.len()
+    put_text(c, c.len, out, n);
+    n + count_of(true, c)
 }
 
-// The text and the comment of a CONTINUE card joined to the words before it.
-fn join_words(
-    own: Text,
-    there: bool,
-    remark: Text,
-    held: Lengths,
-    texts: &mut [u8],
-    comments: &mut [u8],
-) -> Lengths
-    requires { ⌜ Space held (now texts) ⌝ }
-    ensures { λ r. ⌜ Stepped (more (bytesOf own) (commentOf there (bytesOf remark))) held r (now (texts .entry)) (now (comments .entry)) (now (texts .exit)) (now (comments .exit)) ⌝ }
+// The card that a string begins with counts as a CONTINUE card.
+fn kind_at(first: bool, kind: Kind) -> Kind
+    ensures { λ r. ⌜ r ≡ cond first Kind.More kind ⌝ }
 {
-    let bytes = own.bytes;
-    let n = join_text(texts, held.text, text::first_of(&bytes, own.len));
-    let going = ends_open(&texts[..n]);
-    if there {
-        let words = remark.bytes;
-        let m = join_comment(
-            comments,
-            held.commented,
-            held.comment,
-            text::first_of(&words, remark.len),
-        );
-        return Lengths {
-            text: n,
-            comment: m,
-            commented: true,
-            going: going,
-        };
+    if first {
+        return Kind::More;
     }
-    Lengths {
-        text: n,
-        comment: held.comment,
-        commented: held.commented,
-        going: going,
-    }
+    kind
 }
 
 fn is_neutral(kind: Kind) -> bool
@@ -475,15 +460,17 @@ fn is_neutral(kind: Kind) -> bool
 fn join_card(
     header: &[u8],
     j: usize,
+    first: bool,
     held: Lengths,
     texts: &mut [u8],
     comments: &mut [u8],
 ) -> Lengths
     requires { ⌜ (j < length (now header) / 80) × Space held (now texts) ⌝ }
-    ensures { λ r. ⌜ Stepped (roleNo (now (header .entry)) j) held r (now (texts .entry)) (now (comments .entry)) (now (texts .exit)) (now (comments .exit)) ⌝ }
+    ensures { λ r. ⌜ Stepped (roleFrom first (now (header .entry)) j) held r (now (texts .entry)) (now (comments .entry)) (now (texts .exit)) (now (comments .exit)) ⌝ }
 {
     let part = part_at(header, j);
-    let kind = part.kind;
+    let own_kind = part.kind;
+    let kind = kind_at(first, own_kind);
     let Kind::More = kind else {
         return Lengths {
             text: held.text,
@@ -493,41 +480,46 @@ fn join_card(
         };
     };
     let own = part.text;
-    let remark = part.comment;
-    join_words(own, part.commented, remark, held, texts, comments)
+    let n = join_text(texts, held.text, own);
+    let going = ends_open(&texts[..n]);
+    if part.commented {
+        let remark = part.comment;
+        let m = join_comment(comments, held.commented, held.comment, remark);
+        return Lengths {
+            text: n,
+            comment: m,
+            commented: true,
+            going: going,
+        };
+    }
+    Lengths {
+        text: n,
+        comment: held.comment,
+        commented: held.commented,
+        going: going,
+    }
 }
 
-// The open string of card i as a CONTINUE card of an &.
-fn join_first(header: &[u8], i: usize, texts: &mut [u8], comments: &mut [u8]) -> Lengths
-    requires { ⌜ (i < length (now header) / 80) × (80 ≤ length (now texts)) ⌝ }
-    ensures { λ r. ⌜ Stepped (moreOf (partOf (cardOf (take 80 (drop (i * 80) (now (header .entry))))))) beginning r (set (now (texts .entry)) 0 38) (now (comments .entry)) (now (texts .exit)) (now (comments .exit)) ⌝ }
+// The open string of card i with the cards that are joined to it: its text in scratch, its comment laid where there is room.
+// The string itself is joined as a CONTINUE card to an &.
+fn join_cards(header: &[u8], i: usize, texts: &mut [u8], comments: &mut [u8]) -> Lengths
+    requires { ⌜ Room (now header) i (now texts) ⌝ }
+    ensures { λ r. ⌜ Stands (joinOn (wordsOf (roleNo (now (header .entry)) i)) (drop (i + 1) (rolesOf (now (header .entry))))) r (now (texts .exit)) (now (comments .entry)) (now (comments .exit)) ⌝ }
 {
     texts[0] = AMPERSAND;
-    let part = part_at(header, i);
-    let own = part.text;
-    let remark = part.comment;
-    let start = Lengths {
+    let mut held = Lengths {
         text: 1,
         comment: 0,
         commented: false,
         going: true,
     };
-    join_words(own, part.commented, remark, start, texts, comments)
-}
-
-// The open string of card i with the cards that are joined to it: its text in scratch, its comment laid where there is room.
-fn join_cards(header: &[u8], i: usize, texts: &mut [u8], comments: &mut [u8]) -> Lengths
-    requires { ⌜ Room (now header) i (now texts) ⌝ }
-    ensures { λ r. ⌜ Stands (joinOn (wordsOf (roleNo (now (header .entry)) i)) (drop (i + 1) (rolesOf (now (header .entry))))) r (now (texts .exit)) (now (comments .entry)) (now (comments .exit)) ⌝ }
-{
-    let mut held = join_first(header, i, texts, comments);
-    let mut j = i + 1;
+    let mut j = i;
     while j < header.len() / CARD {
         let going = held.going;
         if !going {
             return held;
         }
-        held = join_card(header, j, held, texts, comments);
+        held = join_card(header, j, j == i, held, texts, comments);
         j += 1;
     }
     held
@@ -576,51 +568,34 @@ fn answer_of(value: Value, own: Text, put: Written) -> Looked
     unread(LookupAnswer::Refused(Refusal::BufferShort))
 }
 
-// How many bytes a text has, where it is there.
-fn count_if(there: bool, n: usize) -> usize
-    ensures { λ r. ⌜ r ≡ cond there n 0 ⌝ }
+// Whether buffers of two lengths hold a text and a comment.
+fn both_fit(n: usize, m: usize, text: usize, comment: usize) -> bool
+    ensures { λ r. ⌜ r ≡ (leb n text && leb m comment) ⌝ }
 {
-    if there {
-        return n;
+    if n <= text {
+        return m <= comment;
     }
-    0
-}
-
-// A text and a comment laid over the lent buffers, where both hold them.
-fn put_both(s: &[u8], c: &[u8], text: &mut [u8], comment: &mut [u8]) -> bool
-    ensures { λ r. ⌜ Put (now (s .entry)) (now (c .entry)) r (now (text .entry)) (now (comment .entry)) (now (text .exit)) (now (comment .exit)) ⌝ }
-{
-    if text.len() < s.len() {
-        return false;
-    }
-    if comment.len() < c.len() {
-        return false;
-    }
-    overlay::put_at(s, text, 0);
-    overlay::put_at(c, comment, 0);
-    true
+    false
 }
 
 // The words of an entry's own card, written where both lent buffers hold them.
-fn write_own(
-    shown: bool,
-    own: Text,
-    there: bool,
-    remark: Text,
-    text: &mut [u8],
-    comment: &mut [u8],
-) -> Written
-    ensures { λ r. ⌜ Wrote (cond shown (bytesOf own) []) (commentOf there (bytesOf remark)) r (now (text .entry)) (now (comment .entry)) (now (text .exit)) (now (comment .exit)) ⌝ }
+fn write_own(shown: bool, part: Part, text: &mut [u8], comment: &mut [u8]) -> Written
+    ensures { λ r. ⌜ Wrote (cond shown (bytesOf (part .text)) []) (commentOf (part .commented) (bytesOf (part .comment))) r (now (text .entry)) (now (comment .entry)) (now (text .exit)) (now (comment .exit)) ⌝ }
 {
-    let bytes = own.bytes;
-    let words = remark.bytes;
-    let s = text::first_of(&bytes, count_if(shown, own.len));
-    let c = text::first_of(&words, count_if(there, remark.len));
+    let own = part.text;
+    let remark = part.comment;
+    let n = count_of(shown, own);
+    let m = count_of(part.commented, remark);
+    let fits = both_fit(n, m, text.len(), comment.len());
+    if fits {
+        put_text(own, n, text, 0);
+        put_text(remark, m, comment, 0);
+    }
     Written {
-        fits: put_both(s, c, text, comment),
-        commented: there,
-        text: s.len(),
-        comment: c.len(),
+        fits: fits,
+        commented: part.commented,
+        text: n,
+        comment: m,
     }
 }
 
@@ -668,32 +643,11 @@ fn write_joined(header: &[u8], i: usize, text: &mut [u8], comment: &mut [u8]) ->
 fn is_open(joins: bool, own: Text) -> bool
     ensures { λ r. ⌜ r ≡ (joins && endsOpen (bytesOf own)) ⌝ }
 {
+    let bytes = own.bytes;
     if joins {
-        let bytes = own.bytes;
         return ends_open(text::first_of(&bytes, own.len));
     }
     false
-}
-
-// The words of the entry at card i, with those that are joined to them.
-fn write_entry(
-    header: &[u8],
-    i: usize,
-    value: Value,
-    joins: bool,
-    part: Part,
-    text: &mut [u8],
-    comment: &mut [u8],
-) -> Written
-    requires { ⌜ (i < length (now header) / 80) × (length (now header) / 80 ≤ 720) × (wordsOf (roleNo (now header) i) ≡ wordsIn value joins part) × (joins ≡ true → hasText value ≡ true) ⌝ }
-    ensures { λ r. ⌜ WroteAt (now (header .entry)) i r (now (text .entry)) (now (comment .entry)) (now (text .exit)) (now (comment .exit)) ⌝ }
-{
-    let own = part.text;
-    if is_open(joins, own) {
-        return write_joined(header, i, text, comment);
-    }
-    let remark = part.comment;
-    write_own(has_text(value), own, part.commented, remark, text, comment)
 }
 
 // The entry at card i.
@@ -707,6 +661,10 @@ fn entry_at(header: &[u8], i: usize, text: &mut [u8], comment: &mut [u8]) -> Loo
         return not_found();
     };
     let own = part.text;
-    let put = write_entry(header, i, value, joins, part, text, comment);
+    if is_open(joins, own) {
+        let put = write_joined(header, i, text, comment);
+        return answer_of(value, own, put);
+    }
+    let put = write_own(has_text(value), part, text, comment);
     answer_of(value, own, put)
 }

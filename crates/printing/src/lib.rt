@@ -28,9 +28,10 @@ fn print_names(header: &[u8], listing: Listing) {
     let first = listing.first;
     let last = listing.last;
     let count = listing.count;
-    let mut text = [0u8; 57600];
+    // A joined text has at most 71 bytes from each of the other cards, and 68 from its own.
+    let mut text = [0u8; 51200];
     // For an entry's comment, which is not printed, and then for its line: at most a name, a letter, a text and three bytes more.
-    let mut line = [0u8; 57760];
+    let mut line = [0u8; 51360];
     let mut k = 0;
     while k < count && k < PLACES {
         print_entry(header, first[k], last[k], &mut text, &mut line);

@@ -1,11 +1,13 @@
 -- `header::adds_nothing` meets its contract, by the length.
-use Prim.Native.Nat.{ℕ, suc}
+use Prim.Native.Nat.{ℕ, min}
 use native.Mathlib.Omega.{arith}
-use mathlib.Core.Path.{_≡_, refl}
-use mathlib.Core.Bool.{Bool, true, false}
+use mathlib.Core.Path.{_≡_, refl, sym, ap, _∙_}
+use mathlib.Core.Bool.{true, false}
 use mathlib.Core.List.{List, [], _∷_}
 use lib.Dec.{eqb}
-use lib.ListN.{length, getD}
+use lib.ListN.{length, getD, length-take}
+use lib.Seq.{getD-take}
+use Rattle.text.specs.Text.{size, bytesOf}
 use Rattle.joining.specs.Words.{addsNothing}
 use borrow.Author.Needs.{needs}
 use Rattle.header.proofs.adds_nothing.Statement.{statement}
@@ -28,17 +30,28 @@ some [] e d = absurd (e refl)
 some (b ∷ []) e d = absurd (d refl)
 some (b ∷ c ∷ t) e d = refl
 
-returns : tie.Need-returns
-returns c = none (c .before .args .t .now) (c .if1 .taken)
+array : (c : tie.Start) → length (c .args .t .bytes) ≡ size
+array c = search needs
 
-shared-slice-read-result : tie.Need-shared-slice-read-result
-shared-slice-read-result c = search needs
+taken : (c : tie.Start) → length (bytesOf (c .args .t)) ≡ min (c .args .t .len) 80
+taken c = length-take (c .args .t .len) (c .args .t .bytes) ∙ ap (min (c .args .t .len)) (array c)
+
+returns : tie.Need-returns
+returns c = let s = c .before .before .before in none (bytesOf (s .args .t)) (omega (arith, taken s, c .if1 .taken))
+
+array-read-result : tie.Need-array-read-result
+array-read-result c = search needs
 
 returns-2 : tie.Need-returns-2
-returns-2 c = one (c .before .before .before .args .t .now) (c .before .if2 .taken)
+returns-2 c =
+    let s = c .before .before .before .before .before in
+    let t = s .args .t in
+    ap (λ (b : ℕ). eqb b 32) (sym (getD-take (t .len) (t .bytes) 0 0 (omega (arith, c .if2 .taken)))) ∙ one (bytesOf t) (omega (arith, taken s, c .if2 .taken))
 
 returns-3 : tie.Need-returns-3
-returns-3 c = some (c .before .before .args .t .now) (c .before .if1 .left) (c .if2 .left)
+returns-3 c =
+    let s = c .before .before .before .before .before in
+    some (bytesOf (s .args .t)) (λ (e : length (bytesOf (s .args .t)) ≡ 0). c .before .before .if1 .left (omega (arith, taken s))) (λ (e : length (bytesOf (s .args .t)) ≡ 1). c .if2 .left (omega (arith, taken s)))
 
 pub adds-nothing-spec : {M : Type 1} → statement M
-adds-nothing-spec = tie.close (tie.spec returns shared-slice-read-result returns-2 returns-3)
+adds-nothing-spec = tie.close (tie.spec returns array-read-result returns-2 returns-3)

@@ -1,7 +1,7 @@
--- `header::entry_at` meets its contract: by what the card is.
-use Prim.Native.Nat.{_+_}
+-- `header::entry_at` meets its contract: by what the card is, and by whether its text is open.
+use Prim.Native.Nat.{ℕ, _+_}
 use mathlib.Core.Path.{_≡_, refl, sym, ap, subst, _∙_}
-use mathlib.Core.Bool.{Bool, cond}
+use mathlib.Core.Bool.{Bool, cond, _&&_}
 use mathlib.Core.List.{List, [], _∷_}
 use mathlib.Core.Option.{Option}
 use lib.ListN.{drop}
@@ -9,20 +9,22 @@ use Rattle.text.specs.Text.{bytesOf}
 use Rattle.numbers.specs.declared.Value.{Value}
 use Rattle.card.specs.declared.CardRead.{CardRead}
 use Rattle.card.specs.Cards.{cardOf}
-use Rattle.joining.specs.Words.{Words}
-use Rattle.joining.specs.Roles.{Held, Role, hasDigits, heldOf}
+use Rattle.joining.specs.Words.{Words, endsOpen, opens}
+use Rattle.joining.specs.Roles.{Held, Role, commentOf, hasDigits, heldOf}
 use Rattle.joining.specs.Lookup.{joinOn, whole}
 use Rattle.header.specs.declared.Kind.{Kind}
 use Rattle.header.specs.declared.Kind.the-variants.{Entry}
 use Rattle.header.specs.declared.Part.{Part}
 use Rattle.header.specs.Reading.{rolesOf}
 use Rattle.header.specs.Answers.{given, entryHead}
-use Rattle.header.specs.Passes.{kindOf, wordsOf, roleNo, wordsIn, Wrote, leaves}
+use Rattle.header.specs.Passes.{kindOf, wordsOf, roleNo, Wrote, WroteAt, leaves, answerBy}
 use Rattle.header.proofs.Cards.{cardNo}
 use Rattle.header.proofs.Playing.{roleAs, role-kind}
 use Rattle.header.proofs.Telling.{gives-none}
 use Rattle.header.proofs.Looking.{head-kind}
-use Rattle.header.proofs.Writing.{joins-text, wrote}
+use Rattle.header.proofs.Writing.{wordsIn, joins-text, wrote, own-open, own-shut}
+use Rattle.header.specs.declared.Written.{Written}
+use Rattle.header.specs.declared.Looked.{Looked}
 use borrow.Author.Needs.{needs}
 use Rattle.header.proofs.entry_at.Statement.{statement}
 use Rattle.header.proofs.entry_at.Tie as tie
@@ -60,6 +62,27 @@ words-are : (c : tie.After-kind)
     → let a = start (c .before .before) .args in wordsOf (roleNo (a .header .now) (a .i)) ≡ heldOf (value c) (joins c) (card (c .before .before)) .words
 words-are c = ap wordsOf (role-kind (card (c .before .before)) (Entry (value c) (joins c)) (entry-is c))
 
+-- the words by what was read of the card
+own-words : (c : tie.After-kind) → let a = start (c .before .before) .args in wordsOf (roleNo (a .header .now) (a .i)) ≡ wordsIn (value c) (joins c) (c .before .before .part-at .result)
+own-words c = words-are c ∙ ap (wordsIn (value c) (joins c)) (sym (c .before .before .part-at .ensures))
+
+open-is : (c : tie.After-is-open) → (joins (c .before .before .before) && endsOpen (bytesOf (c .before .before .before .before .before .part-at .result .text))) ≡ c .is-open .result
+open-is c = sym (c .is-open .ensures)
+
+-- what was written gives the answer
+answered : (c : tie.After-kind) (r : Looked) (put : Written) {text₁ comment₁ : List ℕ}
+    → let part = c .before .before in let a = start part .args in
+    r ≡ answerBy (value c) (part .part-at .result .text) put → WroteAt (a .header .now) (a .i) put (a .text .now) (a .comment .now) text₁ comment₁
+    → leaves r text₁ comment₁ ≡ given (entryHead (drop (a .i) (rolesOf (a .header .now)))) (a .text .now) (a .comment .now)
+answered c r put {text₁} {comment₁} e W =
+    let part = c .before .before in
+    let a = start part .args in
+    (λ j. leaves (e j) text₁ comment₁)
+    ∙ wrote (whole (heldOf (value c) (joins c) (card part)) (rest part)) (part .part-at .result .text) put (a .text .now) (a .comment .now) text₁ comment₁
+    (ap (λ (p : Part). cond (hasDigits (value c)) (bytesOf (p .text)) []) (sym (part .part-at .ensures)))
+    (subst (λ (w : Words). Wrote (joinOn w (rest part) .text) (joinOn w (rest part) .comment) put (a .text .now) (a .comment .now) text₁ comment₁) (words-are c) W)
+    ∙ by part (Entry (value c) (joins c)) (c .kind .given .1)
+
 part-at-requires : tie.Need-part-at-requires
 part-at-requires c κs = search needs
 
@@ -78,12 +101,16 @@ returns c =
     ∙ ap (λ (v : Option Held). given v (a .text .now) (a .comment .now)) (gives-none (card part) kind (c .before .match .keys2) (rest part))
     ∙ by part kind refl
 
-write-entry-requires : tie.Need-write-entry-requires
-write-entry-requires c κs =
-    let kind = c .before .before .before .before in
+is-open-requires : tie.Need-is-open-requires
+is-open-requires c κs = search needs
+
+write-joined-requires : tie.Need-write-joined-requires
+write-joined-requires c κs =
+    let test = c .before .before in
+    let kind = test .before .before .before .before in
     let part = kind .before .before in
     let s = start part in
-    (s .pre .0, s .pre .1, words-are kind ∙ ap (wordsIn (value kind) (joins kind)) (sym (part .part-at .ensures)), joins-text (card part .answer) (value kind) (joins kind) (entry-is kind))
+    (s .pre .0, s .pre .1, ap opens (own-words kind) ∙ own-open (value kind) (joins kind) (part .part-at .result) (joins-text (card part .answer) (value kind) (joins kind) (entry-is kind)) (open-is (test .before) ∙ test .if1 .taken))
 
 answer-of-requires : tie.Need-answer-of-requires
 answer-of-requires c κs = search needs
@@ -97,16 +124,38 @@ same-length-2 c = search needs
 returns-2 : tie.Need-returns-2
 returns-2 c =
     let put = c .before .before .before .before .before in
-    let kind = put .before .before .before .before .before in
+    answered (put .before .before .before .before .before .before .before) (c .answer-of .result) (put .write-joined .result) (c .answer-of .ensures) (put .write-joined .ensures)
+
+has-text-requires : tie.Need-has-text-requires
+has-text-requires c κs = search needs
+
+write-own-requires : tie.Need-write-own-requires
+write-own-requires c κs = search needs
+
+answer-of-requires-2 : tie.Need-answer-of-requires-2
+answer-of-requires-2 c κs = search needs
+
+same-length-3 : tie.Need-same-length-3
+same-length-3 c = search needs
+
+same-length-4 : tie.Need-same-length-4
+same-length-4 c = search needs
+
+returns-3 : tie.Need-returns-3
+returns-3 c =
+    let put = c .before .before .before .before .before in
+    let shown = put .before .before .before in
+    let test = shown .before in
+    let kind = test .before .before .before .before in
     let part = kind .before .before in
     let a = start part .args in
-    let text₁ = put .write-entry .last .1 .1 .1 .1 .1 .0 in
-    let comment₁ = put .write-entry .last .1 .1 .1 .1 .1 .1 .0 in
-    (λ j. leaves (c .answer-of .ensures j) text₁ comment₁)
-    ∙ wrote (whole (heldOf (value kind) (joins kind) (card part)) (rest part)) (part .part-at .result .text) (put .write-entry .result) (a .text .now) (a .comment .now) text₁ comment₁
-    (ap (λ (p : Part). cond (hasDigits (value kind)) (bytesOf (p .text)) []) (sym (part .part-at .ensures)))
-    (subst (λ (w : Words). Wrote (joinOn w (rest part) .text) (joinOn w (rest part) .comment) (put .write-entry .result) (a .text .now) (a .comment .now) text₁ comment₁) (words-are kind) (put .write-entry .ensures))
-    ∙ by part (Entry (value kind) (joins kind)) (kind .kind .given .1)
+    let p = part .part-at .result in
+    let text₁ = put .write-own .last .1 .1 .0 in
+    let comment₁ = put .write-own .last .1 .1 .1 .0 in
+    answered kind (c .answer-of2 .result) (put .write-own .result) (c .answer-of2 .ensures)
+    (subst (λ (w : Words). Wrote (w .text) (w .comment) (put .write-own .result) (a .text .now) (a .comment .now) text₁ comment₁)
+    (sym (ap (λ (w : Words). joinOn w (rest part)) (own-words kind) ∙ own-shut (value kind) (joins kind) p (rest part) (open-is (test .before) ∙ test .if1 .left)))
+    (subst (λ (b : Bool). Wrote (cond b (bytesOf (p .text)) []) (commentOf (p .commented) (bytesOf (p .comment))) (put .write-own .result) (a .text .now) (a .comment .now) text₁ comment₁) (shown .has-text .ensures) (put .write-own .ensures)))
 
 pub entry-at-spec : {M : Type 1} → statement M
 entry-at-spec =
@@ -116,8 +165,15 @@ entry-at-spec =
     enum-known-kind
     not-found-requires
     returns
-    write-entry-requires
+    is-open-requires
+    write-joined-requires
     answer-of-requires
     same-length
     same-length-2
-    returns-2)
+    returns-2
+    has-text-requires
+    write-own-requires
+    answer-of-requires-2
+    same-length-3
+    same-length-4
+    returns-3)

@@ -15,7 +15,7 @@ ends-open-requires : tie.Need-ends-open-requires
 ends-open-requires c κs = search needs
 
 returns : tie.Need-returns
-returns c = rw (c .before .before .before .before .if1 .taken) (c .ends-open .ensures ∙ ap endsOpen (c .before .first-of .ensures))
+returns c = rw (c .before .before .before .if1 .taken) (c .ends-open .ensures ∙ ap endsOpen (c .before .first-of .ensures))
 
 returns-2 : tie.Need-returns-2
 returns-2 c = search needs

@@ -1,14 +1,23 @@
 -- `header::join_comment` meets its contract: a line feed stands between two comments.
-use Prim.Native.Nat.{ℕ, _+_}
-use mathlib.Core.Path.{sym, ap, _∙_}
+use Prim.Native.Nat.{ℕ, _+_, _≤_}
+use native.Mathlib.Omega.{arith}
+use mathlib.Core.Path.{_≡_, sym, ap, _∙_}
 use mathlib.Core.Bool.{Bool}
 use mathlib.Core.List.{List}
 use lib.ListN.{length}
+use Rattle.text.specs.Text.{size, bytesOf}
+use Rattle.text.proofs.Texts.{bytes-fit}
 use Rattle.overlay.specs.Overlay.{overlaid}
 use Rattle.header.specs.Passes.{placeBehind, laidBehind}
 use borrow.Author.Needs.{needs}
 use Rattle.header.proofs.join_comment.Statement.{statement}
 use Rattle.header.proofs.join_comment.Tie as tie
+
+array : (c : tie.Start) → length (c .args .c .bytes) ≡ size
+array c = search needs
+
+short : (c : tie.Start) → length (bytesOf (c .args .c)) ≤ size
+short c = bytes-fit (c .args .c) (array c)
 
 slice-aggregate-put-at : tie.Need-slice-aggregate-put-at
 slice-aggregate-put-at c = search needs
@@ -16,47 +25,57 @@ slice-aggregate-put-at c = search needs
 put-at-requires : tie.Need-put-at-requires
 put-at-requires c κs = search needs
 
-add-put-at : tie.Need-add-put-at
-add-put-at c = search needs
+add-put-text : tie.Need-add-put-text
+add-put-text c = search needs
 
-put-at-requires-2 : tie.Need-put-at-requires-2
-put-at-requires-2 c κs = search needs
+put-text-requires : tie.Need-put-text-requires
+put-text-requires c κs = search needs
 
 add-result : tie.Need-add-result
 add-result c = search needs
 
+count-of-requires : tie.Need-count-of-requires
+count-of-requires c κs = search needs
+
 add-result-2 : tie.Need-add-result-2
-add-result-2 c = search needs
+add-result-2 c =
+    let s = c .before .before .before .before .before .before .before .before .before .before .before .before in
+    omega (arith, c .count-of .ensures, short s, s .pre)
 
 same-length : tie.Need-same-length
 same-length c = search needs
 
 returns : tie.Need-returns
 returns c =
-    let put = c .before .before in
+    let put = c .before .before .before in
     let line = put .before .before .before .before in
     let test = line .before .before .before in
-    let a = test .before .before .before .args in (
-      sym (ap (λ (b : Bool). placeBehind b (a .n) + length (a .c .now)) (test .if1 .taken)),
-      put .put-at2 .ensures ∙ ap (λ (l : List ℕ). overlaid l (a .n + 1) (a .c .now)) (line .put-at .ensures) ∙ sym (ap (λ (b : Bool). laidBehind b (a .n) (a .out .now) (a .c .now)) (test .if1 .taken)),
+    let a = test .before .before .args in (
+      ap (λ (k : ℕ). a .n + 1 + k) (c .count-of .ensures) ∙ sym (ap (λ (b : Bool). placeBehind b (a .n) + length (bytesOf (a .c))) (test .if1 .taken)),
+      put .put-text .ensures ∙ ap (λ (l : List ℕ). overlaid l (a .n + 1) (bytesOf (a .c))) (line .put-at .ensures) ∙ sym (ap (λ (b : Bool). laidBehind b (a .n) (a .out .now) (bytesOf (a .c))) (test .if1 .taken)),
     )
 
-put-at-requires-3 : tie.Need-put-at-requires-3
-put-at-requires-3 c κs = search needs
+put-text-requires-2 : tie.Need-put-text-requires-2
+put-text-requires-2 c κs = search needs
+
+count-of-requires-2 : tie.Need-count-of-requires-2
+count-of-requires-2 c κs = search needs
 
 add-result-3 : tie.Need-add-result-3
-add-result-3 c = search needs
+add-result-3 c =
+    let s = c .before .before .before .before .before .before .before in
+    omega (arith, c .count-of2 .ensures, short s, s .pre)
 
 same-length-2 : tie.Need-same-length-2
 same-length-2 c = search needs
 
 returns-2 : tie.Need-returns-2
 returns-2 c =
-    let put = c .before .before in
+    let put = c .before .before .before in
     let test = put .before .before in
-    let a = test .before .before .before .args in (
-      sym (ap (λ (b : Bool). placeBehind b (a .n) + length (a .c .now)) (test .if1 .left)),
-      put .put-at3 .ensures ∙ sym (ap (λ (b : Bool). laidBehind b (a .n) (a .out .now) (a .c .now)) (test .if1 .left)),
+    let a = test .before .before .args in (
+      ap (λ (k : ℕ). a .n + k) (c .count-of2 .ensures) ∙ sym (ap (λ (b : Bool). placeBehind b (a .n) + length (bytesOf (a .c))) (test .if1 .left)),
+      put .put-text2 .ensures ∙ sym (ap (λ (b : Bool). laidBehind b (a .n) (a .out .now) (bytesOf (a .c))) (test .if1 .left)),
     )
 
 pub join-comment-spec : {M : Type 1} → statement M
@@ -65,13 +84,15 @@ join-comment-spec =
     (tie.spec
     slice-aggregate-put-at
     put-at-requires
-    add-put-at
-    put-at-requires-2
+    add-put-text
+    put-text-requires
     add-result
+    count-of-requires
     add-result-2
     same-length
     returns
-    put-at-requires-3
+    put-text-requires-2
+    count-of-requires-2
     add-result-3
     same-length-2
     returns-2)

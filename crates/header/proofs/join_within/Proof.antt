@@ -1,5 +1,7 @@
 -- `header::join_within` meets its contract: what is joined is measured, and written where it fits.
-use mathlib.Core.Path.{sym}
+use native.Mathlib.Omega.{arith}
+use mathlib.Core.Path.{_≡_, sym}
+use lib.ListN.{length}
 use lib.Seq.{length-take-le}
 use Rattle.header.proofs.Writing.{joined-wrote, nothing-wrote}
 use borrow.Author.Needs.{needs}
@@ -10,7 +12,7 @@ slice-aggregate-join-cards : tie.Need-slice-aggregate-join-cards
 slice-aggregate-join-cards c = search needs
 
 join-cards-requires : tie.Need-join-cards-requires
-join-cards-requires c κs = search needs
+join-cards-requires c κs = c .before .before .before .before .before .before .pre
 
 both-fit-requires : tie.Need-both-fit-requires
 both-fit-requires c κs = search needs
@@ -27,7 +29,11 @@ put-at-requires : tie.Need-put-at-requires
 put-at-requires c κs = search needs
 
 join-cards-requires-2 : tie.Need-join-cards-requires-2
-join-cards-requires-2 c κs = search needs
+join-cards-requires-2 c κs =
+    let first = c .before .before .before .before .before .before .before .before .before .before .before .before in
+    let s = first .before .before .before .before .before .before .before in
+    let same : length (first .join-cards .last .1 .1 .0) ≡ length (s .args .texts .now) = search needs in
+    record { card = s .pre .card; few = s .pre .few; opened = s .pre .opened; wide = omega (arith, s .pre .wide) }
 
 same-length : tie.Need-same-length
 same-length c = search needs
