@@ -9,7 +9,7 @@ use Rattle.printing.proofs.print_names.Statement.{statement}
 use Rattle.printing.proofs.print_names.Tie as tie
 
 abbrev Inv-loop : tie.InvT-loop
-Inv-loop header first last count text₀ line₀ k₀ text line k = (k ≤ 720) × (length text ≡ 57600) × (length line ≡ 57760)
+Inv-loop header first last count text₀ line₀ k₀ text line k = (k ≤ 720) × (length text ≡ 51200) × (length line ≡ 51360)
 
 abbrev μ-loop : tie.MeasureT-loop
 μ-loop header first last count text₀ line₀ k₀ text line k = count - k
