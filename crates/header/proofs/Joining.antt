@@ -27,7 +27,7 @@ use Rattle.header.specs.declared.Kind.{Kind}
 use Rattle.header.specs.declared.Kind.the-variants.{Entry, More, Neutral, Last}
 use Rattle.header.specs.Reading.{rolesOf}
 use Rattle.header.specs.Answers.{isThere, bytesIn, over}
-use Rattle.header.specs.Passes.{kindOf, partOf, roleNo, wordsOf, moreOf, roleFrom, isNeutral, joinedBy, goesOn, placeBehind, laidBehind, Stands, Stepped, Space, Room}
+use Rattle.header.specs.Passes.{kindOf, partOf, roleNo, wordsOf, moreOf, roleFrom, joinedBy, goesOn, placeBehind, laidBehind, Stands, Stepped, Space, Room}
 use Rattle.header.proofs.Kind as kind
 use Rattle.header.proofs.Buffers.{joined-length, joined-laid}
 use Rattle.header.proofs.Cards.{cardNo}
@@ -199,6 +199,7 @@ module _ {h : List ℕ} {i : ℕ} {texts₀ : List ℕ} (room : Room h i texts�
       pub space : length texts ≡ length texts₀ → Space held texts
       space same =
           record {
+            going = on;
             some-text = open-some texts (held .text) (ap endsOpen (G .stands .text) ∙ opens-text (G .w) (G .going on));
             text = omega (arith, G .text, room .wide);
             comment = omega (arith, G .comment, room .few);
@@ -242,31 +243,21 @@ module _ {h : List ℕ} {i : ℕ} {texts₀ : List ℕ} (room : Room h i texts�
           }
 
 -- ---- a card that is not a CONTINUE card is passed, or lets no more be joined
-abbrev pub passing : Lengths → Bool → Lengths
-passing held going = record { text = held .text; comment = held .comment; commented = held .commented; going = going }
+abbrev pub stopped : Lengths → Lengths
+stopped held = record { text = held .text; comment = held .comment; commented = held .commented; going = false }
 
-pub passed : (k : Kind) → OneOf (0 ∷ 2 ∷ 3 ∷ []) (tagOf kind.the-type k) → (r : CardRead) (held : Lengths) (texts comments : List ℕ)
-    → Stepped (roleAs k r) held (passing held (isNeutral k)) texts comments texts comments
-passed k e r held texts comments =
-    record {
-      words = λ (w : Words) (before : List ℕ). same k e w before;
-      going = goes k e;
-      text = omega arith;
-      comment = omega arith;
-    }
-  where
-    same : (k : Kind) → OneOf (0 ∷ 2 ∷ 3 ∷ []) (tagOf kind.the-type k) → (w : Words) (before : List ℕ) → Stands w held texts before comments
-        → Stands (joinedBy (roleAs k r) w) (passing held (isNeutral k)) texts before comments
-    same (Entry v joins) e w before S = record { text = S .text; within = S .within; commented = S .commented; comment = S .comment; laid = S .laid }
-    same More e w before S = absurd (miss (0 ∷ 2 ∷ 3 ∷ []) 1 tt e)
-    same Neutral e w before S = record { text = S .text; within = S .within; commented = S .commented; comment = S .comment; laid = S .laid }
-    same Last e w before S = record { text = S .text; within = S .within; commented = S .commented; comment = S .comment; laid = S .laid }
+pub passed : (held : Lengths) (texts comments : List ℕ) → held .going ≡ true → Stepped neutral held held texts comments texts comments
+passed held texts comments on = record { words = λ (w : Words) (before : List ℕ) (S : Stands w held texts before comments). S; going = on; text = omega arith; comment = omega arith }
 
-    goes : (k : Kind) → OneOf (0 ∷ 2 ∷ 3 ∷ []) (tagOf kind.the-type k) → isNeutral k ≡ goesOn (roleAs k r) (take (held .text) texts)
-    goes (Entry v joins) e = refl
-    goes More e = absurd (miss (0 ∷ 2 ∷ 3 ∷ []) 1 tt e)
-    goes Neutral e = refl
-    goes Last e = refl
+still : (w : Words) (held : Lengths) (texts before comments : List ℕ) → Stands w held texts before comments → Stands w (stopped held) texts before comments
+still w held texts before comments S = record { text = S .text; within = S .within; commented = S .commented; comment = S .comment; laid = S .laid }
+
+pub ended : (k : Kind) → OneOf (0 ∷ 3 ∷ []) (tagOf kind.the-type k) → (r : CardRead) (held : Lengths) (texts comments : List ℕ)
+    → Stepped (roleAs k r) held (stopped held) texts comments texts comments
+ended (Entry v joins) e r held texts comments = record { words = λ (w : Words) (before : List ℕ). still w held texts before comments; going = refl; text = omega arith; comment = omega arith }
+ended More e r held texts comments = absurd (miss (0 ∷ 3 ∷ []) 1 tt e)
+ended Neutral e r held texts comments = absurd (miss (0 ∷ 3 ∷ []) 2 tt e)
+ended Last e r held texts comments = record { words = λ (w : Words) (before : List ℕ). still w held texts before comments; going = refl; text = omega arith; comment = omega arith }
 
 -- ---- a CONTINUE card joined: its text in scratch, and its comment where there is one
 there-joined : (k : Comment) (c : List ℕ) → true ≡ isThere (joinComment k (some c))

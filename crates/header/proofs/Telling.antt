@@ -14,7 +14,7 @@ use Rattle.card.specs.declared.Card.{Card}
 use Rattle.card.specs.declared.Card.the-variants as C
 use Rattle.card.specs.declared.CardRead.{CardRead}
 use Rattle.card.proofs.Card as card
-use Rattle.joining.specs.Roles.{Role, hasDigits}
+use Rattle.joining.specs.Roles.{Role, hasText, hasDigits, isString}
 use Rattle.header.specs.declared.Kind.{Kind}
 use Rattle.header.specs.declared.Kind.the-variants.{Entry, More, Neutral, Last}
 use Rattle.header.specs.Reading.{isEnd}
@@ -31,6 +31,24 @@ not-float (Val.Logical t) e = refl
 not-float Val.String e = refl
 not-float Val.Undefined e = refl
 not-float Val.Invalid e = refl
+
+-- one that is no string
+pub not-string : (v : Value) → OneOf (0 ∷ 1 ∷ 2 ∷ 4 ∷ 5 ∷ []) (tagOf value.the-type v) → false ≡ isString v
+not-string (Val.Integer z) e = refl
+not-string (Val.Float minus size) e = refl
+not-string (Val.Logical t) e = refl
+not-string Val.String e = absurd (miss (0 ∷ 1 ∷ 2 ∷ 4 ∷ 5 ∷ []) 3 tt e)
+not-string Val.Undefined e = refl
+not-string Val.Invalid e = refl
+
+-- one that has no text
+pub no-text : (v : Value) → OneOf (0 ∷ 1 ∷ 2 ∷ 4 ∷ []) (tagOf value.the-type v) → false ≡ hasText v
+no-text (Val.Integer z) e = refl
+no-text (Val.Float minus size) e = refl
+no-text (Val.Logical t) e = refl
+no-text Val.String e = absurd (miss (0 ∷ 1 ∷ 2 ∷ 4 ∷ []) 3 tt e)
+no-text Val.Undefined e = refl
+no-text Val.Invalid e = absurd (miss (0 ∷ 1 ∷ 2 ∷ 4 ∷ []) 5 tt e)
 
 -- a card that is not END
 pub not-end : (c : Card) → OneOf (0 ∷ 1 ∷ 2 ∷ 3 ∷ 4 ∷ 5 ∷ 6 ∷ 8 ∷ []) (tagOf card.the-type c) → false ≡ isEnd c

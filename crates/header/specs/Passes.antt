@@ -118,12 +118,6 @@ moreOf p = more (bytesOf (p .text)) (commentOf (p .commented) (bytesOf (p .comme
 abbrev pub roleFrom : Bool → List ℕ → ℕ → Role
 roleFrom first h j = cond first (moreOf (partOf (cardOf (take 80 (drop (j * 80) h))))) (roleNo h j)
 
-abbrev pub isNeutral : Kind → Bool
-isNeutral (Entry v joins) = false
-isNeutral More = false
-isNeutral Neutral = true
-isNeutral Last = false
-
 -- open words with a card behind them
 abbrev pub joinedBy : Role → Words → Words
 joinedBy (entry n v) w = w
@@ -160,8 +154,9 @@ pub record Stepped (role : Role) (held r : Lengths) (texts comments texts₁ com
   pub text : r .text ≤ held .text + 79
   pub comment : r .comment ≤ held .comment + 81
 
--- there is room for one card more
+-- more may be joined, and there is room for one card
 pub record Space (held : Lengths) (texts : List ℕ) : Type 0 where
+  pub going : held .going ≡ true
   pub some-text : 0 < held .text
   pub text : held .text + 79 ≤ length texts
   pub comment : held .comment ≤ 58320

@@ -13,7 +13,7 @@ ghost use Rattle.joining.specs.Roles.{neutral, hasText, hasDigits, isString, co
 ghost use Rattle.joining.specs.Lookup.{joinOn};
 ghost use Rattle.header.specs.Reading.{rolesOf, isBadLength, isEnd, headerOf};
 ghost use Rattle.header.specs.Answers.{unread, given, lookupOf, entryOf, entryHead, namelessOf, entryNameOf};
-ghost use Rattle.header.specs.Passes.{kindIn, kindOf, partOf, refusalIn, foundAt, scanOf, refusedScan, refusedHeader, leaves, answerBy, roleNo, roleFrom, wordsOf, isNeutral, placeBehind, laidBehind, Stands, Stepped, Space, Room, Wrote, WroteAt};
+ghost use Rattle.header.specs.Passes.{kindIn, kindOf, partOf, refusalIn, foundAt, scanOf, refusedScan, refusedHeader, leaves, answerBy, roleNo, roleFrom, wordsOf, placeBehind, laidBehind, Stands, Stepped, Space, Room, Wrote, WroteAt};
 ghost use Rattle.overlay.specs.Overlay.{overlaid};
 use card::Card;
 use card::CardAnswer;
@@ -252,14 +252,10 @@ fn refusal_in(answer: CardAnswer) -> Refusal
 fn is_string(value: Value) -> bool
     ensures { λ r. ⌜ r ≡ isString value ⌝ }
 {
-    match value {
-        Value::String => true,
-        Value::Integer(_) => false,
-        Value::Float(_, _) => false,
-        Value::Logical(_) => false,
-        Value::Undefined => false,
-        Value::Invalid => false,
-    }
+    let Value::String = value else {
+        return false;
+    };
+    true
 }
 
 fn kind_of(answer: CardAnswer) -> Kind
@@ -445,17 +441,6 @@ fn kind_at(first: bool, kind: Kind) -> Kind
     kind
 }
 
-fn is_neutral(kind: Kind) -> bool
-    ensures { λ r. ⌜ r ≡ isNeutral kind ⌝ }
-{
-    match kind {
-        Kind::Neutral => true,
-        Kind::Entry(_, _) => false,
-        Kind::More => false,
-        Kind::Last => false,
-    }
-}
-
 // Card j joined to the open words before it, where it is a CONTINUE card; an entry or END lets no more be joined.
 fn join_card(
     header: &[u8],
@@ -471,14 +456,20 @@ fn join_card(
     let part = part_at(header, j);
     let own_kind = part.kind;
     let kind = kind_at(first, own_kind);
-    let Kind::More = kind else {
-        return Lengths {
-            text: held.text,
-            comment: held.comment,
-            commented: held.commented,
-            going: is_neutral(kind),
-        };
-    };
+    match kind {
+        Kind::More => {}
+        Kind::Neutral => {
+            return held;
+        }
+        _ => {
+            return Lengths {
+                text: held.text,
+                comment: held.comment,
+                commented: held.commented,
+                going: false,
+            };
+        }
+    }
     let own = part.text;
     let n = join_text(texts, held.text, own);
     let going = ends_open(&texts[..n]);
@@ -534,10 +525,7 @@ fn has_text(value: Value) -> bool
     match value {
         Value::String => true,
         Value::Invalid => true,
-        Value::Integer(_) => false,
-        Value::Float(_, _) => false,
-        Value::Logical(_) => false,
-        Value::Undefined => false,
+        _ => false,
     }
 }
 

@@ -2,7 +2,7 @@
 use Prim.Native.Nat.{_≤_}
 use native.Mathlib.Omega.{arith}
 use mathlib.Core.Path.{_≡_, refl, sym, ap, subst, _∙_}
-use mathlib.Core.Bool.{Bool, true, cond}
+use mathlib.Core.Bool.{true, cond}
 use lib.ListN.{length}
 use lib.Seq.{length-take-le}
 use Rattle.text.specs.Text.{size, bytesOf}
@@ -11,12 +11,12 @@ use Rattle.card.specs.declared.CardRead.{CardRead}
 use Rattle.card.specs.Cards.{cardOf}
 use Rattle.joining.specs.Roles.{Role}
 use Rattle.header.specs.declared.Kind.{Kind}
-use Rattle.header.specs.declared.Kind.the-variants.{More}
+use Rattle.header.specs.declared.Kind.the-variants.{More, Neutral}
 use Rattle.header.specs.declared.Part.{Part}
 use Rattle.header.specs.Passes.{roleFrom, moreOf, Stepped}
 use Rattle.header.proofs.Cards.{cardNo}
 use Rattle.header.proofs.Playing.{roleAs}
-use Rattle.header.proofs.Joining.{passing, passed, role-at, with-comment, with-none}
+use Rattle.header.proofs.Joining.{stopped, passed, ended, role-at, with-comment, with-none}
 use borrow.Author.Needs.{needs}
 use Rattle.header.proofs.join_card.Statement.{statement}
 use Rattle.header.proofs.join_card.Tie as tie
@@ -58,17 +58,23 @@ kind-at-requires c κs = search needs
 enum-told : tie.Need-enum-told
 enum-told c = search needs
 
-is-neutral-requires : tie.Need-is-neutral-requires
-is-neutral-requires c κs = search needs
+enum-told-2 : tie.Need-enum-told-2
+enum-told-2 c = search needs
 
 returns : tie.Need-returns
 returns c =
     let at = c .before .before in
     let a = start at .args in
+    subst (λ (x : Role). Stepped x (a .held) (a .held) (a .texts .now) (a .comments .now) (a .texts .now) (a .comments .now)) (role-is at Neutral (c .enum-told2 .given .1))
+    (passed (a .held) (a .texts .now) (a .comments .now) (start at .pre .1 .going))
+
+returns-2 : tie.Need-returns-2
+returns-2 c =
+    let at = c .before in
+    let a = start at .args in
     let kind = at .kind-at .result in
-    subst (λ (x : Role). Stepped x (a .held) (passing (a .held) (c .is-neutral .result)) (a .texts .now) (a .comments .now) (a .texts .now) (a .comments .now)) (role-is at kind refl)
-    (subst (λ (b : Bool). Stepped (roleAs kind (card at)) (a .held) (passing (a .held) b) (a .texts .now) (a .comments .now) (a .texts .now) (a .comments .now)) (sym (c .is-neutral .ensures))
-    (passed kind (c .before .match .keys2) (card at) (a .held) (a .texts .now) (a .comments .now)))
+    subst (λ (x : Role). Stepped x (a .held) (stopped (a .held)) (a .texts .now) (a .comments .now) (a .texts .now) (a .comments .now)) (role-is at kind refl)
+    (ended kind (c .match .keys3) (card at) (a .held) (a .texts .now) (a .comments .now))
 
 join-text-requires : tie.Need-join-text-requires
 join-text-requires c κs = search needs
@@ -93,8 +99,8 @@ same-length c = search needs
 same-length-2 : tie.Need-same-length-2
 same-length-2 c = search needs
 
-returns-2 : tie.Need-returns-2
-returns-2 c =
+returns-3 : tie.Need-returns-3
+returns-3 c =
     let m = c .before .before in
     let test = m .before .before .before in
     let o = test .before in
@@ -108,8 +114,8 @@ returns-2 c =
 same-length-3 : tie.Need-same-length-3
 same-length-3 c = search needs
 
-returns-3 : tie.Need-returns-3
-returns-3 c =
+returns-4 : tie.Need-returns-4
+returns-4 c =
     let o = c .before in
     let j = o .before .before .before .before in
     let a = start (at j) .args in
@@ -124,8 +130,9 @@ join-card-spec =
     part-at-requires
     kind-at-requires
     enum-told
-    is-neutral-requires
+    enum-told-2
     returns
+    returns-2
     join-text-requires
     slice-reshare-prefix-ends-open
     slice-aggregate-ends-open
@@ -133,6 +140,6 @@ join-card-spec =
     join-comment-requires
     same-length
     same-length-2
-    returns-2
+    returns-3
     same-length-3
-    returns-3)
+    returns-4)

@@ -1,7 +1,7 @@
 -- `header::write_joined` meets its contract: the scratch has a card's bytes for every card.
 use Prim.Native.Nat.{ℕ, _*_, _/_, _≤_}
 use native.Mathlib.Omega.{arith}
-use mathlib.Core.Path.{_≡_, sym}
+use mathlib.Core.Path.{sym}
 use lib.ListN.{length, replicate, length-replicate}
 use borrow.Author.Needs.{needs}
 use Rattle.header.proofs.write_joined.Statement.{statement}
