@@ -25,12 +25,12 @@ use Rattle.joining.proofs.Answers.{joinOn-shut}
 use Rattle.header.specs.declared.Lengths.{Lengths}
 use Rattle.header.specs.declared.Kind.{Kind}
 use Rattle.header.specs.declared.Kind.the-variants.{Entry, More, Neutral, Last}
-use Rattle.header.specs.Reading.{rolesOf}
+use Rattle.parts.specs.Cards.{rolesOf}
 use Rattle.header.specs.Answers.{isThere, bytesIn, over}
-use Rattle.header.specs.Passes.{kindOf, partOf, roleNo, wordsOf, moreOf, roleFrom, joinedBy, goesOn, placeBehind, laidBehind, Stands, Stepped, Space, Room}
+use Rattle.header.specs.Passes.{kindOf, contentOf, roleNo, wordsOf, moreOf, roleFrom, joinedBy, goesOn, placeBehind, laidBehind, Stands, Stepped, Space, Room}
 use Rattle.header.proofs.Kind as kind
 use Rattle.header.proofs.Buffers.{joined-length, joined-laid}
-use Rattle.header.proofs.Cards.{cardNo}
+use Rattle.parts.proofs.Cards.{cardNo}
 use Rattle.header.proofs.Playing.{roleAs, role-kind}
 use Rattle.header.proofs.Looking.{roles-from, roles-past}
 
@@ -74,13 +74,13 @@ begun = record { text = 38 ∷ []; comment = none; joins = true }
 abbrev pub beginning : Lengths
 beginning = record { text = 1; comment = 0; commented = false; going = true }
 
-begun-by : (r : CardRead) → endsOpen (bytesOf (r .text)) ≡ true → heldOf Val.String true r .words ≡ joinedBy (moreOf (partOf r)) begun
+begun-by : (r : CardRead) → endsOpen (bytesOf (r .text)) ≡ true → heldOf Val.String true r .words ≡ joinedBy (moreOf (contentOf r)) begun
 unfolding joinWords joinText joinComment stem
 begun-by r e =
     let adds : bytesOf (r .text) ≡ joinText (38 ∷ []) (bytesOf (r .text)) = rw (open-adds (bytesOf (r .text)) e) in
     λ j. record { text = adds j; comment = heldOf Val.String true r .words .comment; joins = true }
 
-value-begun : (v : Value) (r : CardRead) → opens (heldOf v (isString v) r .words) ≡ true → heldOf v (isString v) r .words ≡ joinedBy (moreOf (partOf r)) begun
+value-begun : (v : Value) (r : CardRead) → opens (heldOf v (isString v) r .words) ≡ true → heldOf v (isString v) r .words ≡ joinedBy (moreOf (contentOf r)) begun
 unfolding opens
 value-begun (Val.Integer z) r e = absurd (true≢false (sym e))
 value-begun (Val.Float minus size) r e = absurd (true≢false (sym e))
@@ -89,7 +89,7 @@ value-begun Val.String r e = begun-by r e
 value-begun Val.Undefined r e = absurd (true≢false (sym e))
 value-begun Val.Invalid r e = absurd (true≢false (sym e))
 
-answer-begun : (a : CardAnswer) (r : CardRead) → opens (wordsOf (roleBy a r)) ≡ true → wordsOf (roleBy a r) ≡ joinedBy (moreOf (partOf r)) begun
+answer-begun : (a : CardAnswer) (r : CardRead) → opens (wordsOf (roleBy a r)) ≡ true → wordsOf (roleBy a r) ≡ joinedBy (moreOf (contentOf r)) begun
 unfolding opens
 answer-begun (A.Read (C.Value v)) r e = value-begun v r e
 answer-begun (A.Read (C.Hierarch v)) r e = value-begun v r e
@@ -131,7 +131,7 @@ module _ (w : Words) (joins : w .joins ≡ true) (opened : opens w ≡ true) whe
 -- ---- where the loop stands: what is left is joined to the words as they stand
 -- the cards from number j on, where the string begins at card i
 abbrev rest : List ℕ → ℕ → ℕ → List Role
-rest h i j = cond (eqb j i) (moreOf (partOf (cardOf (cardNo h j))) ∷ drop (j + 1) (rolesOf h)) (drop j (rolesOf h))
+rest h i j = cond (eqb j i) (moreOf (contentOf (cardOf (cardNo h j))) ∷ drop (j + 1) (rolesOf h)) (drop j (rolesOf h))
 
 pub record Going (h : List ℕ) (i : ℕ) (held : Lengths) (texts before comments : List ℕ) (j : ℕ) : Type 0 where
   pub w : Words
@@ -172,7 +172,7 @@ module _ {h : List ℕ} {i : ℕ} {texts₀ : List ℕ} (room : Room h i texts�
         comment = omega arith;
         going = λ _. begun-open;
         left =
-            ap (λ (b : Bool). joinOn begun (cond b (moreOf (partOf card) ∷ all) (drop i (rolesOf h)))) (eq-eqb i i refl)
+            ap (λ (b : Bool). joinOn begun (cond b (moreOf (contentOf card) ∷ all) (drop i (rolesOf h)))) (eq-eqb i i refl)
             ∙ begun-more (bytesOf (card .text)) (commentOf (card .commented) (bytesOf (card .comment))) all
             ∙ ap (λ (x : Words). joinOn x all) (sym (answer-begun (card .answer) card (room .opened)));
       }
@@ -188,7 +188,7 @@ module _ {h : List ℕ} {i : ℕ} {texts₀ : List ℕ} (room : Room h i texts�
     unfolding joinOn
     at-end p =
         let later : eqb j i ≡ false = ne-eqb j i (λ (e : j ≡ i). omega (arith, room .card)) in
-        let none-left : rest h i j ≡ [] = ap (λ (b : Bool). cond b (moreOf (partOf (cardOf (cardNo h j))) ∷ drop (j + 1) (rolesOf h)) (drop j (rolesOf h))) later ∙ roles-past h j p in
+        let none-left : rest h i j ≡ [] = ap (λ (b : Bool). cond b (moreOf (contentOf (cardOf (cardNo h j))) ∷ drop (j + 1) (rolesOf h)) (drop j (rolesOf h))) later ∙ roles-past h j p in
         subst (λ (x : Words). Stands x held texts before comments) (sym (go (held .going) (rest h i j) none-left) ∙ G .left) (G .stands)
       where
         go : (b : Bool) (l : List Role) → l ≡ [] → cond b (joinOn (G .w) l) (G .w) ≡ G .w
@@ -209,14 +209,14 @@ module _ {h : List ℕ} {i : ℕ} {texts₀ : List ℕ} (room : Room h i texts�
       here : rest h i j ≡ roleFrom (eqb j i) h j ∷ drop (j + 1) (rolesOf h)
       here = go (eqb j i)
         where
-          go : (b : Bool) → cond b (moreOf (partOf (cardOf (cardNo h j))) ∷ drop (j + 1) (rolesOf h)) (drop j (rolesOf h)) ≡ roleFrom b h j ∷ drop (j + 1) (rolesOf h)
+          go : (b : Bool) → cond b (moreOf (contentOf (cardOf (cardNo h j))) ∷ drop (j + 1) (rolesOf h)) (drop j (rolesOf h)) ≡ roleFrom b h j ∷ drop (j + 1) (rolesOf h)
           go true = refl
           go false = roles-from h j next
 
       behind : rest h i (j + 1) ≡ drop (j + 1) (rolesOf h)
       behind =
           let later : eqb (j + 1) i ≡ false = ne-eqb (j + 1) i (λ (e : j + 1 ≡ i). omega (arith, G .past)) in
-          ap (λ (b : Bool). cond b (moreOf (partOf (cardOf (cardNo h (j + 1)))) ∷ drop (j + 1 + 1) (rolesOf h)) (drop (j + 1) (rolesOf h))) later
+          ap (λ (b : Bool). cond b (moreOf (contentOf (cardOf (cardNo h (j + 1)))) ∷ drop (j + 1 + 1) (rolesOf h)) (drop (j + 1) (rolesOf h))) later
 
       pub on-card : {r : Lengths} {texts₁ comments₁ : List ℕ} → Stepped (roleFrom (eqb j i) h j) held r texts comments texts₁ comments₁ → Going h i r texts₁ before comments₁ (j + 1)
       on-card {r} {texts₁} {comments₁} S =
@@ -316,6 +316,6 @@ module _ (t c : List ℕ) (held : Lengths) {texts comments texts₁ : List ℕ} 
       }
 
 -- ---- the role of a card to the string before it, by its kind
-pub role-at : (first : Bool) (r : CardRead) → roleAs (cond first More (kindOf (r .answer))) r ≡ cond first (moreOf (partOf r)) (roleOf r)
+pub role-at : (first : Bool) (r : CardRead) → roleAs (cond first More (kindOf (r .answer))) r ≡ cond first (moreOf (contentOf r)) (roleOf r)
 role-at true r = refl
 role-at false r = sym (role-kind r (kindOf (r .answer)) refl)

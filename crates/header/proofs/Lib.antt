@@ -1,5 +1,4 @@
 -- Laws of a header's cards, of the passes over them and of what they hand over.
-pub mod Cards
 pub mod Playing
 pub mod Telling
 pub mod Scanning
@@ -7,3 +6,4 @@ pub mod Looking
 pub mod Buffers
 pub mod Joining
 pub mod Writing
+pub mod Parts

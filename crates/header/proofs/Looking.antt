@@ -8,8 +8,8 @@ use mathlib.Core.List.{List, [], _∷_, map}
 use mathlib.Core.Option.{Option, none, some}
 use borrow.Author.Tests.{ltb-false}
 use lib.Dec.{eqb, ltb}
-use lib.ListN.{length, drop, getD, length-map, List·getD-eq-default}
-use lib.Seq.{drop-drop, getD-drop}
+use lib.ListN.{length, drop, length-map}
+use lib.Seq.{drop-drop}
 use Rattle.refusal.specs.declared.Refusal.{Refusal}
 use Rattle.refusal.specs.Numbers.{refusal}
 use Rattle.text.specs.declared.Place.{Place}
@@ -24,10 +24,11 @@ use Rattle.header.specs.declared.Header.{Header}
 use Rattle.header.specs.declared.Header.the-variants.{Accepted, Refused}
 use Rattle.header.specs.declared.Kind.{Kind}
 use Rattle.header.specs.declared.Scan.{Scan}
-use Rattle.header.specs.Reading.{cardsOf, roleAt, rolesOf, isBadLength, headerFrom, headerOf}
+use Rattle.parts.specs.Cards.{cardsOf, roleAt, rolesOf, isBadLength}
+use Rattle.header.specs.Reading.{headerFrom, headerOf}
 use Rattle.header.specs.Answers.{entryHead}
 use Rattle.header.specs.Passes.{kindOf, lastFrom, scanBy, scanOf}
-use Rattle.header.proofs.Cards.{drop-map, cardNo, card-count, cards-from, cards-past}
+use Rattle.parts.proofs.Cards.{drop-map, cardNo, card-count, cards-from, cards-past}
 use Rattle.header.proofs.Playing.{roleAs, role-kind}
 
 -- ---- lengths
@@ -122,18 +123,6 @@ module _ (h : List ℕ) (i : ℕ) (within : i < length h / 80) where
 
   pub head-kind : (r : CardRead) → r ≡ cardOf (cardNo h i) → (k : Kind) → kindOf (r .answer) ≡ k → entryHead (roleAs k r ∷ drop (i + 1) (rolesOf h)) ≡ entryHead (drop i (rolesOf h))
   head-kind r is k e = sym (ap entryHead (roles-from ∙ ap (λ (x : Role). x ∷ drop (i + 1) (rolesOf h)) (sym (ap roleOf is) ∙ role-kind r k e)))
-
-  -- the role of card i, by its kind
-  pub role-here : (r : CardRead) → r ≡ cardOf (cardNo h i) → (k : Kind) → kindOf (r .answer) ≡ k → getD (rolesOf h) i neutral ≡ roleAs k r
-  role-here r is k e = sym (front (rolesOf h) i) ∙ ap (λ (l : List Role). getD l 0 neutral) roles-from ∙ sym (ap roleOf is) ∙ role-kind r k e
-    where
-      front : (l : List Role) (i : ℕ) → getD (drop i l) 0 neutral ≡ getD l i neutral
-      front l i = getD-drop i l 0 neutral ∙ ap (λ (k : ℕ). getD l k neutral) (let z : i + 0 ≡ i = omega arith in z)
-
-pub role-past : (h : List ℕ) (i : ℕ) → length h / 80 ≤ i → getD (rolesOf h) i neutral ≡ neutral
-role-past h i p =
-    let long : length (rolesOf h) ≡ length h / 80 = length-map (cardsOf h) roleAt ∙ card-count h in
-    List·getD-eq-default (rolesOf h) neutral (omega arith)
 
 -- beyond the cards there is nothing, and no entry
 pub roles-past : (h : List ℕ) (i : ℕ) → length h / 80 ≤ i → drop i (rolesOf h) ≡ []

@@ -25,7 +25,7 @@ use Rattle.overlay.specs.Overlay.{overlaid}
 use Rattle.header.specs.declared.LookupAnswer.the-variants as L
 use Rattle.header.specs.declared.Kind.the-variants.{Entry}
 use Rattle.header.specs.declared.Lengths.{Lengths}
-use Rattle.header.specs.declared.Part.{Part}
+use Rattle.header.specs.declared.Content.{Content}
 use Rattle.header.specs.declared.Written.{Written}
 use Rattle.header.specs.Answers.{isThere, bytesIn, found, untouched, over, written}
 use Rattle.header.specs.Passes.{kindIn, kindOf, Stands, Wrote, leaves, answerBy}
@@ -33,7 +33,7 @@ use Rattle.header.proofs.Buffers.{first-laid}
 use Rattle.header.proofs.Joining.{and-false}
 
 -- the words of an entry by its own card
-abbrev pub wordsIn : Value → Bool → Part → Words
+abbrev pub wordsIn : Value → Bool → Content → Words
 wordsIn v joins p = record { text = cond (hasText v) (bytesOf (p .text)) []; comment = commentOf (p .commented) (bytesOf (p .comment)); joins = joins }
 
 -- what was written is what a lookup writes
@@ -77,7 +77,7 @@ there-if : (b : Bool) (c : List ℕ) → b ≡ isThere (commentOf b c)
 there-if true c = refl
 there-if false c = refl
 
-module _ (shown : Bool) (p : Part) (text comment : List ℕ) {fits : Bool} {n m : ℕ} (count : n ≡ length (cond shown (bytesOf (p .text)) [])) (count-too : m ≡ length (cond (p .commented) (bytesOf (p .comment)) []))
+module _ (shown : Bool) (p : Content) (text comment : List ℕ) {fits : Bool} {n m : ℕ} (count : n ≡ length (cond shown (bytesOf (p .text)) [])) (count-too : m ≡ length (cond (p .commented) (bytesOf (p .comment)) []))
     (fit : fits ≡ (leb n (length text) && leb m (length comment))) where
   abbrev own : List ℕ
   own = cond shown (bytesOf (p .text)) []
@@ -180,7 +180,7 @@ empty-shut : endsOpen [] ≡ false
 unfolding endsOpen
 empty-shut = refl
 
-module _ (v : Value) (joins : Bool) (p : Part) where
+module _ (v : Value) (joins : Bool) (p : Content) where
   pub own-open : (joins ≡ true → hasText v ≡ true) → (joins && endsOpen (bytesOf (p .text))) ≡ true → opens (wordsIn v joins p) ≡ true
   unfolding opens
   own-open text e = go joins refl e

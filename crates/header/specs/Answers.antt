@@ -1,5 +1,5 @@
 -- What a lookup answers, and what the lent buffers then hold (document 01, "Joining and lookup").
-use Prim.Native.Nat.{ℕ, _/_}
+use Prim.Native.Nat.{ℕ}
 use mathlib.Core.Bool.{Bool, true, false, cond, _&&_}
 use mathlib.Core.List.{List, [], _∷_, _++_}
 use mathlib.Core.Option.{Option, none, some}
@@ -16,8 +16,8 @@ use Rattle.header.specs.declared.Header.the-variants.{Accepted, Refused}
 use Rattle.header.specs.declared.LookupAnswer.{LookupAnswer}
 use Rattle.header.specs.declared.LookupAnswer.the-variants as L
 use Rattle.header.specs.declared.Looked.{Looked}
-use Rattle.header.specs.declared.EntryName.{EntryName}
-use Rattle.header.specs.Reading.{rolesOf, isBadLength, headerOf}
+use Rattle.parts.specs.Cards.{rolesOf, isBadLength}
+use Rattle.header.specs.Reading.{headerOf}
 
 -- an answer, and the lent buffers for text and comment after it
 pub record Outcome : Type 0 where
@@ -89,13 +89,3 @@ entryHead (last ∷ h) = none
 unfoldable pub entryOf : List ℕ → ℕ → List ℕ → List ℕ → Outcome
 entryOf h i text comment =
     cond (isBadLength (length h)) (untouched (L.Header (refusal 9) 0) text comment) (given (entryHead (drop i (rolesOf h))) text comment)
-
--- the name that a card bears, where it is an entry
-abbrev pub namelessOf : EntryName
-namelessOf = record { there = false; name = textOf [] }
-
-abbrev pub entryNameOf : Role → EntryName
-entryNameOf (entry n v) = record { there = true; name = textOf n }
-entryNameOf (more t c) = namelessOf
-entryNameOf neutral = namelessOf
-entryNameOf last = namelessOf

@@ -34,9 +34,10 @@ use Rattle.header.specs.declared.Scan.{Scan}
 use Rattle.header.specs.declared.Kind.{Kind}
 use Rattle.header.specs.declared.Kind.the-variants.{Entry, More, Neutral, Last}
 use Rattle.header.specs.declared.Lengths.{Lengths}
-use Rattle.header.specs.declared.Part.{Part}
+use Rattle.header.specs.declared.Content.{Content}
 use Rattle.header.specs.declared.Written.{Written}
-use Rattle.header.specs.Reading.{roleAt, rolesOf, headerOf}
+use Rattle.parts.specs.Cards.{roleAt, rolesOf}
+use Rattle.header.specs.Reading.{headerOf}
 use Rattle.header.specs.Answers.{Outcome, isThere, bytesIn, unread, over}
 
 -- the kind of role that a card has
@@ -56,8 +57,8 @@ kindOf (A.Read c) = kindIn c
 kindOf (A.Refused why) = Neutral
 
 -- a card as a part of its header
-abbrev pub partOf : CardRead → Part
-partOf r = record { kind = kindOf (r .answer); text = r .text; commented = r .commented; comment = r .comment }
+abbrev pub contentOf : CardRead → Content
+contentOf r = record { kind = kindOf (r .answer); text = r .text; commented = r .commented; comment = r .comment }
 
 -- why a card is refused
 abbrev pub refusalIn : CardAnswer → Refusal
@@ -111,12 +112,12 @@ wordsOf neutral = record { text = []; comment = none; joins = false }
 wordsOf last = record { text = []; comment = none; joins = false }
 
 -- a card as a CONTINUE card
-abbrev pub moreOf : Part → Role
+abbrev pub moreOf : Content → Role
 moreOf p = more (bytesOf (p .text)) (commentOf (p .commented) (bytesOf (p .comment)))
 
 -- the role of card j to the string before it: the card that the string begins with counts as a CONTINUE card of an &
 abbrev pub roleFrom : Bool → List ℕ → ℕ → Role
-roleFrom first h j = cond first (moreOf (partOf (cardOf (take 80 (drop (j * 80) h))))) (roleNo h j)
+roleFrom first h j = cond first (moreOf (contentOf (cardOf (take 80 (drop (j * 80) h))))) (roleNo h j)
 
 -- open words with a card behind them
 abbrev pub joinedBy : Role → Words → Words

@@ -1,9 +1,8 @@
--- A header's bytes as its cards, and whether it is accepted (document 01, "Refusal numbers" and its order).
-use Prim.Native.Nat.{ℕ, zero, suc, _/_, _%_}
-use mathlib.Core.Bool.{Bool, true, false, cond, _||_, not}
-use mathlib.Core.List.{List, [], _∷_, map}
-use lib.Dec.{eqb, ltb}
-use lib.ListN.{length, take, drop}
+-- Whether a header is accepted (document 01, "Refusal numbers" and its order).
+use Prim.Native.Nat.{ℕ, suc}
+use mathlib.Core.Bool.{Bool, true, false, cond}
+use mathlib.Core.List.{List, [], _∷_}
+use lib.ListN.{length}
 use Rattle.refusal.specs.declared.Refusal.{Refusal}
 use Rattle.refusal.specs.Numbers.{refusal}
 use Rattle.card.specs.declared.Card.{Card}
@@ -11,29 +10,9 @@ use Rattle.card.specs.declared.Card.the-variants as C
 use Rattle.card.specs.declared.CardAnswer.{CardAnswer}
 use Rattle.card.specs.declared.CardAnswer.the-variants as A
 use Rattle.card.specs.Cards.{cardOf}
-use Rattle.joining.specs.Roles.{Role, roleOf}
+use Rattle.parts.specs.Cards.{cardsOf, isBadLength}
 use Rattle.header.specs.declared.Header.{Header}
 use Rattle.header.specs.declared.Header.the-variants.{Accepted, Refused}
-
--- the first n pieces of 80 bytes
-unfoldable pub pieces : ℕ → List ℕ → List (List ℕ)
-pieces zero h = []
-pieces (suc n) h = take 80 h ∷ pieces n (drop 80 h)
-
--- the cards of a header
-abbrev pub cardsOf : List ℕ → List (List ℕ)
-cardsOf h = pieces (length h / 80) h
-
--- what each card is to the header
-abbrev pub roleAt : List ℕ → Role
-roleAt c = roleOf (cardOf c)
-
-abbrev pub rolesOf : List ℕ → List Role
-rolesOf h = map roleAt (cardsOf h)
-
--- 0, not a multiple of 80, or above 57,600
-unfoldable pub isBadLength : ℕ → Bool
-isBadLength n = eqb n 0 || (not (eqb (n % 80) 0) || ltb 57600 n)
 
 abbrev pub isEnd : Card → Bool
 isEnd (C.Value v) = false

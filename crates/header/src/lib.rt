@@ -9,11 +9,12 @@ ghost use Rattle.text.specs.Same.{same};
 ghost use Rattle.text.specs.Text.{textOf, bytesOf};
 ghost use Rattle.card.specs.Cards.{cardOf};
 ghost use Rattle.joining.specs.Words.{endsOpen, addsNothing, joinText, opens};
-ghost use Rattle.joining.specs.Roles.{neutral, hasText, hasDigits, isString, commentOf, roleOf};
+ghost use Rattle.joining.specs.Roles.{hasText, hasDigits, isString, commentOf, roleOf};
 ghost use Rattle.joining.specs.Lookup.{joinOn};
-ghost use Rattle.header.specs.Reading.{rolesOf, isBadLength, isEnd, headerOf};
-ghost use Rattle.header.specs.Answers.{unread, given, lookupOf, entryOf, entryHead, namelessOf, entryNameOf};
-ghost use Rattle.header.specs.Passes.{kindIn, kindOf, partOf, refusalIn, foundAt, scanOf, refusedScan, refusedHeader, leaves, answerBy, roleNo, roleFrom, wordsOf, placeBehind, laidBehind, Stands, Stepped, Space, Room, Wrote, WroteAt};
+ghost use Rattle.parts.specs.Cards.{rolesOf};
+ghost use Rattle.header.specs.Reading.{isEnd, headerOf};
+ghost use Rattle.header.specs.Answers.{unread, given, lookupOf, entryOf, entryHead};
+ghost use Rattle.header.specs.Passes.{kindIn, kindOf, contentOf, refusalIn, foundAt, scanOf, refusedScan, refusedHeader, leaves, answerBy, roleNo, roleFrom, wordsOf, placeBehind, laidBehind, Stands, Stepped, Space, Room, Wrote, WroteAt};
 ghost use Rattle.overlay.specs.Overlay.{overlaid};
 use card::Card;
 use card::CardAnswer;
@@ -44,12 +45,6 @@ pub struct Looked {
     pub commented: bool,
     pub text: usize,
     pub comment: usize,
-}
-
-// Whether a card is an entry, and the name that it then bears.
-pub struct EntryName {
-    pub there: bool,
-    pub name: Text,
 }
 
 // A header's answer, and the last card that bears a name.
@@ -83,7 +78,7 @@ pub struct Written {
 }
 
 // What a card is to its header, with its text and comment.
-pub struct Part {
+pub struct Content {
     pub kind: Kind,
     pub text: Text,
     pub commented: bool,
@@ -92,9 +87,6 @@ pub struct Part {
 
 // The bytes of a card.
 const CARD: usize = 80;
-
-// The bytes of the longest header: 720 cards.
-const LONGEST: usize = 57600;
 
 // A header of so many cards has small scratch: three blocks of 36.
 const FEW_CARDS: usize = 108;
@@ -127,7 +119,7 @@ pub fn read_entry(header: &[u8], i: usize, text: &mut [u8], comment: &mut [u8]) 
     ensures { λ _. ⌜ now (text .exit) ≡ entryOf (now (header .entry)) i (now (text .entry)) (now (comment .entry)) .text ⌝ }
     ensures { λ _. ⌜ now (comment .exit) ≡ entryOf (now (header .entry)) i (now (text .entry)) (now (comment .entry)) .comment ⌝ }
 {
-    if is_bad_length(header.len()) {
+    if parts::is_bad_length(header.len()) {
         return refused_header(Header::Refused(Refusal::HeaderLength, 0));
     }
     if header.len() / CARD <= i {
@@ -144,38 +136,7 @@ pub fn read_header(header: &[u8]) -> Header
     scanned.header
 }
 
-// The name that a card's number gives, where that card is an entry.
-pub fn entry_name(header: &[u8], i: usize) -> EntryName
-    ensures { λ r. ⌜ r ≡ entryNameOf (getD (rolesOf (now (header .entry))) i neutral) ⌝ }
-{
-    if header.len() / CARD <= i {
-        return no_name();
-    }
-    let read = card_at(header, i);
-    let answer = read.answer;
-    let own = read.name;
-    let bytes = own.bytes;
-    match kind_of(answer) {
-        Kind::Entry(_, _) => EntryName {
-            there: true,
-            name: text::text_of(text::first_of(&bytes, own.len)),
-        },
-        Kind::More => no_name(),
-        Kind::Neutral => no_name(),
-        Kind::Last => no_name(),
-    }
-}
-
 // ---- answers
-
-fn no_name() -> EntryName
-    ensures { λ r. ⌜ r ≡ namelessOf ⌝ }
-{
-    EntryName {
-        there: false,
-        name: text::empty_text(),
-    }
-}
 
 // A refusal, with no reading beside it.
 fn unread(answer: LookupAnswer) -> Looked
@@ -206,30 +167,6 @@ fn refused_header(header: Header) -> Looked
 }
 
 // ---- reading
-
-// 0, not a multiple of a card, or beyond the longest.
-fn is_bad_length(n: usize) -> bool
-    ensures { λ r. ⌜ r ≡ isBadLength n ⌝ }
-{
-    if n == 0 {
-        return true;
-    }
-    if n % CARD != 0 {
-        return true;
-    }
-    LONGEST < n
-}
-
-// The card with a number.
-fn card_at(header: &[u8], i: usize) -> CardRead
-    requires { ⌜ i < length (now header) / 80 ⌝ }
-    ensures { λ r. ⌜ r ≡ cardOf (take 80 (drop (i * 80) (now (header .entry)))) ⌝ }
-{
-    let at = i * CARD;
-    let held = text::text_of(&header[at..]);
-    let bytes = held.bytes;
-    card::read_card(&bytes)
-}
 
 fn is_end(card: Card) -> bool
     ensures { λ r. ⌜ r ≡ isEnd card ⌝ }
@@ -280,16 +217,16 @@ fn kind_in(card: Card) -> Kind
     }
 }
 
-// The card with a number, as a part of its header.
-fn part_at(header: &[u8], i: usize) -> Part
+// The content of the card with a number.
+fn content_at(header: &[u8], i: usize) -> Content
     requires { ⌜ i < length (now header) / 80 ⌝ }
-    ensures { λ r. ⌜ r ≡ partOf (cardOf (take 80 (drop (i * 80) (now (header .entry))))) ⌝ }
+    ensures { λ r. ⌜ r ≡ contentOf (cardOf (take 80 (drop (i * 80) (now (header .entry))))) ⌝ }
 {
-    let read = card_at(header, i);
+    let read = parts::card_at(header, i);
     let answer = read.answer;
     let text = read.text;
     let comment = read.comment;
-    Part {
+    Content {
         kind: kind_of(answer),
         text: text,
         commented: read.commented,
@@ -323,14 +260,14 @@ fn found_at(card: CardRead, name: &[u8], i: usize, last: Place) -> Place
 fn scan_cards(header: &[u8], name: &[u8]) -> Scan
     ensures { λ r. ⌜ r ≡ scanOf (now (header .entry)) (now (name .entry)) ⌝ }
 {
-    if is_bad_length(header.len()) {
+    if parts::is_bad_length(header.len()) {
         return refused_scan(Refusal::HeaderLength, 0);
     }
     let n = header.len() / CARD;
     let mut last = Place::Nowhere;
     let mut i = 0;
     while i < n {
-        let read = card_at(header, i);
+        let read = parts::card_at(header, i);
         let answer = read.answer;
         let CardAnswer::Read(card) = answer else {
             return refused_scan(refusal_in(answer), i);
@@ -453,7 +390,7 @@ fn join_card(
     requires { ⌜ (j < length (now header) / 80) × Space held (now texts) ⌝ }
     ensures { λ r. ⌜ Stepped (roleFrom first (now (header .entry)) j) held r (now (texts .entry)) (now (comments .entry)) (now (texts .exit)) (now (comments .exit)) ⌝ }
 {
-    let part = part_at(header, j);
+    let part = content_at(header, j);
     let own_kind = part.kind;
     let kind = kind_at(first, own_kind);
     match kind {
@@ -567,7 +504,7 @@ fn both_fit(n: usize, m: usize, text: usize, comment: usize) -> bool
 }
 
 // The words of an entry's own card, written where both lent buffers hold them.
-fn write_own(shown: bool, part: Part, text: &mut [u8], comment: &mut [u8]) -> Written
+fn write_own(shown: bool, part: Content, text: &mut [u8], comment: &mut [u8]) -> Written
     ensures { λ r. ⌜ Wrote (cond shown (bytesOf (part .text)) []) (commentOf (part .commented) (bytesOf (part .comment))) r (now (text .entry)) (now (comment .entry)) (now (text .exit)) (now (comment .exit)) ⌝ }
 {
     let own = part.text;
@@ -643,7 +580,7 @@ fn entry_at(header: &[u8], i: usize, text: &mut [u8], comment: &mut [u8]) -> Loo
     requires { ⌜ (i < length (now header) / 80) × (length (now header) / 80 ≤ 720) ⌝ }
     ensures { λ r. ⌜ leaves r (now (text .exit)) (now (comment .exit)) ≡ given (entryHead (drop i (rolesOf (now (header .entry))))) (now (text .entry)) (now (comment .entry)) ⌝ }
 {
-    let part = part_at(header, i);
+    let part = content_at(header, i);
     let kind = part.kind;
     let Kind::Entry(value, joins) = kind else {
         return not_found();

@@ -1,11 +1,10 @@
 -- The name that a card is read with is its keyword, unless it is a HIERARCH card.
 use Prim.Native.Nat.{ℕ}
 use native.Mathlib.Omega.{arith}
-use mathlib.Core.Path.{_≡_, refl, sym, ap, subst, _∙_}
-use mathlib.Core.Bool.{Bool, true, false, cond, true≢false}
+use mathlib.Core.Path.{_≡_, refl, subst}
+use mathlib.Core.Bool.{Bool, true, false, cond}
 use mathlib.Core.List.{List, [], _∷_}
-use lib.ListN.{length, take, drop}
-use Rattle.refusal.specs.declared.Refusal.{Refusal}
+use lib.ListN.{take, drop}
 use Rattle.refusal.specs.Numbers.{refusal}
 use Rattle.text.specs.declared.Text.{Text}
 use Rattle.text.specs.Bytes.{ascii}
@@ -22,12 +21,11 @@ use Rattle.value.specs.declared.ValueAnswer.{ValueAnswer}
 use Rattle.value.specs.declared.ValueAnswer.the-variants.{Read as Read-value, Refused as Refused-value}
 use Rattle.value.specs.declared.ValueRead.{ValueRead}
 use Rattle.value.specs.Values.{valueOf}
-use Rattle.card.specs.declared.CardRead.{CardRead}
 use Rattle.card.specs.declared.Card.the-variants as C
 use Rattle.card.specs.declared.Class.{Class}
 use Rattle.card.specs.declared.Class.the-variants.{Empty, Comment, History, Continue, Xtension, Hierarch, End, Other}
 use Rattle.card.specs.Keywords.{hasHigh, keywordOf, classOf}
-use Rattle.card.specs.Cards.{refusedWith, readAs, remarkOf, spaceOr, emptyOf, stringCard, continued, continuationOf, isWithinQuotes, inside, quotedCard, extended, extensionOf, byAnswer, ofValue, otherOf, byClass, cardOf}
+use Rattle.card.specs.Cards.{refusedWith, readAs, remarkOf, spaceOr, emptyOf, stringCard, continued, continuationOf, isWithinQuotes, quotedCard, extended, extensionOf, byAnswer, ofValue, otherOf, byClass, cardOf}
 use Rattle.joining.specs.Roles.{Held, Role, entry, more, neutral, last, roleOf}
 
 -- a role that is an entry has this name

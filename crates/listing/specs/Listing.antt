@@ -1,6 +1,6 @@
 -- The names of a header in the order of their first cards (document 01, "Joining and lookup").
 use Prim.Native.Nat.{ℕ, suc}
-use mathlib.Core.Bool.{Bool, cond}
+use mathlib.Core.Bool.{cond}
 use mathlib.Core.List.{List, [], _∷_, _++_}
 use lib.Dec.{ltb}
 use lib.ListN.{length, getD, set, take}
@@ -12,7 +12,8 @@ use Rattle.text.specs.Text.{filled}
 use Rattle.joining.specs.Roles.{Role, entry, more, neutral, last}
 use Rattle.header.specs.declared.Header.{Header}
 use Rattle.header.specs.declared.Header.the-variants.{Accepted, Refused}
-use Rattle.header.specs.Reading.{rolesOf, headerOf}
+use Rattle.parts.specs.Cards.{rolesOf}
+use Rattle.header.specs.Reading.{headerOf}
 use Rattle.header.specs.Answers.{Outcome, entryOf}
 use Rattle.listing.specs.declared.Listing.{Listing}
 

@@ -1,29 +1,60 @@
 -- Marks of names, which are compared before the names.
-use Prim.Native.Nat.{ℕ, _+_, _*_, _%_, _<_, _≤_}
+use Prim.Native.Nat.{ℕ, zero, suc, _+_, _*_, _/_, _%_, _<_, _≤_}
 use mathlib.Core.Path.{_≡_}
-use mathlib.Core.Bool.{true}
+use mathlib.Core.Bool.{true, false, cond}
 use mathlib.Core.List.{List, [], _∷_}
+use lib.Dec.{eqb}
 use lib.ListN.{length, getD}
+use Rattle.listing.specs.declared.Inserted.{Inserted}
+use Rattle.listing.specs.declared.Inserted.the-variants.{Names, Full}
+use Rattle.listing.specs.Listing.{places}
 use Rattle.listing.specs.Inserting.{bearsOf}
 
--- a mark is made with the factor, and is below the limit
+-- a mark has 64 bits: its lower half is multiplied by the factor, and its upper half is added
 abbrev pub factor : ℕ
-factor = 31
+factor = 4294957665
 
-abbrev pub limit : ℕ
-limit = 4294967296
+abbrev pub half : ℕ
+half = 4294967296
+
+-- a mark is in the bucket that it leaves as a remainder
+abbrev pub buckets : ℕ
+buckets = 256
 
 -- the mark of bytes, from m on
 unfoldable pub markFrom : ℕ → List ℕ → ℕ
 markFrom m [] = m
-markFrom m (b ∷ s) = markFrom ((m * factor + b) % limit) s
+markFrom m (b ∷ s) = markFrom (m % half * factor + m / half + b) s
 
 -- the mark of a name
 abbrev pub markOf : List ℕ → ℕ
 markOf s = markFrom 0 s
 
--- each of the first count places is there, and has the mark of whatever name its card bears
-pub record Marked (h first marks : List ℕ) (count : ℕ) : Type 0 where
-  pub in-first : count ≤ length first
-  pub in-marks : count ≤ length marks
+-- the card with number i bears no other name
+pub record Bears (h : List ℕ) (i : ℕ) (name : List ℕ) : Type 0 where
+  pub only : (other : List ℕ) → bearsOf h i other ≡ true → other ≡ name
+
+-- how many names there are then
+abbrev pub namesIn : Inserted → ℕ
+namesIn (Names n) = n
+namesIn Full = 0
+
+-- the end of the last place, of the first n, whose mark is in bucket b: 0 where there is none
+unfoldable pub lastIn : List ℕ → ℕ → ℕ → ℕ
+lastIn marks b zero = 0
+lastIn marks b (suc n) = cond (eqb (getD marks n 0 % buckets) b) (suc n) (lastIn marks b n)
+
+-- the first count places of a table, found by the marks of their names
+pub record Marked (h first marks heads links : List ℕ) (count : ℕ) : Type 0 where
+  pub few : count ≤ places
+  pub first-long : length first ≡ places
+  pub marks-long : length marks ≡ places
+  pub heads-long : length heads ≡ buckets
+  pub links-long : length links ≡ places
+  -- a place has the mark of whatever name its card bears
   pub each : (k : ℕ) → k < count → (name : List ℕ) → bearsOf h (getD first k 0) name ≡ true → getD marks k 0 ≡ markOf name
+  -- no two bear one name
+  pub alone : (k : ℕ) → k < count → (name : List ℕ) → bearsOf h (getD first k 0) name ≡ true → (j : ℕ) → j < k → bearsOf h (getD first j 0) name ≡ false
+  -- a bucket leads to its last place, and a place to the one before it in its bucket
+  pub head : (b : ℕ) → b < buckets → getD heads b 0 ≡ lastIn marks b count
+  pub link : (k : ℕ) → k < count → getD links k 0 ≡ lastIn marks (getD marks k 0 % buckets) k

@@ -1,15 +1,18 @@
 // The names of a header in the order of their first cards, each with its last entry.
 ghost use mathlib.Core.Path.{_≡_};
-ghost use Prim.Native.Nat.{_+_, _*_, _/_, _≤_, _<_};
-ghost use lib.ListN.{length, take, drop, getD};
-ghost use Rattle.listing.specs.Listing.{empty, tabled, listOf, placeOfEntry};
+ghost use Prim.Native.Nat.{_+_, _*_, _/_, _<_};
+ghost use lib.ListN.{length, take};
+ghost use Rattle.text.specs.Text.{bytesOf};
+ghost use Rattle.listing.specs.Listing.{places, empty, tabled, listOf, placeOfEntry};
 ghost use Rattle.listing.specs.Inserting.{bearsOf, placeBy, insertAt, insertOf};
-ghost use Rattle.listing.specs.Marks.{markOf, Marked};
+ghost use Rattle.listing.specs.Marks.{markOf, Bears, namesIn, Marked};
 use header::Header;
 use header::Looked;
+use parts::Part;
 use refusal::Refusal;
 use text::Cut;
 use text::Place;
+use text::Text;
 
 // A header's answer, and its names: for each place the number of the first card that bears the name, and of the last. The places
 // behind the names are free.
@@ -35,47 +38,68 @@ const CARD: usize = 80;
 // The bytes of a keyword.
 const KEYWORD: usize = 8;
 
-// The mark of a name is a number below MARK_LIMIT, made with MARK_FACTOR of its bytes.
-const MARK_FACTOR: usize = 31;
+// The mark of a name is a number of 64 bits: for each byte its lower half is multiplied by MARK_FACTOR, and its upper half is added.
+const MARK_FACTOR: usize = 4294957665;
 
-const MARK_LIMIT: usize = 4294967296;
+const MARK_HALF: usize = 4294967296;
 
-// The names of a header, in the order of their first cards. Each place has the mark of its name, which is compared first.
+// A mark is in one of so many buckets, by its remainder.
+const BUCKETS: usize = 256;
+
+// The names of a header, in the order of their first cards: each card is read once.
 pub fn list(header: &[u8]) -> Listing
     ensures { λ r. ⌜ r ≡ listOf (now (header .entry)) ⌝ }
 {
-    let answer = header::read_header(header);
-    let Header::Accepted(end) = answer else {
-        return free_listing(answer);
-    };
+    let cards = parts::card_count(header);
+    if cards == 0 {
+        return refused(Refusal::HeaderLength, 0);
+    }
     let mut first = [FREE; 720];
     let mut last = [FREE; 720];
     let mut marks: [usize; 720] = [0; 720];
+    let mut heads: [usize; 256] = [0; 256];
+    let mut links: [usize; 720] = [0; 720];
     let mut count: usize = 0;
     let mut i: usize = 0;
-    'cards: while i < end {
-        let entry = header::entry_name(header, i);
-        let name = entry.name;
-        let bytes = name.bytes;
-        let number = i;
-        i += 1;
-        if entry.there {
-            let own = text::first_of(&bytes, name.len);
-            let sought = mark(own);
-            let place = find_marked(header, own, sought, &first, &marks, count);
-            marks[count] = sought;
-            let Inserted::Names(n) = insert_at(place, number, count, &mut first, &mut last) else {
-                return free_listing(Header::Refused(Refusal::TableFull, number));
-            };
-            count = n;
+    'cards: while i < cards {
+        let named = parts::named_at(header, i);
+        let part = named.part;
+        let name = named.name;
+        match part {
+            Part::Refused(why) => {
+                return refused(why, i);
+            }
+            Part::Last => {
+                return Listing {
+                    header: Header::Accepted(i),
+                    first: first,
+                    last: last,
+                    count: count,
+                };
+            }
+            Part::Entry => {
+                let Inserted::Names(n) = enter(
+                    header,
+                    name,
+                    i,
+                    count,
+                    &mut first,
+                    &mut last,
+                    &mut marks,
+                    &mut heads,
+                    &mut links,
+                ) else {
+                    return refused(Refusal::TableFull, i);
+                };
+                count = n;
+                i += 1;
+            }
+            Part::Other => {
+                i += 1;
+            }
         }
     }
-    Listing {
-        header: answer,
-        first: first,
-        last: last,
-        count: count,
-    }
+    refused(Refusal::NoEnd, cards)
 }
 
 // The entry at a place of a listing's last entries, joined and read into the lent buffers. A place that the listing lacks is free.
@@ -113,12 +137,12 @@ pub fn insert(
     insert_at(place, i, count, first, last)
 }
 
-// A listing with no names.
-fn free_listing(header: Header) -> Listing
-    ensures { λ r. ⌜ r ≡ tabled header empty ⌝ }
+// The listing of a refused header: all places are free.
+fn refused(why: Refusal, i: usize) -> Listing
+    ensures { λ r. ⌜ r ≡ tabled (Header.Refused why i) empty ⌝ }
 {
     Listing {
-        header: header,
+        header: Header::Refused(why, i),
         first: [FREE; 720],
         last: [FREE; 720],
         count: 0,
@@ -133,7 +157,7 @@ fn bears(header: &[u8], i: usize, name: &[u8]) -> bool
         let at = i * CARD;
         let word = text::trimmed(text::first_of(&header[at..], KEYWORD), Cut::Blanks);
         if text::same_bytes(word, b"HIERARCH") {
-            let own = header::entry_name(header, i);
+            let own = parts::named_at(header, i);
             let dotted = own.name;
             let bytes = dotted.bytes;
             return text::same_bytes(text::first_of(&bytes, dotted.len), name);
@@ -196,33 +220,73 @@ fn mark(name: &[u8]) -> usize
     let mut m: usize = 0;
     let mut k: usize = 0;
     while k < name.len() {
-        m = (m * MARK_FACTOR + name[k] as usize) % MARK_LIMIT;
+        m = m % MARK_HALF * MARK_FACTOR + m / MARK_HALF + name[k] as usize;
         k += 1;
     }
     m
 }
 
-// The place among the first count whose card bears the name, by the marks: only where the mark is the name's is the card asked.
+// The entry of card i put into a table whose places are found by their marks. A new name's place is the last of its bucket.
+fn enter(
+    header: &[u8],
+    text: Text,
+    i: usize,
+    count: usize,
+    first: &mut [usize],
+    last: &mut [usize],
+    marks: &mut [usize],
+    heads: &mut [usize],
+    links: &mut [usize],
+) -> Inserted
+    requires { ⌜ Bears (now header) i (bytesOf text) ⌝ }
+    requires { ⌜ Marked (now header) (now first) (now marks) (now heads) (now links) count ⌝ }
+    requires { ⌜ (length (now last) ≡ places) × (count < places) ⌝ }
+    ensures { λ r. ⌜ r ≡ insertOf (now (header .entry)) (bytesOf text) i count (now (first .entry)) (now (last .entry)) .answer ⌝ }
+    ensures { λ _. ⌜ now (first .exit) ≡ insertOf (now (header .entry)) (bytesOf text) i count (now (first .entry)) (now (last .entry)) .first ⌝ }
+    ensures { λ _. ⌜ now (last .exit) ≡ insertOf (now (header .entry)) (bytesOf text) i count (now (first .entry)) (now (last .entry)) .last ⌝ }
+    ensures { λ r. ⌜ Marked (now (header .entry)) (now (first .exit)) (now (marks .exit)) (now (heads .exit)) (now (links .exit)) (namesIn r) ⌝ }
+{
+    let bytes = text.bytes;
+    let name = text::first_of(&bytes, text.len);
+    let sought = mark(name);
+    let place = find_marked(header, name, sought, first, marks, heads, links, count);
+    let answer = insert_at(place, i, count, first, last);
+    let Place::Nowhere = place else {
+        return answer;
+    };
+    let bucket = sought % BUCKETS;
+    marks[count] = sought;
+    links[count] = heads[bucket];
+    heads[bucket] = count + 1;
+    answer
+}
+
+// The place among the first count whose card bears the name: of its bucket, from the last place on, only where the mark is the name's
+// is the card asked. A place is told by its end, and 0 is none.
 fn find_marked(
     header: &[u8],
     name: &[u8],
     sought: usize,
     first: &[usize],
     marks: &[usize],
+    heads: &[usize],
+    links: &[usize],
     count: usize,
 ) -> Place
     requires { ⌜ sought ≡ markOf (now name) ⌝ }
-    requires { ⌜ Marked (now header) (now first) (now marks) count ⌝ }
+    requires { ⌜ Marked (now header) (now first) (now marks) (now heads) (now links) count ⌝ }
     ensures { λ r. ⌜ r ≡ placeBy (now (header .entry)) (now (name .entry)) (take count (now (first .entry))) 0 ⌝ }
 {
-    let mut k: usize = 0;
-    while k < count {
+    let bucket = sought % BUCKETS;
+    let mut end = heads[bucket];
+    while 0 < end {
+        let k = end - 1;
         if marks[k] == sought {
             if bears(header, first[k], name) {
                 return Place::At(k);
             }
         }
-        k += 1;
+        end = links[k];
     }
     Place::Nowhere
 }

@@ -14,11 +14,11 @@ use Rattle.joining.specs.Roles.{Held, Role, commentOf, hasDigits, heldOf}
 use Rattle.joining.specs.Lookup.{joinOn, whole}
 use Rattle.header.specs.declared.Kind.{Kind}
 use Rattle.header.specs.declared.Kind.the-variants.{Entry}
-use Rattle.header.specs.declared.Part.{Part}
-use Rattle.header.specs.Reading.{rolesOf}
+use Rattle.header.specs.declared.Content.{Content}
+use Rattle.parts.specs.Cards.{rolesOf}
 use Rattle.header.specs.Answers.{given, entryHead}
 use Rattle.header.specs.Passes.{kindOf, wordsOf, roleNo, Wrote, WroteAt, leaves, answerBy}
-use Rattle.header.proofs.Cards.{cardNo}
+use Rattle.parts.proofs.Cards.{cardNo}
 use Rattle.header.proofs.Playing.{roleAs, role-kind}
 use Rattle.header.proofs.Telling.{gives-none}
 use Rattle.header.proofs.Looking.{head-kind}
@@ -29,21 +29,21 @@ use borrow.Author.Needs.{needs}
 use Rattle.header.proofs.entry_at.Statement.{statement}
 use Rattle.header.proofs.entry_at.Tie as tie
 
-abbrev start : tie.After-part-at → tie.Start
+abbrev start : tie.After-content-at → tie.Start
 start c = c .before .before .before .before
 
-abbrev card : tie.After-part-at → CardRead
+abbrev card : tie.After-content-at → CardRead
 card c = cardOf (cardNo (start c .args .header .now) (start c .args .i))
 
 -- the cards behind it
-abbrev rest : tie.After-part-at → List Role
+abbrev rest : tie.After-content-at → List Role
 rest c = drop (start c .args .i + 1) (rolesOf (start c .args .header .now))
 
 -- the kind that is known gives the entry
-kind-is : (c : tie.After-part-at) (k : Kind) → c .part-at .result .kind ≡ k → kindOf (card c .answer) ≡ k
-kind-is c k e = sym (ap (λ (p : Part). p .kind) (c .part-at .ensures)) ∙ e
+kind-is : (c : tie.After-content-at) (k : Kind) → c .content-at .result .kind ≡ k → kindOf (card c .answer) ≡ k
+kind-is c k e = sym (ap (λ (p : Content). p .kind) (c .content-at .ensures)) ∙ e
 
-by : (c : tie.After-part-at) (k : Kind) → c .part-at .result .kind ≡ k
+by : (c : tie.After-content-at) (k : Kind) → c .content-at .result .kind ≡ k
     → let a = start c .args in given (entryHead (roleAs k (card c) ∷ rest c)) (a .text .now) (a .comment .now) ≡ given (entryHead (drop (a .i) (rolesOf (a .header .now)))) (a .text .now) (a .comment .now)
 by c k e =
     let a = start c .args in
@@ -63,28 +63,28 @@ words-are : (c : tie.After-kind)
 words-are c = ap wordsOf (role-kind (card (c .before .before)) (Entry (value c) (joins c)) (entry-is c))
 
 -- the words by what was read of the card
-own-words : (c : tie.After-kind) → let a = start (c .before .before) .args in wordsOf (roleNo (a .header .now) (a .i)) ≡ wordsIn (value c) (joins c) (c .before .before .part-at .result)
-own-words c = words-are c ∙ ap (wordsIn (value c) (joins c)) (sym (c .before .before .part-at .ensures))
+own-words : (c : tie.After-kind) → let a = start (c .before .before) .args in wordsOf (roleNo (a .header .now) (a .i)) ≡ wordsIn (value c) (joins c) (c .before .before .content-at .result)
+own-words c = words-are c ∙ ap (wordsIn (value c) (joins c)) (sym (c .before .before .content-at .ensures))
 
-open-is : (c : tie.After-is-open) → (joins (c .before .before .before) && endsOpen (bytesOf (c .before .before .before .before .before .part-at .result .text))) ≡ c .is-open .result
+open-is : (c : tie.After-is-open) → (joins (c .before .before .before) && endsOpen (bytesOf (c .before .before .before .before .before .content-at .result .text))) ≡ c .is-open .result
 open-is c = sym (c .is-open .ensures)
 
 -- what was written gives the answer
 answered : (c : tie.After-kind) (r : Looked) (put : Written) {text₁ comment₁ : List ℕ}
     → let part = c .before .before in let a = start part .args in
-    r ≡ answerBy (value c) (part .part-at .result .text) put → WroteAt (a .header .now) (a .i) put (a .text .now) (a .comment .now) text₁ comment₁
+    r ≡ answerBy (value c) (part .content-at .result .text) put → WroteAt (a .header .now) (a .i) put (a .text .now) (a .comment .now) text₁ comment₁
     → leaves r text₁ comment₁ ≡ given (entryHead (drop (a .i) (rolesOf (a .header .now)))) (a .text .now) (a .comment .now)
 answered c r put {text₁} {comment₁} e W =
     let part = c .before .before in
     let a = start part .args in
     (λ j. leaves (e j) text₁ comment₁)
-    ∙ wrote (whole (heldOf (value c) (joins c) (card part)) (rest part)) (part .part-at .result .text) put (a .text .now) (a .comment .now) text₁ comment₁
-    (ap (λ (p : Part). cond (hasDigits (value c)) (bytesOf (p .text)) []) (sym (part .part-at .ensures)))
+    ∙ wrote (whole (heldOf (value c) (joins c) (card part)) (rest part)) (part .content-at .result .text) put (a .text .now) (a .comment .now) text₁ comment₁
+    (ap (λ (p : Content). cond (hasDigits (value c)) (bytesOf (p .text)) []) (sym (part .content-at .ensures)))
     (subst (λ (w : Words). Wrote (joinOn w (rest part) .text) (joinOn w (rest part) .comment) put (a .text .now) (a .comment .now) text₁ comment₁) (words-are c) W)
     ∙ by part (Entry (value c) (joins c)) (c .kind .given .1)
 
-part-at-requires : tie.Need-part-at-requires
-part-at-requires c κs = search needs
+content-at-requires : tie.Need-content-at-requires
+content-at-requires c κs = search needs
 
 enum-known-kind : tie.Need-enum-known-kind
 enum-known-kind c = search needs
@@ -96,7 +96,7 @@ returns : tie.Need-returns
 returns c =
     let part = c .before .before in
     let a = start part .args in
-    let kind = part .part-at .result .kind in
+    let kind = part .content-at .result .kind in
     (λ j. leaves (c .not-found .ensures j) (a .text .now) (a .comment .now))
     ∙ ap (λ (v : Option Held). given v (a .text .now) (a .comment .now)) (gives-none (card part) kind (c .before .match .keys2) (rest part))
     ∙ by part kind refl
@@ -110,7 +110,7 @@ write-joined-requires c κs =
     let kind = test .before .before .before .before in
     let part = kind .before .before in
     let s = start part in
-    (s .pre .0, s .pre .1, ap opens (own-words kind) ∙ own-open (value kind) (joins kind) (part .part-at .result) (joins-text (card part .answer) (value kind) (joins kind) (entry-is kind)) (open-is (test .before) ∙ test .if1 .taken))
+    (s .pre .0, s .pre .1, ap opens (own-words kind) ∙ own-open (value kind) (joins kind) (part .content-at .result) (joins-text (card part .answer) (value kind) (joins kind) (entry-is kind)) (open-is (test .before) ∙ test .if1 .taken))
 
 answer-of-requires : tie.Need-answer-of-requires
 answer-of-requires c κs = search needs
@@ -149,7 +149,7 @@ returns-3 c =
     let kind = test .before .before .before .before in
     let part = kind .before .before in
     let a = start part .args in
-    let p = part .part-at .result in
+    let p = part .content-at .result in
     let text₁ = put .write-own .last .1 .1 .0 in
     let comment₁ = put .write-own .last .1 .1 .1 .0 in
     answered kind (c .answer-of2 .result) (put .write-own .result) (c .answer-of2 .ensures)
@@ -161,7 +161,7 @@ pub entry-at-spec : {M : Type 1} → statement M
 entry-at-spec =
     tie.close
     (tie.spec
-    part-at-requires
+    content-at-requires
     enum-known-kind
     not-found-requires
     returns

@@ -12,9 +12,9 @@ use Rattle.card.specs.Cards.{cardOf}
 use Rattle.joining.specs.Roles.{Role}
 use Rattle.header.specs.declared.Kind.{Kind}
 use Rattle.header.specs.declared.Kind.the-variants.{More, Neutral}
-use Rattle.header.specs.declared.Part.{Part}
+use Rattle.header.specs.declared.Content.{Content}
 use Rattle.header.specs.Passes.{roleFrom, moreOf, Stepped}
-use Rattle.header.proofs.Cards.{cardNo}
+use Rattle.parts.proofs.Cards.{cardNo}
 use Rattle.header.proofs.Playing.{roleAs}
 use Rattle.header.proofs.Joining.{stopped, passed, ended, role-at, with-comment, with-none}
 use borrow.Author.Needs.{needs}
@@ -30,15 +30,15 @@ card c = cardOf (cardNo (start c .args .header .now) (start c .args .j))
 -- the role of the card, by its kind
 role-is : (c : tie.After-kind-at) (k : Kind) → c .kind-at .result ≡ k → roleAs k (card c) ≡ roleFrom (start c .args .first) (start c .args .header .now) (start c .args .j)
 role-is c k e =
-    ap (λ (x : Kind). roleAs x (card c)) (sym e ∙ c .kind-at .ensures ∙ ap (λ (p : Part). cond (start c .args .first) More (p .kind)) (c .before .part-at .ensures))
+    ap (λ (x : Kind). roleAs x (card c)) (sym e ∙ c .kind-at .ensures ∙ ap (λ (p : Content). cond (start c .args .first) More (p .kind)) (c .before .content-at .ensures))
     ∙ role-at (start c .args .first) (card c)
 
 abbrev at : tie.After-join-text → tie.After-kind-at
 at c = c .before .before .before .before .before
 
 more-is : (c : tie.After-join-text)
-    → let a = start (at c) .args in moreOf (at c .before .part-at .result) ≡ roleFrom (a .first) (a .header .now) (a .j)
-more-is c = ap moreOf (at c .before .part-at .ensures) ∙ role-is (at c) More (c .before .before .before .enum-told .given .1)
+    → let a = start (at c) .args in moreOf (at c .before .content-at .result) ≡ roleFrom (a .first) (a .header .now) (a .j)
+more-is c = ap moreOf (at c .before .content-at .ensures) ∙ role-is (at c) More (c .before .before .before .enum-told .given .1)
 
 within : (c : tie.After-join-text) → c .join-text .result ≤ length (c .join-text .last .0)
 within c =
@@ -46,11 +46,11 @@ within c =
     let same : length (c .join-text .last .0) ≡ length (s .args .texts .now) = search needs in
     omega (arith, c .join-text .ensures .1, s .pre .1 .text)
 
-array : (c : tie.After-part-at) → length (c .part-at .result .comment .bytes) ≡ size
+array : (c : tie.After-content-at) → length (c .content-at .result .comment .bytes) ≡ size
 array c = search needs
 
-part-at-requires : tie.Need-part-at-requires
-part-at-requires c κs = search needs
+content-at-requires : tie.Need-content-at-requires
+content-at-requires c κs = search needs
 
 kind-at-requires : tie.Need-kind-at-requires
 kind-at-requires c κs = search needs
@@ -106,7 +106,7 @@ returns-3 c =
     let o = test .before in
     let j = o .before .before .before .before in
     let a = start (at j) .args in
-    let part = at j .before .part-at .result in
+    let part = at j .before .content-at .result in
     subst (λ (x : Role). Stepped x (a .held) (record { text = j .join-text .result; comment = m .join-comment .result; commented = true; going = o .ends-open .result }) (a .texts .now) (a .comments .now) (j .join-text .last .0) (m .join-comment .last .0))
     (more-is j)
     (with-comment (bytesOf (part .text)) (bytesOf (part .comment)) (a .held) (j .join-text .ensures .0) (within j) (j .join-text .ensures .1) (o .ends-open .ensures) (test .if1 .taken) (bytes-fit (part .comment) (array (at j .before))) (m .join-comment .ensures .0) (m .join-comment .ensures .1))
@@ -119,7 +119,7 @@ returns-4 c =
     let o = c .before in
     let j = o .before .before .before .before in
     let a = start (at j) .args in
-    let part = at j .before .part-at .result in
+    let part = at j .before .content-at .result in
     subst (λ (x : Role). Stepped x (a .held) (record { text = j .join-text .result; comment = a .held .comment; commented = a .held .commented; going = o .ends-open .result }) (a .texts .now) (a .comments .now) (j .join-text .last .0) (a .comments .now))
     (more-is j) (with-none (bytesOf (part .text)) (bytesOf (part .comment)) (a .held) (j .join-text .ensures .0) (within j) (j .join-text .ensures .1) (o .ends-open .ensures) (c .if1 .left))
 
@@ -127,7 +127,7 @@ pub join-card-spec : {M : Type 1} → statement M
 join-card-spec =
     tie.close
     (tie.spec
-    part-at-requires
+    content-at-requires
     kind-at-requires
     enum-told
     enum-told-2

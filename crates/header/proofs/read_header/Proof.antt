@@ -6,7 +6,8 @@ use Rattle.joining.specs.Roles.{Role}
 use Rattle.header.specs.declared.Header.{Header}
 use Rattle.header.specs.declared.Header.the-variants.{Accepted, Refused}
 use Rattle.header.specs.declared.Scan.{Scan}
-use Rattle.header.specs.Reading.{rolesOf, headerOf}
+use Rattle.parts.specs.Cards.{rolesOf}
+use Rattle.header.specs.Reading.{headerOf}
 use Rattle.header.proofs.Looking.{scan-header}
 use borrow.Author.Needs.{needs}
 use Rattle.header.proofs.read_header.Statement.{statement}

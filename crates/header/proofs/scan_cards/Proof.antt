@@ -8,7 +8,8 @@ use lib.ListN.{length}
 use borrow.Author.Needs.{needs}
 use Rattle.refusal.specs.declared.Refusal.{Refusal}
 use Rattle.card.specs.declared.CardAnswer.{CardAnswer}
-use Rattle.header.specs.Reading.{isBadLength}
+use Rattle.parts.specs.Cards.{isBadLength}
+use Rattle.parts.proofs.Parts.{card-here}
 use Rattle.header.specs.Passes.{refusalIn, refusedScan}
 use Rattle.header.proofs.Scanning.{Reached, start, bad-scan, at-end, on-refused, on-end, on-more}
 use Rattle.header.proofs.scan_cards.Statement.{statement}
@@ -64,7 +65,7 @@ returns-2 c =
     c .refused-scan2 .ensures
     ∙ ap (λ (w : Refusal). refusedScan w (at-loop .loop .i)) (c .before .refusal-in .ensures)
     ∙ ap (λ (a : CardAnswer). refusedScan (refusalIn a) (at-loop .loop .i)) (told .enum-told .given .1)
-    ∙ on-refused (at-loop .loop .inv) (good-length (at-loop .before)) (read .before .loop-test .taken) (read .card-at .result) (read .card-at .ensures) (told .enum-told .given .0 .0) (told .enum-told .given .1)
+    ∙ on-refused (at-loop .loop .inv) (good-length (at-loop .before)) (read .before .loop-test .taken) (read .card-at .result) (read .card-at .ensures ∙ card-here _ _ (read .before .loop-test .taken)) (told .enum-told .given .0 .0) (told .enum-told .given .1)
 
 is-end-requires : tie.Need-is-end-requires Inv-loop μ-loop
 is-end-requires c κs = search needs
@@ -74,7 +75,7 @@ returns-3 c =
     let answer = c .before .before .before in
     let read = answer .before .before in
     let at-loop = read .before .before in
-    on-end (at-loop .loop .inv) (good-length (at-loop .before)) (read .before .loop-test .taken) (read .card-at .result) (read .card-at .ensures) (answer .answer .given .0 .0) (answer .answer .given .1) (sym (c .before .is-end .ensures) ∙ c .if2 .taken)
+    on-end (at-loop .loop .inv) (good-length (at-loop .before)) (read .before .loop-test .taken) (read .card-at .result) (read .card-at .ensures ∙ card-here _ _ (read .before .loop-test .taken)) (answer .answer .given .0 .0) (answer .answer .given .1) (sym (c .before .is-end .ensures) ∙ c .if2 .taken)
 
 found-at-requires : tie.Need-found-at-requires Inv-loop μ-loop
 found-at-requires c κs = search needs
@@ -90,7 +91,7 @@ loop-again c =
     let answer = c .before .before .before .before in
     let read = answer .before .before in
     let at-loop = read .before .before in
-    on-more (at-loop .loop .inv) (good-length (at-loop .before)) (read .before .loop-test .taken) (read .card-at .result) (read .card-at .ensures) (answer .answer .given .0 .0) (answer .answer .given .1) (sym (c .before .before .is-end .ensures) ∙ c .before .if2 .left) (c .found-at .result) (c .found-at .ensures)
+    on-more (at-loop .loop .inv) (good-length (at-loop .before)) (read .before .loop-test .taken) (read .card-at .result) (read .card-at .ensures ∙ card-here _ _ (read .before .loop-test .taken)) (answer .answer .given .0 .0) (answer .answer .given .1) (sym (c .before .before .is-end .ensures) ∙ c .before .if2 .left) (c .found-at .result) (c .found-at .ensures)
 
 refused-scan-requires-3 : tie.Need-refused-scan-requires-3 Inv-loop μ-loop
 refused-scan-requires-3 c κs = search needs

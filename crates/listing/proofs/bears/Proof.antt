@@ -2,22 +2,16 @@
 use Prim.Native.Nat.{ℕ, _*_}
 use mathlib.Core.Path.{_≡_, sym, ap, _∙_}
 use mathlib.Core.List.{List}
-use lib.ListN.{length, take, drop, getD}
+use lib.ListN.{take, drop}
 use lib.Seq.{take-take}
 use native.Mathlib.Omega.{arith}
-use Rattle.text.specs.declared.Text.{Text}
 use Rattle.text.specs.Bytes.{ascii, isBlank}
 use Rattle.text.specs.Trim.{trim}
 use Rattle.text.specs.Same.{same}
-use Rattle.text.specs.Text.{textOf, bytesOf}
+use Rattle.text.specs.Text.{bytesOf}
 use Rattle.text.proofs.Trimming.{take-rest}
-use Rattle.text.proofs.Texts.{bytes-text}
 use Rattle.card.specs.Keywords.{keywordOf}
-use Rattle.joining.specs.Roles.{neutral}
-use Rattle.header.specs.declared.EntryName.{EntryName}
-use Rattle.header.specs.Reading.{rolesOf}
-use Rattle.header.specs.Answers.{entryNameOf}
-use Rattle.listing.specs.Listing.{nameOf}
+use Rattle.parts.specs.declared.Named.{Named}
 use Rattle.listing.proofs.Bearing.{name-told, bears-past, bears-dotted, bears-plain}
 use borrow.Author.Needs.{needs}
 use Rattle.listing.proofs.bears.Statement.{statement}
@@ -62,8 +56,8 @@ slice-aggregate-same-bytes c = search needs
 same-bytes-requires : tie.Need-same-bytes-requires
 same-bytes-requires c κs = search needs
 
-entry-name-requires : tie.Need-entry-name-requires
-entry-name-requires c κs = search needs
+named-at-requires : tie.Need-named-at-requires
+named-at-requires c κs = search needs
 
 slice-aggregate-first-of : tie.Need-slice-aggregate-first-of
 slice-aggregate-first-of c = search needs
@@ -82,7 +76,7 @@ returns c =
     let a = start inside .args in
     let h = a .header .now in
     c .same-bytes2 .ensures
-    ∙ ap (λ (l : List ℕ). same l (a .name .now)) (c .before .first-of2 .ensures ∙ ap (λ (e : EntryName). bytesOf (e .name)) (own .entry-name .ensures) ∙ ap bytesOf (name-told (getD (rolesOf h) (a .i) neutral)) ∙ bytes-text (nameOf (getD (rolesOf h) (a .i) neutral)))
+    ∙ ap (λ (l : List ℕ). same l (a .name .now)) (c .before .first-of2 .ensures ∙ ap (λ (n : Named). bytesOf (n .name)) (own .named-at .ensures) ∙ name-told h (a .i) (inside .if1 .taken))
     ∙ bears-dotted h (a .i) (a .name .now) (inside .if1 .taken) (sym (dotted-so test) ∙ own .before .if2 .taken)
 
 same-bytes-requires-3 : tie.Need-same-bytes-requires-3
@@ -112,7 +106,7 @@ bears-spec =
     trimmed-requires
     slice-aggregate-same-bytes
     same-bytes-requires
-    entry-name-requires
+    named-at-requires
     slice-aggregate-first-of
     first-of-requires-2
     same-bytes-requires-2

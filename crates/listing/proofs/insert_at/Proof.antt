@@ -1,14 +1,15 @@
 -- `listing::insert_at` meets its contract: by the place.
-use Prim.Native.Nat.{ℕ, _+_, _<_, _≤_}
+use Prim.Native.Nat.{ℕ, _<_, _≤_}
 use mathlib.Core.Path.{_≡_, sym, ap, _∙_}
 use mathlib.Core.List.{List}
 use borrow.Author.Tests.{lt-ltb, le-ltb}
-use lib.ListN.{length, set}
+use lib.ListN.{length}
 use lib.Seq.{set-out}
 use Rattle.text.specs.declared.Place.{Place}
 use Rattle.text.specs.declared.Place.the-variants.{At, Nowhere}
-use Rattle.listing.specs.declared.Inserted.the-variants.{Names, Full}
+use Rattle.listing.specs.declared.Inserted.the-variants.{Full}
 use Rattle.listing.specs.Inserting.{Insertion, insertAt}
+use Rattle.listing.proofs.Bearing.{put-behind}
 use borrow.Author.Needs.{needs}
 use Rattle.listing.proofs.insert_at.Statement.{statement}
 use Rattle.listing.proofs.insert_at.Tie as tie
@@ -18,9 +19,6 @@ by : (c : tie.Start) (p : Place) → c .args .place ≡ p → let a = c .args in
 by c p e = let a = c .args in ap (λ (q : Place). insertAt q (a .i) (a .count) (a .first .now) (a .last .now)) (sym e)
 
 module _ (i count : ℕ) (first last : List ℕ) where
-  room : count < length first → count < length last → _≡_ {A = Insertion} (record { answer = Names (count + 1); first = set first count i; last = set last count i }) (insertAt Nowhere i count first last)
-  room p q = rw (lt-ltb count (length first) p, lt-ltb count (length last) q)
-
   none-behind : count < length first → length last ≤ count → _≡_ {A = Insertion} (record { answer = Full; first = first; last = last }) (insertAt Nowhere i count first last)
   none-behind p q = rw (lt-ltb count (length first) p, le-ltb count (length last) q)
 
@@ -64,7 +62,7 @@ returns : tie.Need-returns
 returns c =
     let told = c .before .before in
     let a = told .before .before .args in
-    let o = room (a .i) (a .count) (a .first .now) (a .last .now) (c .before .if2 .taken) (c .if3 .taken) ∙ by (told .before .before) Nowhere (told .enum-told .given .1) in
+    let o = put-behind (a .i) (a .count) (a .first .now) (a .last .now) (c .before .if2 .taken) (c .if3 .taken) ∙ by (told .before .before) Nowhere (told .enum-told .given .1) in
     (ap (λ (x : Insertion). x .answer) o, (ap (λ (x : Insertion). x .first) o, ap (λ (x : Insertion). x .last) o))
 
 same-length-3 : tie.Need-same-length-3

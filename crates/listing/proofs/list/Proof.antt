@@ -1,178 +1,173 @@
 -- `listing::list` meets its contract: the table so far, with what is left of the cards, gives the whole.
-use Prim.Native.Nat.{ℕ, _-_, _+_, _<_}
+use Prim.Native.Nat.{ℕ, _-_, _+_, _/_, _<_}
 use native.Mathlib.Omega.{arith}
 use mathlib.Core.Path.{_≡_, refl, sym, ap, subst, _∙_}
-use mathlib.Core.Bool.{true}
+use mathlib.Core.Bool.{false}
 use mathlib.Core.List.{List}
-use lib.ListN.{getD, set, take}
-use Rattle.text.specs.declared.Place.{Place}
-use Rattle.text.specs.Text.{bytesOf}
-use Rattle.text.proofs.Texts.{bytes-text}
-use Rattle.joining.specs.Roles.{Role, neutral}
-use Rattle.header.specs.declared.EntryName.{EntryName}
-use Rattle.header.specs.Answers.{entryNameOf}
+use lib.ListN.{length}
 use borrow.Author.Needs.{needs}
-use Rattle.header.specs.declared.Header.{Header}
+use Rattle.refusal.specs.Numbers.{refusal}
+use Rattle.text.specs.Text.{bytesOf}
 use Rattle.header.specs.declared.Header.the-variants.{Accepted, Refused}
-use Rattle.header.specs.Reading.{rolesOf, headerOf}
-use Rattle.listing.specs.Listing.{Listed, listed, nameOf, byListed, byHeader, tabled, empty, listOf}
-use Rattle.listing.specs.Inserting.{placeBy, Insertion, insertAt, insertOf}
-use Rattle.listing.specs.Marks.{markOf}
-use Rattle.listing.proofs.Bearing.{name-told}
-use Rattle.listing.proofs.Placing.{Standing, start, first-long, last-long, room, at-end, on-other, Next, on-entry}
+use Rattle.parts.specs.declared.Part.{Part}
+use Rattle.parts.specs.declared.Part.the-variants.{Refused as Refused-card, Last, Entry, Other}
+use Rattle.parts.specs.declared.Named.{Named}
+use Rattle.parts.specs.Cards.{isBadLength}
+use Rattle.parts.specs.Named.{namedOf}
+use Rattle.parts.proofs.Parts.{count-none, count-some, count-is}
+use Rattle.listing.specs.Listing.{tabled, empty}
+use Rattle.listing.specs.Inserting.{Insertion, insertOf}
+use Rattle.listing.specs.Marks.{Bears}
+use Rattle.listing.proofs.Marking.{marked-none}
+use Rattle.listing.proofs.Placing.{Standing, start, refused-length, last-long, room, at-end, on-refused, on-last, on-other, bears-own, Next, on-entry}
 use Rattle.listing.proofs.list.Statement.{statement}
 use Rattle.listing.proofs.list.Tie as tie
 
 abbrev Inv-cards : tie.InvT-cards
-Inv-cards header answer end first₀ last₀ marks₀ count₀ i₀ first last marks count i = Standing header end first last marks count i
+Inv-cards header cards first₀ last₀ marks₀ heads₀ links₀ count₀ i₀ first last marks heads links count i = Standing header first last marks heads links count i
 
 abbrev μ-cards : tie.MeasureT-cards
-μ-cards header answer end first₀ last₀ marks₀ count₀ i₀ first last marks count i = end - i
+μ-cards header cards first₀ last₀ marks₀ heads₀ links₀ count₀ i₀ first last marks heads links count i = cards - i
 
--- by what the header is
-by-header : (c : tie.After-read-header Inv-cards μ-cards) (x : Header) → c .read-header .result ≡ x → let h = c .before .before .args .header .now in byHeader x (rolesOf h) ≡ listOf h
-unfolding listOf
-by-header c x e = ap (λ (y : Header). byHeader y (rolesOf (c .before .before .args .header .now))) (sym e ∙ c .read-header .ensures)
+-- the number of cards
+abbrev counted : tie.At-cards Inv-cards μ-cards → tie.After-card-count Inv-cards μ-cards
+counted c = c .before .before
 
 abbrev header : tie.At-cards Inv-cards μ-cards → List ℕ
-header c = c .before .before .before .before .before .before .args .header .now
+header c = counted c .before .before .args .header .now
 
-abbrev end : tie.At-cards Inv-cards μ-cards → ℕ
-end c = c .before .before .answer .given .0 .0
+good : (c : tie.Else1 Inv-cards μ-cards) → isBadLength (length (c .before .before .before .args .header .now)) ≡ false
+good c = count-some (length (c .before .before .before .args .header .now)) (λ e. c .if1 .left (c .before .card-count .ensures ∙ e))
 
-accepted : (c : tie.At-cards Inv-cards μ-cards) → headerOf (header c) ≡ Accepted (end c)
-accepted c = sym (c .before .before .before .before .read-header .ensures) ∙ c .before .before .answer .given .1
+all : (c : tie.At-cards Inv-cards μ-cards) → counted c .card-count .result ≡ length (header c) / 80
+all c = counted c .card-count .ensures ∙ count-is (length (header c)) (good (c .before))
 
--- at an entry: where the loop stands, and its name
-abbrev en : tie.After-first-of Inv-cards μ-cards → tie.After-entry-name Inv-cards μ-cards
-en c = c .before .before .before .before .before
+-- at a card: where the loop stands, and what the card is
+abbrev at : tie.After-name Inv-cards μ-cards → tie.At-cards Inv-cards μ-cards
+at c = c .before .before .before
 
-abbrev at : tie.After-first-of Inv-cards μ-cards → tie.At-cards Inv-cards μ-cards
-at c = en c .before .before
-
-standing : (c : tie.After-first-of Inv-cards μ-cards) → let here = at c in Standing (header here) (end here) (here .cards .first) (here .cards .last) (here .cards .marks) (here .cards .count) (here .cards .i)
+standing : (c : tie.After-name Inv-cards μ-cards) → let here = at c in Standing (header here) (here .cards .first) (here .cards .last) (here .cards .marks) (here .cards .heads) (here .cards .links) (here .cards .count) (here .cards .i)
 standing c = at c .cards .inv
 
-more : (c : tie.After-first-of Inv-cards μ-cards) → at c .cards .i < end (at c)
-more c = en c .before .cards-test .taken
+more : (c : tie.After-name Inv-cards μ-cards) → at c .cards .i < length (header (at c)) / 80
+more c = omega (arith, c .before .before .cards-test .taken, all (at c))
 
-abbrev role : tie.After-first-of Inv-cards μ-cards → Role
-role c = getD (rolesOf (header (at c))) (at c .cards .i) neutral
+part-so : (c : tie.After-name Inv-cards μ-cards) (p : Part) → c .before .named-at .result .part ≡ p → namedOf (header (at c)) (at c .cards .i) .part ≡ p
+part-so c p e = sym (ap (λ (n : Named). n .part) (c .before .named-at .ensures)) ∙ e
 
-there-so : (c : tie.After-first-of Inv-cards μ-cards) → entryNameOf (role c) .there ≡ true
-there-so c = sym (ap (λ (e : EntryName). e .there) (en c .entry-name .ensures)) ∙ c .before .before .if1 .taken
+-- at an entry
+abbrev told : tie.After-enter Inv-cards μ-cards → tie.After-enum-told2 Inv-cards μ-cards
+told c = c .before .before .before .before .before .before
 
-name-so : (c : tie.After-first-of Inv-cards μ-cards) → c .first-of .result .now ≡ nameOf (role c)
-name-so c = c .first-of .ensures ∙ ap (λ (e : EntryName). bytesOf (e .name)) (en c .entry-name .ensures) ∙ ap bytesOf (name-told (role c)) ∙ bytes-text (nameOf (role c))
+abbrev here : tie.After-enter Inv-cards μ-cards → tie.After-name Inv-cards μ-cards
+here c = told c .before .before
 
-mark-so : (c : tie.After-mark Inv-cards μ-cards) → c .mark .result ≡ markOf (nameOf (role (c .before)))
-mark-so c = c .mark .ensures ∙ ap markOf (name-so (c .before))
+there-so : (c : tie.After-enum-told2 Inv-cards μ-cards) → let l = at (c .before .before) in namedOf (header l) (l .cards .i) .part ≡ Entry
+there-so c = part-so (c .before .before) Entry (c .enum-told2 .given .1)
 
--- a place is free for it
-free-so : (c : tie.After-first-of Inv-cards μ-cards) → at c .cards .count < 720
-free-so c = room (standing c) (accepted (at c)) (more c)
-
-abbrev fm : tie.After-insert-at Inv-cards μ-cards → tie.After-find-marked Inv-cards μ-cards
-fm c = c .before .before .before
-
-abbrev marking : tie.After-find-marked Inv-cards μ-cards → tie.After-mark Inv-cards μ-cards
-marking c = c .before .before .before
-
-abbrev fo : tie.After-insert-at Inv-cards μ-cards → tie.After-first-of Inv-cards μ-cards
-fo c = marking (fm c) .before
+name-so : (c : tie.After-name Inv-cards μ-cards) → bytesOf (c .before .named-at .result .name) ≡ bytesOf (namedOf (header (at c)) (at c .cards .i) .name)
+name-so c = ap (λ (n : Named). bytesOf (n .name)) (c .before .named-at .ensures)
 
 -- what inserting gave
-abbrev insertion : tie.After-insert-at Inv-cards μ-cards → Insertion
-insertion c = record { answer = c .insert-at .result; first = c .insert-at .last .1 .1 .1 .0; last = c .insert-at .last .1 .1 .1 .1 .0 }
+abbrev insertion : tie.After-enter Inv-cards μ-cards → Insertion
+insertion c = record { answer = c .enter .result; first = c .enter .last .1 .1 .1 .1 .0; last = c .enter .last .1 .1 .1 .1 .1 .0 }
 
-inserted : (c : tie.After-insert-at Inv-cards μ-cards) → let here = at (fo c) in insertion c ≡ insertOf (header here) (nameOf (role (fo c))) (here .cards .i) (here .cards .count) (here .cards .first) (here .cards .last)
-unfolding insertOf
+inserted : (c : tie.After-enter Inv-cards μ-cards) → let l = at (here c) in insertion c ≡ insertOf (header l) (bytesOf (namedOf (header l) (l .cards .i) .name)) (l .cards .i) (l .cards .count) (l .cards .first) (l .cards .last)
 inserted c =
-    let here = at (fo c) in
-    (λ j. record { answer = c .insert-at .ensures .0 j; first = c .insert-at .ensures .1 .0 j; last = c .insert-at .ensures .1 .1 j })
-    ∙ ap (λ (p : Place). insertAt p (here .cards .i) (here .cards .count) (here .cards .first) (here .cards .last)) (fm c .find-marked .ensures ∙ ap (λ (n : List ℕ). placeBy (header here) n (take (here .cards .count) (here .cards .first)) 0) (name-so (fo c)))
+    let l = at (here c) in
+    (λ j. record { answer = c .enter .ensures .0 j; first = c .enter .ensures .1 .0 j; last = c .enter .ensures .1 .1 .0 j })
+    ∙ ap (λ (n : List ℕ). insertOf (header l) n (l .cards .i) (l .cards .count) (l .cards .first) (l .cards .last)) (name-so (here c))
 
 -- so the loop goes on
-next : (c : tie.After-insert-at Inv-cards μ-cards) → Next (standing (fo c)) (accepted (at (fo c))) (more (fo c)) (there-so (fo c)) (insertion c) (inserted c) (marking (fm c) .mark .result) (mark-so (marking (fm c)))
-next c = on-entry (standing (fo c)) (accepted (at (fo c))) (more (fo c)) (there-so (fo c)) (insertion c) (inserted c) (marking (fm c) .mark .result) (mark-so (marking (fm c)))
+next : (c : tie.After-enter Inv-cards μ-cards) → Next (standing (here c)) (more (here c)) (there-so (told c)) (insertion c) (inserted c) (c .enter .last .1 .1 .1 .1 .1 .1 .0) (c .enter .last .1 .1 .1 .1 .1 .1 .1 .0) (c .enter .last .1 .1 .1 .1 .1 .1 .1 .1 .0) (c .enter .ensures .1 .1 .1)
+next c = on-entry (standing (here c)) (more (here c)) (there-so (told c)) (insertion c) (inserted c) (c .enter .last .1 .1 .1 .1 .1 .1 .0) (c .enter .last .1 .1 .1 .1 .1 .1 .1 .0) (c .enter .last .1 .1 .1 .1 .1 .1 .1 .1 .0) (c .enter .ensures .1 .1 .1)
 
-read-header-requires : tie.Need-read-header-requires Inv-cards μ-cards
-read-header-requires c κs = search needs
+card-count-requires : tie.Need-card-count-requires Inv-cards μ-cards
+card-count-requires c κs = search needs
 
-enum-known-answer : tie.Need-enum-known-answer Inv-cards μ-cards
-enum-known-answer c = search needs
+refused-requires : tie.Need-refused-requires Inv-cards μ-cards
+refused-requires c κs = search needs
+
+returns : tie.Need-returns Inv-cards μ-cards
+returns c =
+    let counted = c .before .before in
+    let h = counted .before .before .args .header .now in
+    c .refused .ensures ∙ refused-length h (count-none (length h) (sym (counted .card-count .ensures) ∙ c .before .if1 .taken))
+
+cards-holds : tie.Need-cards-holds Inv-cards μ-cards
+cards-holds c = start _ _ _ _ _ _ (good c) refl refl (marked-none _ _ _ _ _ refl refl refl refl)
+
+named-at-requires : tie.Need-named-at-requires Inv-cards μ-cards
+named-at-requires c κs = search needs
+
+enum-known-part : tie.Need-enum-known-part Inv-cards μ-cards
+enum-known-part c = search needs
+
+refused-requires-2 : tie.Need-refused-requires-2 Inv-cards μ-cards
+refused-requires-2 c κs = search needs
+
+returns-2 : tie.Need-returns-2 Inv-cards μ-cards
+returns-2 c =
+    let known = c .before .before in
+    let read = known .before .before in
+    let why = known .part .given .0 .0 in
+    c .refused2 .ensures ∙ on-refused (standing read) (more read) why (part-so read (Refused-card why) (known .part .given .1))
 
 enum-told : tie.Need-enum-told Inv-cards μ-cards
 enum-told c = search needs
 
-free-listing-requires : tie.Need-free-listing-requires Inv-cards μ-cards
-free-listing-requires c κs = search needs
-
-returns : tie.Need-returns Inv-cards μ-cards
-returns c =
-    let told = c .before in
-    let x = Refused (told .enum-told .given .0 .0) (told .enum-told .given .0 .1 .0) in
-    c .free-listing .ensures ∙ ap (λ (y : Header). tabled y empty) (told .enum-told .given .1) ∙ by-header (told .before .before) x (told .enum-told .given .1)
-
-cards-holds : tie.Need-cards-holds Inv-cards μ-cards
-cards-holds c = start _ _ _ _ _ refl refl refl
-
-entry-name-requires : tie.Need-entry-name-requires Inv-cards μ-cards
-entry-name-requires c κs = search needs
-
-add-i : tie.Need-add-i Inv-cards μ-cards
-add-i c = search needs
-
-slice-aggregate-first-of : tie.Need-slice-aggregate-first-of Inv-cards μ-cards
-slice-aggregate-first-of c = search needs
-
-first-of-requires : tie.Need-first-of-requires Inv-cards μ-cards
-first-of-requires c κs = search needs
-
-mark-requires : tie.Need-mark-requires Inv-cards μ-cards
-mark-requires c κs = search needs
-
-slice-aggregate-find-marked : tie.Need-slice-aggregate-find-marked Inv-cards μ-cards
-slice-aggregate-find-marked c = let f = c .before .before in sym (first-long (standing f) (accepted (at f)))
-
-slice-aggregate-find-marked-2 : tie.Need-slice-aggregate-find-marked-2 Inv-cards μ-cards
-slice-aggregate-find-marked-2 c = sym (standing (c .before .before .before) .marks-long)
-
-find-marked-requires : tie.Need-find-marked-requires Inv-cards μ-cards
-find-marked-requires c κs = (c .before .before .mark .ensures, standing (c .before .before .before) .marked)
-
-mul-marks : tie.Need-mul-marks Inv-cards μ-cards
-mul-marks c = omega (arith, free-so (marking c .before))
-
-array-write-marks : tie.Need-array-write-marks Inv-cards μ-cards
-array-write-marks c = omega (arith, free-so (marking c .before))
-
-slice-aggregate-insert-at : tie.Need-slice-aggregate-insert-at Inv-cards μ-cards
-slice-aggregate-insert-at c = let f = marking (c .before) .before in sym (first-long (standing f) (accepted (at f)))
-
-slice-aggregate-insert-at-2 : tie.Need-slice-aggregate-insert-at-2 Inv-cards μ-cards
-slice-aggregate-insert-at-2 c = let f = marking (c .before .before) .before in sym (last-long (standing f) (accepted (at f)))
-
-insert-at-requires : tie.Need-insert-at-requires Inv-cards μ-cards
-insert-at-requires c κs = search needs
-
-enum-known-n : tie.Need-enum-known-n Inv-cards μ-cards
-enum-known-n c = search needs
+returns-3 : tie.Need-returns-3 Inv-cards μ-cards
+returns-3 c =
+    let read = c .before .before in
+    let S = standing read in
+    (λ j. record { header = Accepted (at read .cards .i); first = S .first-is j; last = S .last-is j; count = S .count-is j })
+    ∙ on-last S (more read) (part-so read Last (c .enum-told .given .1))
 
 enum-told-2 : tie.Need-enum-told-2 Inv-cards μ-cards
 enum-told-2 c = search needs
 
-free-listing-requires-2 : tie.Need-free-listing-requires-2 Inv-cards μ-cards
-free-listing-requires-2 c κs = search needs
+slice-aggregate-enter : tie.Need-slice-aggregate-enter Inv-cards μ-cards
+slice-aggregate-enter c = sym (standing (c .before .before .before) .marked .first-long)
 
-returns-2 : tie.Need-returns-2 Inv-cards μ-cards
-returns-2 c =
+slice-aggregate-enter-2 : tie.Need-slice-aggregate-enter-2 Inv-cards μ-cards
+slice-aggregate-enter-2 c = sym (last-long (standing (c .before .before .before .before)))
+
+slice-aggregate-enter-3 : tie.Need-slice-aggregate-enter-3 Inv-cards μ-cards
+slice-aggregate-enter-3 c = sym (standing (c .before .before .before .before .before) .marked .marks-long)
+
+slice-aggregate-enter-4 : tie.Need-slice-aggregate-enter-4 Inv-cards μ-cards
+slice-aggregate-enter-4 c = sym (standing (c .before .before .before .before .before .before) .marked .heads-long)
+
+slice-aggregate-enter-5 : tie.Need-slice-aggregate-enter-5 Inv-cards μ-cards
+slice-aggregate-enter-5 c = sym (standing (c .before .before .before .before .before .before .before) .marked .links-long)
+
+enter-requires : tie.Need-enter-requires Inv-cards μ-cards
+enter-requires c κs =
+    let told = c .before .before .before .before .before in
+    let read = told .before .before in
+    let S = standing read in
+    let l = at read in
+    (subst (Bears (header l) (l .cards .i)) (sym (name-so read)) (bears-own S (more read) (there-so told)), (S .marked, (last-long S, room S (more read))))
+
+enum-known-n : tie.Need-enum-known-n Inv-cards μ-cards
+enum-known-n c = search needs
+
+enum-told-3 : tie.Need-enum-told-3 Inv-cards μ-cards
+enum-told-3 c = search needs
+
+refused-requires-3 : tie.Need-refused-requires-3 Inv-cards μ-cards
+refused-requires-3 c κs = search needs
+
+returns-4 : tie.Need-returns-4 Inv-cards μ-cards
+returns-4 c =
     let told = c .before in
-    let ins = told .before .before .before .before in
-    let then = next ins in
-    let full = told .enum-told2 .given .1 in
+    let then = next (told .before .before .before .before .before .before .before) in
+    let full = told .enum-told3 .given .1 in
     let named = then .named in
     absurd (let z : _≡_ {A = ℕ} 0 1 = cc in omega arith)
+
+add-i : tie.Need-add-i Inv-cards μ-cards
+add-i c = search needs
 
 cards-less : tie.Need-cards-less Inv-cards μ-cards
 cards-less c = search needs
@@ -180,29 +175,37 @@ cards-less c = search needs
 cards-again : tie.Need-cards-again Inv-cards μ-cards
 cards-again c =
     let told = c .before in
-    let ins = told .before .before .before .before in
+    let ins = told .before .before .before .before .before .before .before in
+    let l = at (here ins) in
     let then = next ins in
     let known = told .n .given .1 in
     let named = then .named in
     let count : then .count₁ ≡ told .n .given .0 .0 = cc in
-    subst (λ (k : ℕ). Standing (header (at (fo ins))) (end (at (fo ins))) (insertion ins .first) (insertion ins .last) (set (at (fo ins) .cards .marks) (at (fo ins) .cards .count) (marking (fm ins) .mark .result)) k (at (fo ins) .cards .i + 1)) count (then .standing)
+    subst (λ (k : ℕ). Standing (header l) (insertion ins .first) (insertion ins .last) (ins .enter .last .1 .1 .1 .1 .1 .1 .0) (ins .enter .last .1 .1 .1 .1 .1 .1 .1 .0) (ins .enter .last .1 .1 .1 .1 .1 .1 .1 .1 .0) k (l .cards .i + 1)) count (then .standing)
+
+enum-told-4 : tie.Need-enum-told-4 Inv-cards μ-cards
+enum-told-4 c = search needs
+
+add-i-2 : tie.Need-add-i-2 Inv-cards μ-cards
+add-i-2 c = search needs
 
 cards-less-2 : tie.Need-cards-less-2 Inv-cards μ-cards
 cards-less-2 c = search needs
 
 cards-again-2 : tie.Need-cards-again-2 Inv-cards μ-cards
 cards-again-2 c =
-    let en = c .before .before .before in
-    let here = en .before .before in
-    on-other (here .cards .inv) (accepted here) (en .before .cards-test .taken) (sym (ap (λ (e : EntryName). e .there) (en .entry-name .ensures)) ∙ c .if1 .left)
+    let read = c .before .before in
+    on-other (standing read) (more read) (part-so read Other (c .enum-told4 .given .1))
 
-returns-3 : tie.Need-returns-3 Inv-cards μ-cards
-returns-3 c =
-    let here = c .before in
-    let S = here .cards .inv in
-    (λ j. record { header = Accepted (end here); first = S .first-is j; last = S .last-is j; count = S .count-is j })
-    ∙ ap (byListed (end here)) (at-end S (accepted here) (c .cards-test .left))
-    ∙ by-header (here .before .before .before .before) (Accepted (end here)) (here .before .before .answer .given .1)
+refused-requires-4 : tie.Need-refused-requires-4 Inv-cards μ-cards
+refused-requires-4 c κs = search needs
+
+returns-5 : tie.Need-returns-5 Inv-cards μ-cards
+returns-5 c =
+    let at-loop = c .before .before in
+    c .refused4 .ensures
+    ∙ ap (λ (k : ℕ). tabled (Refused (refusal 10) k) empty) (all at-loop)
+    ∙ at-end (at-loop .cards .inv) (omega (arith, c .before .cards-test .left, all at-loop))
 
 pub list-spec : {M : Type 1} → statement M
 list-spec =
@@ -210,31 +213,33 @@ list-spec =
     (tie.spec
     Inv-cards
     μ-cards
-    read-header-requires
-    enum-known-answer
-    enum-told
-    free-listing-requires
+    card-count-requires
+    refused-requires
     returns
     cards-holds
-    entry-name-requires
-    add-i
-    slice-aggregate-first-of
-    first-of-requires
-    mark-requires
-    slice-aggregate-find-marked
-    slice-aggregate-find-marked-2
-    find-marked-requires
-    mul-marks
-    array-write-marks
-    slice-aggregate-insert-at
-    slice-aggregate-insert-at-2
-    insert-at-requires
-    enum-known-n
-    enum-told-2
-    free-listing-requires-2
+    named-at-requires
+    enum-known-part
+    refused-requires-2
     returns-2
+    enum-told
+    returns-3
+    enum-told-2
+    slice-aggregate-enter
+    slice-aggregate-enter-2
+    slice-aggregate-enter-3
+    slice-aggregate-enter-4
+    slice-aggregate-enter-5
+    enter-requires
+    enum-known-n
+    enum-told-3
+    refused-requires-3
+    returns-4
+    add-i
     cards-less
     cards-again
+    enum-told-4
+    add-i-2
     cards-less-2
     cards-again-2
-    returns-3)
+    refused-requires-4
+    returns-5)

@@ -1,13 +1,13 @@
--- `header::is_bad_length` meets its contract, test by test.
+-- `parts::is_bad_length` meets its contract, test by test.
 use Prim.Native.Nat.{ℕ, _%_}
 use mathlib.Core.Path.{_≡_, ap, sym, _∙_}
 use mathlib.Core.Bool.{true, not}
 use borrow.Author.Tests.{eq-eqb, ne-eqb}
 use lib.Dec.{ltb}
 use borrow.Author.Needs.{needs}
-use Rattle.header.specs.Reading.{isBadLength}
-use Rattle.header.proofs.is_bad_length.Statement.{statement}
-use Rattle.header.proofs.is_bad_length.Tie as tie
+use Rattle.parts.specs.Cards.{isBadLength}
+use Rattle.parts.proofs.is_bad_length.Statement.{statement}
+use Rattle.parts.proofs.is_bad_length.Tie as tie
 
 empty : (n : ℕ) → n ≡ 0 → true ≡ isBadLength n
 unfolding isBadLength

@@ -1,4 +1,4 @@
--- `header::card_at` meets its contract: 80 bytes fill the array.
+-- `parts::card_within` meets its contract: 80 bytes fill the array.
 use Prim.Native.Nat.{ℕ, _*_, _-_, _≤_}
 use native.Mathlib.Omega.{arith}
 use native.Mathlib.Nat.{sub-self}
@@ -10,8 +10,8 @@ use Rattle.text.specs.Text.{size, filled, padded, textOf}
 use Rattle.text.proofs.Trimming.{take-rest}
 use Rattle.card.specs.Cards.{cardOf}
 use borrow.Author.Needs.{needs}
-use Rattle.header.proofs.card_at.Statement.{statement}
-use Rattle.header.proofs.card_at.Tie as tie
+use Rattle.parts.proofs.card_within.Statement.{statement}
+use Rattle.parts.proofs.card_within.Tie as tie
 
 -- a list of the array's size needs no zeros
 full : (l : List ℕ) → length l ≡ size → padded size l ≡ l
@@ -47,8 +47,8 @@ returns c =
     ∙ ap (λ (l : List ℕ). cardOf (padded size (take size l))) (take-rest h (i * 80))
     ∙ ap cardOf (full (take 80 (drop (i * 80) h)) part)
 
-pub card-at-spec : {M : Type 1} → statement M
-card-at-spec =
+pub card-within-spec : {M : Type 1} → statement M
+card-within-spec =
     tie.close
     (tie.spec
     mul-at

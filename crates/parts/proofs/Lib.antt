@@ -1,0 +1,3 @@
+-- Laws of a header's cards by their numbers.
+pub mod Cards
+pub mod Parts

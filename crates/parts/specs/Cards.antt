@@ -1,0 +1,37 @@
+-- A header's bytes as its cards (document 01, "Refusal numbers").
+use Prim.Native.Nat.{ℕ, zero, suc, _*_, _/_, _%_}
+use mathlib.Core.Bool.{Bool, cond, _||_, not}
+use mathlib.Core.List.{List, [], _∷_, map}
+use lib.Dec.{eqb, ltb}
+use lib.ListN.{length, take, drop, replicate}
+use Rattle.card.specs.declared.CardRead.{CardRead}
+use Rattle.card.specs.Cards.{cardOf}
+use Rattle.joining.specs.Roles.{Role, roleOf}
+
+-- the first n pieces of 80 bytes
+unfoldable pub pieces : ℕ → List ℕ → List (List ℕ)
+pieces zero h = []
+pieces (suc n) h = take 80 h ∷ pieces n (drop 80 h)
+
+-- the cards of a header
+abbrev pub cardsOf : List ℕ → List (List ℕ)
+cardsOf h = pieces (length h / 80) h
+
+-- what each card is to the header
+abbrev pub roleAt : List ℕ → Role
+roleAt c = roleOf (cardOf c)
+
+abbrev pub rolesOf : List ℕ → List Role
+rolesOf h = map roleAt (cardsOf h)
+
+-- 0, not a multiple of 80, or above 57,600
+unfoldable pub isBadLength : ℕ → Bool
+isBadLength n = eqb n 0 || (not (eqb (n % 80) 0) || ltb 57600 n)
+
+-- the number of cards: none where the length is bad
+unfoldable pub cardCount : ℕ → ℕ
+cardCount n = cond (isBadLength n) 0 (n / 80)
+
+-- the card with number i; one that the header lacks is blank
+unfoldable pub cardAt : List ℕ → ℕ → CardRead
+cardAt h i = cond (ltb i (length h / 80)) (cardOf (take 80 (drop (i * 80) h))) (cardOf (replicate 80 32))

@@ -1,0 +1,3 @@
+-- What the contracts of `parts` cite.
+pub mod Cards
+pub mod Named
