@@ -28,7 +28,7 @@ fn print_names(header: &[u8], listing: Listing) {
     let first = listing.first;
     let last = listing.last;
     let count = listing.count;
-    // A joined text has at most 71 bytes from each of the other cards, and 68 from its own.
+    // A text or a comment has at most 68 bytes of its own card and 71 of each card that is joined to it.
     let mut text = [0u8; 51200];
     // For an entry's comment, which is not printed, and then for its line: at most a name, a letter, a text and three bytes more.
     let mut line = [0u8; 51360];
