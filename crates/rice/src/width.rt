@@ -72,7 +72,7 @@ impl Width {
     pub const START_BYTES_32: usize = 4;
 
     // The bits of a pixel.
-    pub fn bits(self) -> usize
+    pub(crate) fn bits(self) -> usize
         ensures { λ r. ⌜ r ≡ bitsOf self ⌝ }
     {
         match self {
@@ -83,7 +83,7 @@ impl Width {
     }
 
     // The bits of an FS field.
-    pub fn fs_bits(self) -> usize
+    pub(crate) fn fs_bits(self) -> usize
         ensures { λ r. ⌜ r ≡ fsBits self ⌝ }
     {
         match self {
@@ -94,7 +94,7 @@ impl Width {
     }
 
     // The fs at which differences are raw.
-    pub fn fs_top(self) -> u64
+    pub(crate) fn fs_top(self) -> u64
         ensures { λ r. ⌜ r ≡ fsTop self ⌝ }
     {
         match self {
@@ -105,7 +105,7 @@ impl Width {
     }
 
     // The bytes of the start value.
-    pub fn start_bytes(self) -> usize
+    pub(crate) fn start_bytes(self) -> usize
         ensures { λ r. ⌜ r ≡ startBytes self ⌝ }
     {
         match self {
@@ -116,7 +116,7 @@ impl Width {
     }
 
     // How many pixels are negative.
-    pub fn negatives(self) -> u64
+    pub(crate) fn negatives(self) -> u64
         ensures { λ r. ⌜ r + positives self ≡ 2 ^ bitsOf self ⌝ }
     {
         match self {
@@ -127,7 +127,7 @@ impl Width {
     }
 
     // The highest number of the width's bits: a mask of them.
-    pub fn mask(self) -> u64
+    pub(crate) fn mask(self) -> u64
         ensures { λ r. ⌜ r + 1 ≡ 2 ^ bitsOf self ⌝ }
     {
         match self {
@@ -138,7 +138,7 @@ impl Width {
     }
 
     // The code that an FS field says.
-    pub fn code(self, field: u64) -> Coded
+    pub(crate) fn code(self, field: u64) -> Coded
         ensures { λ r. ⌜ r ≡ codeOf self field ⌝ }
     {
         if field == 0 {
@@ -157,7 +157,7 @@ impl Width {
     }
 
     // Whether a pixel is one of the width's.
-    pub fn holds(self, z: i32) -> bool
+    pub(crate) fn holds(self, z: i32) -> bool
         ensures { λ r. ⌜ r ≡ inWidth self z ⌝ }
     {
         let below = self.negatives();
@@ -170,7 +170,7 @@ impl Width {
     }
 
     // The pixel whose bits are v.
-    pub fn pixel(self, v: u64) -> i32
+    pub(crate) fn pixel(self, v: u64) -> i32
         requires { ⌜ v < 2 ^ bitsOf self ⌝ }
         ensures { λ r. ⌜ r ≡ pixelOf self v ⌝ }
     {
@@ -178,7 +178,7 @@ impl Width {
     }
 
     // The same with the width's numbers at hand, and with no branch: the bits are turned so that they count from the lowest pixel.
-    pub fn pixel_by(self, mask: u64, below: u64, v: u64) -> i32
+    pub(crate) fn pixel_by(self, mask: u64, below: u64, v: u64) -> i32
         requires { ⌜ (mask + 1 ≡ 2 ^ bitsOf self) × (below + positives self ≡ 2 ^ bitsOf self) × (v < 2 ^ bitsOf self) ⌝ }
         ensures { λ r. ⌜ r ≡ pixelOf self v ⌝ }
     {
@@ -187,7 +187,7 @@ impl Width {
     }
 
     // The bits of the pixel that follows the one with the bits v, with the mask at hand.
-    pub fn next_by(self, mask: u64, v: u64, u: u64) -> u64
+    pub(crate) fn next_by(self, mask: u64, v: u64, u: u64) -> u64
         requires { ⌜ (mask + 1 ≡ 2 ^ bitsOf self) × (v < 2 ^ bitsOf self) × (u < 2 ^ 32) ⌝ }
         ensures { λ r. ⌜ (r < 2 ^ bitsOf self) × (pixelOf self r ≡ following self (pixelOf self v) u) ⌝ }
     {
@@ -195,7 +195,7 @@ impl Width {
     }
 
     // The bits of a pixel.
-    pub fn bits_of(self, z: i32) -> u64
+    pub(crate) fn bits_of(self, z: i32) -> u64
         requires { ⌜ inWidth self z ≡ true ⌝ }
         ensures { λ r. ⌜ (r < 2 ^ bitsOf self) × (pixelOf self r ≡ z) ⌝ }
     {
