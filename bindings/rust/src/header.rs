@@ -20,20 +20,25 @@ const ADDED: usize = CARD + 1;
 /// The refusal that says that a text wants more room.
 const BUFFER_SHORT: u8 = 13;
 
+/// Where a name stands: the first card that bears it, and that of its last entry.
+#[derive(Clone, Copy)]
+struct Place {
+    first: usize,
+    last: usize,
+}
+
 /// The names in the order of their first cards.
 #[derive(Clone)]
-struct List {
+struct Names {
     names: Vec<Text>,
-    /// The card of each name's last entry.
-    last: Vec<usize>,
     /// The places, in the order of the names' bytes.
     sorted: Vec<usize>,
 }
 
 /// A header that was accepted: its cards up to END.
 ///
-/// Parsing tests every card, in one pass. A value is read when it is asked for: the first name that is asked for is looked up in
-/// another pass, and with the second the list of names is made, by which every further one is found at once.
+/// Parsing tests every card and numbers the names, in one pass. A value is read when it is asked for: the first name that is asked
+/// for is looked up in another pass, and with the second the names are read, by which every further one is found at once.
 ///
 /// ```
 /// # fn main() -> Result<(), widrekas::Refusal> {
@@ -53,9 +58,10 @@ struct List {
 #[derive(Clone)]
 pub struct Header {
     cards: Vec<u8>,
+    places: Vec<Place>,
     /// Set once a name was asked for.
     asked: OnceLock<()>,
-    list: OnceLock<List>,
+    names: OnceLock<Names>,
 }
 
 /// The cards up to the first END, and with it; all of them where it is not found. Nothing behind END is looked at, so this saves
@@ -74,13 +80,13 @@ impl Header {
     ///
     /// Every card up to END is tested, and the first that is refused refuses the header.
     pub fn parse(bytes: &[u8]) -> Result<Header, Refusal> {
-        // A lookup tests the whole header before it looks for the name, and no entry bears the empty one.
-        let mut told = Told::default();
-        match boundary::lookup(bytes, b"", &mut [], &mut [], &mut told) {
-            0 | Refusal::NAME_NOT_FOUND | BUFFER_SHORT => (),
-            number => return Err(Refusal { number, card: Some(told.out[0]) }),
+        let (mut first, mut last, mut count) = ([0; PLACES], [0; PLACES], 0);
+        match boundary::list(bytes, &mut first, &mut last, &mut count) {
+            0 => (),
+            number => return Err(Refusal { number, card: Some(count) }),
         }
-        Ok(Header { cards: up_to_end(bytes).to_vec(), asked: OnceLock::new(), list: OnceLock::new() })
+        let places = first.iter().zip(&last).take(count).map(|(&first, &last)| Place { first, last }).collect();
+        Ok(Header { cards: up_to_end(bytes).to_vec(), places, asked: OnceLock::new(), names: OnceLock::new() })
     }
 
     /// Reads the header with which a file begins, given the file's bytes: the whole cards among the first 57,600 of them.
@@ -95,36 +101,33 @@ impl Header {
     /// The entry of a name, joined; of equal names the last one's. Names are compared byte for byte.
     pub fn get(&self, name: impl AsRef<[u8]>) -> Option<Entry> {
         let name = name.as_ref();
-        if self.list.get().is_none() && self.asked.set(()).is_ok() {
+        if self.names.get().is_none() && self.asked.set(()).is_ok() {
             return self.with_room(0, |text, comment, told| boundary::lookup(&self.cards, name, text, comment, told));
         }
-        let list = self.list();
-        let name_of = |&place: &usize| list.names.get(place).map(Text::as_bytes);
-        let at = list.sorted.binary_search_by(|place| name_of(place).cmp(&Some(name))).ok()?;
-        self.entry_at(*list.last.get(*list.sorted.get(at)?)?)
+        let Names { names, sorted } = self.names();
+        let name_of = |&place: &usize| names.get(place).map(Text::as_bytes);
+        let at = sorted.binary_search_by(|place| name_of(place).cmp(&Some(name))).ok()?;
+        self.entry_at(self.places.get(*sorted.get(at)?)?.last)
     }
 
     /// The names, in the order of their first cards.
     pub fn keywords(&self) -> impl ExactSizeIterator<Item = &Text> {
-        self.list().names.iter()
+        self.names().names.iter()
     }
 
     /// The names with their entries, in the same order.
     pub fn entries(&self) -> impl Iterator<Item = (&Text, Entry)> {
-        {
-            let list = self.list();
-            list.names.iter().zip(&list.last).filter_map(|(name, &last)| Some((name, self.entry_at(last)?)))
-        }
+        self.keywords().zip(&self.places).filter_map(|(name, place)| Some((name, self.entry_at(place.last)?)))
     }
 
     /// How many names there are.
     pub fn len(&self) -> usize {
-        self.list().names.len()
+        self.places.len()
     }
 
     /// Whether there is no name.
     pub fn is_empty(&self) -> bool {
-        self.list().names.is_empty()
+        self.places.is_empty()
     }
 
     /// The cards, up to END and with it. A string is not joined there.
@@ -148,20 +151,14 @@ impl Header {
         self.cards.get(start..)?.first_chunk()
     }
 
-    /// The list, made once.
-    fn list(&self) -> &List {
-        self.list.get_or_init(|| {
-            let (mut first, mut last, mut count) = ([0; PLACES], [0; PLACES], 0);
-            if boundary::list(&self.cards, &mut first, &mut last, &mut count) != 0 {
-                // No header that was accepted is refused here.
-                count = 0;
-            }
-            let name = |&number: &usize| Some(card::name(self.card_at(number)?));
-            let names: Vec<Text> = first.iter().take(count).map_while(name).collect();
-            let last = last.iter().take(names.len()).copied().collect();
+    /// The names, read once.
+    fn names(&self) -> &Names {
+        self.names.get_or_init(|| {
+            let name = |place: &Place| Some(card::name(self.card_at(place.first)?));
+            let names: Vec<Text> = self.places.iter().map_while(name).collect();
             let mut sorted: Vec<usize> = (0..names.len()).collect();
             sorted.sort_unstable_by_key(|&place| names.get(place).map(Text::as_bytes));
-            List { names, last, sorted }
+            Names { names, sorted }
         })
     }
 
