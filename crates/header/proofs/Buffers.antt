@@ -18,19 +18,13 @@ use Rattle.header.specs.Answers.{isThere, bytesIn, over}
 use Rattle.header.specs.Passes.{placeBehind, laidBehind}
 
 -- the front of a list with another laid over it, up to the other's end
-pub take-spliced : (d s : List ℕ) (at : ℕ) → at ≤ length d → take (at + length s) (spliced d at s) ≡ take at d ++ s
+take-spliced : (d s : List ℕ) (at : ℕ) → at ≤ length d → take (at + length s) (spliced d at s) ≡ take at d ++ s
 take-spliced d s at h =
     let front : length (take at d ++ s) ≡ at + length s = length-append (take at d) s ∙ ap (λ (k : ℕ). k + length s) (length-take-le at d h) in
     take-at (take at d ++ s) (drop (at + length s) d) (at + length s) front
 
-pub length-spliced : (d s : List ℕ) (at : ℕ) → at + length s ≤ length d → length (spliced d at s) ≡ length d
-length-spliced d s at h =
-    let front : length (take at d) ≡ at = length-take-le at d (omega arith) in
-    length-append (take at d ++ s) (drop (at + length s) d) ∙ ap (λ (k : ℕ). k + length (drop (at + length s) d)) (length-append (take at d) s)
-    ∙ omega (arith, length-drop (at + length s) d)
-
 -- what trimming at the end leaves is a front
-pub end-taken : (p : ℕ → Bool) (s : List ℕ) → take (length (trimEnd p s)) s ≡ trimEnd p s
+end-taken : (p : ℕ → Bool) (s : List ℕ) → take (length (trimEnd p s)) s ≡ trimEnd p s
 unfolding trimEnd consTrimmed
 end-taken p [] = refl
 end-taken p (b ∷ s) = go (p b) (trimEnd p s) (end-taken p s)
@@ -41,7 +35,7 @@ end-taken p (b ∷ s) = go (p b) (trimEnd p s) (end-taken p s)
     go false r e = ap (λ (l : List ℕ). b ∷ l) e
 
 -- the n bytes without the last
-pub stem-taken : (d : List ℕ) (n : ℕ) → 0 < n → n ≤ length d → stem (take n d) ≡ take (n - 1) d
+stem-taken : (d : List ℕ) (n : ℕ) → 0 < n → n ≤ length d → stem (take n d) ≡ take (n - 1) d
 unfolding stem
 stem-taken d n more h = ap (λ (k : ℕ). take (k - 1) (take n d)) (length-take-le n d h) ∙ take-take (n - 1) n d (omega arith)
 

@@ -68,10 +68,10 @@ unfolding opens
 text-shut w e = rw (e, and-false)
 
 -- ---- the words of an open string are those of an & that its card is joined to
-abbrev pub begun : Words
+abbrev begun : Words
 begun = record { text = 38 ∷ []; comment = none; joins = true }
 
-abbrev pub beginning : Lengths
+abbrev beginning : Lengths
 beginning = record { text = 1; comment = 0; commented = false; going = true }
 
 begun-by : (r : CardRead) → endsOpen (bytesOf (r .text)) ≡ true → heldOf Val.String true r .words ≡ joinedBy (moreOf (contentOf r)) begun

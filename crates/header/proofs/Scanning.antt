@@ -5,7 +5,6 @@ use native.Mathlib.Omega.{arith}
 use mathlib.Core.Path.{_≡_, refl, sym, ap, _∙_}
 use mathlib.Core.Bool.{Bool, true, false, cond}
 use mathlib.Core.List.{List, [], _∷_, map}
-use borrow.Author.Tests.{eq-eqb, ne-eqb}
 use lib.Dec.{ltb}
 use lib.ListN.{length, take, drop}
 use Rattle.refusal.specs.declared.Refusal.{Refusal}
@@ -26,11 +25,6 @@ use Rattle.header.specs.Reading.{isEnd, headerAt, headerFrom, headerOf}
 use Rattle.header.specs.Passes.{isLast, foundAt, lastFrom, refusedScan, scanBy, scanOf}
 use Rattle.parts.proofs.Cards.{cardNo, cards-from, cards-past}
 use Rattle.header.proofs.Playing.{last-is-end}
-
--- ---- lengths
-pub bad-empty : (n : ℕ) → n ≡ 0 → true ≡ isBadLength n
-unfolding isBadLength
-bad-empty n e = rw (eq-eqb n 0 e)
 
 -- ---- where the loop stands: what is left decides for the whole
 pub record Reached (h name : List ℕ) (last : Place) (i : ℕ) : Type 0 where

@@ -120,10 +120,10 @@ module _ {w : Words} {end : Lengths} {texts nowhere nowhere₁ : List ℕ} (S : 
   text-long : end .text ≡ length (w .text)
   text-long = sym (length-take-le (end .text) texts (S .within)) ∙ ap length (S .text)
 
-  pub held-text : fits ≡ true → end .text ≤ length text
+  held-text : fits ≡ true → end .text ≤ length text
   held-text e = leb-true (end .text) (length text) (and-both (leb (end .text) (length text)) (leb (end .comment) (length comment)) (sym fit ∙ e) .0)
 
-  pub held-comment : fits ≡ true → end .comment ≤ length comment
+  held-comment : fits ≡ true → end .comment ≤ length comment
   held-comment e = leb-true (end .comment) (length comment) (and-both (leb (end .text) (length text)) (leb (end .comment) (length comment)) (sym fit ∙ e) .1)
 
   told : {text₁ comment₁ : List ℕ} → text₁ ≡ cond fits (over (w .text) text) text → comment₁ ≡ cond fits (over (bytesIn (w .comment)) comment) comment
