@@ -7,6 +7,8 @@ use card::CardRead;
 use libc::STDOUT_FILENO;
 use numbers::Size;
 use numbers::Value;
+use putting::put;
+use putting::put_integer;
 use text::Text;
 use value::UnitPlace;
 
@@ -274,10 +276,6 @@ fn put_unit(comment: Text) {
 
 // ---- texts and numbers
 
-fn put(s: &[u8]) {
-    io::write_all(STDOUT_FILENO, s);
-}
-
 fn put_text(t: Text) {
     let bytes = t.bytes;
     put_bytes(text::first_of(&bytes, t.len));
@@ -302,14 +300,4 @@ fn put_byte(b: u8) {
     put(b"<");
     io::print_hex(STDOUT_FILENO, b as u64, HEX_DIGITS);
     put(b">");
-}
-
-fn put_integer(z: i64) {
-    if z < 0 {
-        put(b"-");
-        let less = -1 - z;
-        io::print_decimal(STDOUT_FILENO, less as u64 + 1);
-        return;
-    }
-    io::print_decimal(STDOUT_FILENO, z as u64);
 }

@@ -7,15 +7,15 @@ ghost use mathlib.Core.Bool.{true};
 ghost use Prim.Native.Nat.{_+_, _/_, _<_};
 ghost use lib.ListN.{take};
 use libc::STDIN_FILENO;
+use putting::put;
+use putting::put_number;
+use putting::put_pixels;
+use putting::put_space;
 use refusal::Refusal;
 use rice::Cursor;
 use rice::Decoded;
 use rice::Opened;
 use rice::Stepped;
-use tile_printing::put;
-use tile_printing::put_number;
-use tile_printing::put_pixels;
-use tile_printing::put_space;
 
 // The most pixels of a stored tile.
 const PIXELS: usize = 256;

@@ -1,4 +1,4 @@
-// The printing of tiles: texts, numbers and pixels on standard output.
+// Texts, numbers and pixels put on standard output.
 use libc::STDOUT_FILENO;
 
 // Each pixel behind a space.
@@ -6,12 +6,16 @@ pub fn put_pixels(pixels: &[i32]) {
     let mut i = 0;
     while i < pixels.len() {
         put_space();
-        put_pixel(pixels[i]);
+        put_integer(wide(pixels[i]));
         i += 1;
     }
 }
 
-fn put_pixel(z: i32) {
+fn wide(z: i32) -> i64 {
+    z as i64
+}
+
+pub fn put_integer(z: i64) {
     if z < 0 {
         put(b"-");
         let less = -1 - z;

@@ -1,4 +1,4 @@
--- `edges::put_integer` is safe: a number below 0 is printed by its size, which is one more than -1 less the number.
+-- `putting::put_integer` is safe: a number below 0 is printed by its size, which is one more than -1 less the number.
 use Prim.Native.Nat.{ℕ, suc, _+_, _-_, zero-le, suc-le-suc}
 use native.Mathlib.Omega.{arith}
 use mathlib.Core.Path.{_≡_, sym, ap, _∙_, subst}
@@ -11,8 +11,8 @@ use lib.Signed.{mag, ltZ, nonNeg}
 use mir.Val.{Fits, SFits, toZ, ofZ}
 use mir.Syntax.{w64}
 use mir.Facts.{toZ-ofZ}
-use Rattle.edge_rows.proofs.put_integer.Statement.{statement}
-use Rattle.edge_rows.proofs.put_integer.Tie as tie
+use Rattle.putting.proofs.put_integer.Statement.{statement}
+use Rattle.putting.proofs.put_integer.Tie as tie
 
 -- -1 less a number below 0
 below : (z : ℤ) → ltZ z (pos 0) ≡ true → negsuc 0 -ℤ z ≡ pos (mag z)

@@ -1,10 +1,10 @@
--- `tile_printing::put_pixels` is safe and ends: the place is within the slice.
+-- `putting::put_pixels` is safe and ends: the place is within the slice.
 use Prim.Native.Nat.{_-_, _≤_}
 use native.Mathlib.Omega.{arith}
 use lib.ListN.{length}
 use borrow.Author.Needs.{needs}
-use Rattle.tile_printing.proofs.put_pixels.Statement.{statement}
-use Rattle.tile_printing.proofs.put_pixels.Tie as tie
+use Rattle.putting.proofs.put_pixels.Statement.{statement}
+use Rattle.putting.proofs.put_pixels.Tie as tie
 
 abbrev Inv-loop : tie.InvT-loop
 Inv-loop pixels i₀ i = i ≤ length pixels
@@ -18,14 +18,17 @@ loop-holds c = search needs
 put-space-requires : tie.Need-put-space-requires Inv-loop μ-loop
 put-space-requires c κs = search needs
 
-mul-put-pixel : tie.Need-mul-put-pixel Inv-loop μ-loop
-mul-put-pixel c = search needs
+mul-wide : tie.Need-mul-wide Inv-loop μ-loop
+mul-wide c = search needs
 
-shared-slice-copy-out-put-pixel : tie.Need-shared-slice-copy-out-put-pixel Inv-loop μ-loop
-shared-slice-copy-out-put-pixel c = search needs
+shared-slice-copy-out-wide : tie.Need-shared-slice-copy-out-wide Inv-loop μ-loop
+shared-slice-copy-out-wide c = search needs
 
-put-pixel-requires : tie.Need-put-pixel-requires Inv-loop μ-loop
-put-pixel-requires c κs = search needs
+wide-requires : tie.Need-wide-requires Inv-loop μ-loop
+wide-requires c κs = search needs
+
+put-integer-requires : tie.Need-put-integer-requires Inv-loop μ-loop
+put-integer-requires c κs = search needs
 
 add-i : tie.Need-add-i Inv-loop μ-loop
 add-i c = search needs
@@ -47,9 +50,10 @@ put-pixels-spec =
     μ-loop
     loop-holds
     put-space-requires
-    mul-put-pixel
-    shared-slice-copy-out-put-pixel
-    put-pixel-requires
+    mul-wide
+    shared-slice-copy-out-wide
+    wide-requires
+    put-integer-requires
     add-i
     loop-less
     loop-again
