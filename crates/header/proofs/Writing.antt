@@ -3,6 +3,7 @@ use Prim.Native.Nat.{ℕ, zero, suc, _≤_}
 use native.Mathlib.Omega.{arith}
 use mathlib.Core.Path.{_≡_, refl, sym, ap, ap₂, _∙_}
 use mathlib.Core.Bool.{Bool, true, false, cond, true≢false, _&&_}
+use mathlib.Core.Option.{none, some}
 use mathlib.Core.List.{List, [], _∷_}
 use borrow.Author.Tests.{leb-true}
 use lib.Dec.{leb}
@@ -17,7 +18,7 @@ use Rattle.card.specs.declared.Card.{Card}
 use Rattle.card.specs.declared.Card.the-variants as C
 use Rattle.card.specs.declared.CardAnswer.{CardAnswer}
 use Rattle.card.specs.declared.CardAnswer.the-variants as A
-use Rattle.joining.specs.Words.{Words, endsOpen, opens}
+use Rattle.joining.specs.Words.{Comment, Words, endsOpen, opens}
 use Rattle.joining.specs.Roles.{Held, Role, hasText, hasDigits, isString, commentOf}
 use Rattle.joining.specs.Lookup.{joinOn}
 use Rattle.joining.proofs.Answers.{joinOn-shut}
@@ -115,6 +116,10 @@ module _ (shown : Bool) (p : Content) (text comment : List ℕ) {fits : Bool} {n
   own-short e = own-told (sym (ap (λ (b : Bool). cond b (over own text) text) e)) (sym (ap (λ (b : Bool). cond b (over remark comment) comment) e))
 
 -- ---- words that are joined: their text stands in scratch, and their comment is measured
+silent : (c : Comment) → isThere c ≡ false → bytesIn c ≡ []
+silent none e = refl
+silent (some c) e = absurd (true≢false e)
+
 module _ {w : Words} {end : Lengths} {texts nowhere nowhere₁ : List ℕ} (S : Stands w end texts nowhere nowhere₁) {fits : Bool} (text comment : List ℕ)
     (fit : fits ≡ (leb (end .text) (length text) && leb (end .comment) (length comment))) where
   text-long : end .text ≡ length (w .text)
@@ -138,14 +143,24 @@ module _ {w : Words} {end : Lengths} {texts nowhere nowhere₁ : List ℕ} (S : 
         there = S .commented;
       }
 
+  text-laid : {text₁ : List ℕ} → fits ≡ true → text₁ ≡ overlaid text 0 (take (end .text) texts) → text₁ ≡ cond fits (over (w .text) text) text
+  text-laid e put =
+      let long : length (take (end .text) texts) ≡ end .text = length-take-le (end .text) texts (S .within) in
+      put ∙ first-laid (take (end .text) texts) text (omega (arith, held-text e)) ∙ ap (λ (l : List ℕ). over l text) (S .text) ∙ sym (ap (λ (b : Bool). cond b (over (w .text) text) text) e)
+
   -- where the buffers hold them, the text is laid, and the comment as it is joined again
   pub joined-wrote : {again : Lengths} {texts₁ text₁ comment₁ : List ℕ} → fits ≡ true → text₁ ≡ overlaid text 0 (take (end .text) texts) → Stands w again texts₁ comment comment₁
       → Wrote (w .text) (w .comment) (record { fits = fits; commented = end .commented; text = end .text; comment = end .comment }) text comment text₁ comment₁
   joined-wrote {again} e put T =
-      let long : length (take (end .text) texts) ≡ end .text = length-take-le (end .text) texts (S .within) in
-      told
-      (put ∙ first-laid (take (end .text) texts) text (omega (arith, held-text e)) ∙ ap (λ (l : List ℕ). over l text) (S .text) ∙ sym (ap (λ (b : Bool). cond b (over (w .text) text) text) e))
+      told (text-laid e put)
       (T .laid (omega (arith, T .comment, S .comment, held-comment e)) ∙ sym (ap (λ (b : Bool). cond b (over (bytesIn (w .comment)) comment) comment) e))
+
+  -- without a comment the text alone is laid
+  pub silent-wrote : {text₁ : List ℕ} → fits ≡ true → text₁ ≡ overlaid text 0 (take (end .text) texts) → end .commented ≡ false
+      → Wrote (w .text) (w .comment) (record { fits = fits; commented = end .commented; text = end .text; comment = end .comment }) text comment text₁ comment
+  silent-wrote e put quiet =
+      told (text-laid e put)
+      (sym (ap (λ (l : List ℕ). over l comment) (silent (w .comment) (sym (S .commented) ∙ quiet))) ∙ sym (ap (λ (b : Bool). cond b (over (bytesIn (w .comment)) comment) comment) e))
 
   pub nothing-wrote : fits ≡ false
       → Wrote (w .text) (w .comment) (record { fits = fits; commented = end .commented; text = end .text; comment = end .comment }) text comment text comment

@@ -541,7 +541,10 @@ fn join_within(
     let fits = both_fit(n, end.comment, text.len(), comment.len());
     if fits {
         overlay::put_at(&texts[..n], text, 0);
-        join_cards(header, i, texts, comment);
+        let there = end.commented;
+        if there {
+            join_cards(header, i, texts, comment);
+        }
     }
     Written {
         fits: fits,

@@ -3,7 +3,7 @@ use native.Mathlib.Omega.{arith}
 use mathlib.Core.Path.{_≡_, sym}
 use lib.ListN.{length}
 use lib.Seq.{length-take-le}
-use Rattle.header.proofs.Writing.{joined-wrote, nothing-wrote}
+use Rattle.header.proofs.Writing.{joined-wrote, silent-wrote, nothing-wrote}
 use borrow.Author.Needs.{needs}
 use Rattle.header.proofs.join_within.Statement.{statement}
 use Rattle.header.proofs.join_within.Tie as tie
@@ -30,7 +30,7 @@ put-at-requires c κs = search needs
 
 join-cards-requires-2 : tie.Need-join-cards-requires-2
 join-cards-requires-2 c κs =
-    let first = c .before .before .before .before .before .before .before .before .before .before .before .before in
+    let first = c .before .before .before .before .before .before .before .before .before .before .before .before .before in
     let s = first .before .before .before .before .before .before .before in
     let same : length (first .join-cards .last .1 .1 .0) ≡ length (s .args .texts .now) = search needs in
     record { card = s .pre .card; few = s .pre .few; opened = s .pre .opened; wide = omega (arith, s .pre .wide) }
@@ -47,7 +47,7 @@ same-length-3 c = search needs
 returns : tie.Need-returns
 returns c =
     let again = c .before .before .before .before in
-    let put = again .before .before .before .before .before in
+    let put = again .before .before .before .before .before .before in
     let test = put .before .before .before in
     let fit = test .before in
     let first = fit .before .before .before .before in
@@ -57,8 +57,23 @@ returns c =
 same-length-4 : tie.Need-same-length-4
 same-length-4 c = search needs
 
+same-length-5 : tie.Need-same-length-5
+same-length-5 c = search needs
+
 returns-2 : tie.Need-returns-2
 returns-2 c =
+    let put = c .before .before .before in
+    let test = put .before .before .before in
+    let fit = test .before in
+    let first = fit .before .before .before .before in
+    let a = first .before .before .before .before .before .before .before .args in
+    silent-wrote (first .join-cards .ensures) (a .text .now) (a .comment .now) (fit .both-fit .ensures) (test .if1 .taken) (put .put-at .ensures) (c .if2 .left)
+
+same-length-6 : tie.Need-same-length-6
+same-length-6 c = search needs
+
+returns-3 : tie.Need-returns-3
+returns-3 c =
     let fit = c .before in
     let first = fit .before .before .before .before in
     let a = first .before .before .before .before .before .before .before .args in
@@ -80,4 +95,7 @@ join-within-spec =
     same-length-3
     returns
     same-length-4
-    returns-2)
+    same-length-5
+    returns-2
+    same-length-6
+    returns-3)
