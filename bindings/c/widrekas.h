@@ -2,7 +2,7 @@
  * Widrekas: FITS header cards, joined strings, keyword lookup and Rice tiles. What is proved of the functions below stands in the
  * project's docs/PROMISES.md; the names and meanings here are not checked against it.
  *
- * Link with libabi.a (pkg-config: widrekas). The library uses memcpy and memset, no heap, no files and no state of its own, so it
+ * Link with libwidrekas.a (pkg-config: widrekas). The library uses memcpy and memset, no heap, no files and no state of its own, so it
  * may be called from any number of threads. Reading an entry takes some 120 KiB of the caller's stack.
  *
  * For every function:

@@ -5,7 +5,7 @@ use std::process::{exit, Command};
 use std::{env, fs};
 
 /// The archive's name in its folder.
-const ARCHIVE: &str = "libabi.a";
+const ARCHIVE: &str = "libwidrekas.a";
 
 /// What the archive must have.
 const FUNCTIONS: [&str; 9] = [
@@ -41,12 +41,12 @@ fn own(root: &Path) -> PathBuf {
     if archive.is_file() {
         return archive;
     }
-    let advice = "set WIDREKAS_ARCHIVE to a folder with libabi.a, or run `rt staticlib abi` at the project's root";
-    match Command::new("rt").args(["staticlib", "abi"]).current_dir(root).output() {
+    let advice = "set WIDREKAS_ARCHIVE to a folder with libwidrekas.a, or run `rt staticlib widrekas` at the project's root";
+    match Command::new("rt").args(["staticlib", "widrekas"]).current_dir(root).output() {
         Ok(run) if run.status.success() && archive.is_file() => archive,
         Ok(run) => {
             let said = String::from_utf8_lossy(&run.stderr);
-            fail(&format!("`rt staticlib abi` made no archive ({}); {advice}\n{said}", run.status))
+            fail(&format!("`rt staticlib widrekas` made no archive ({}); {advice}\n{said}", run.status))
         }
         Err(why) => fail(&format!("there is no {}, and rt could not be run: {why}; {advice}", archive.display())),
     }
@@ -68,5 +68,5 @@ fn main() {
     }
     let folder = archive.parent().unwrap_or(&here);
     println!("cargo:rustc-link-search=native={}", folder.display());
-    println!("cargo:rustc-link-lib=static=abi");
+    println!("cargo:rustc-link-lib=static=widrekas");
 }

@@ -1,11 +1,11 @@
-//! The stored headers of `crates/replay`, whose expected lines are the published Rust's answers as `cards` prints them.
+//! The stored headers of `crates/replay_headers`, whose expected lines are the published Rust's answers as `cards` prints them.
 
 use std::fs;
 use std::path::Path;
 use widrekas::{Header, Value};
 
 fn stored(name: &str) -> Vec<u8> {
-    let path = Path::new(env!("CARGO_MANIFEST_DIR")).join("../../crates/replay").join(name);
+    let path = Path::new(env!("CARGO_MANIFEST_DIR")).join("../../crates/replay_headers").join(name);
     fs::read(&path).unwrap_or_else(|why| panic!("{}: {why}", path.display()))
 }
 

@@ -7,7 +7,7 @@ use Rattle.joining.specs.Roles.{Held}
 use Rattle.joining.specs.Lookup.{lookup}
 use Rattle.joining.proofs.Demand3.{demand-3-bytes}
 use Rattle.header.specs.declared.Header.{Header}
-use Rattle.parts.specs.Cards.{cardsOf, roleAt, rolesOf}
+use Rattle.roles.specs.Cards.{cardsOf, roleAt, rolesOf}
 use Rattle.header.specs.Reading.{headerOf}
 use Rattle.header.specs.Answers.{Outcome, given, lookedUp, lookupOf}
 use Rattle.demands.specs.Demands.{IsAccepted, Isolation}

@@ -13,7 +13,7 @@ use mathlib.Core.List.{List, []}
 use lib.ListN.{length, getD}
 use Rattle.joining.specs.Belonging.{belongs}
 use Rattle.header.specs.declared.Header.the-variants.{Accepted}
-use Rattle.parts.specs.Cards.{cardsOf, rolesOf}
+use Rattle.roles.specs.Cards.{cardsOf, rolesOf}
 use Rattle.header.specs.Reading.{headerOf}
 use Rattle.header.specs.Answers.{lookupOf}
 

@@ -36,7 +36,7 @@ use Rattle.joining.specs.Words.{endsOpen, stem, addsNothing, joinText, joinComm
 use Rattle.joining.specs.Lookup.{joinOn, lookup}
 use Rattle.header.specs.declared.LookupAnswer.{LookupAnswer}
 use Rattle.header.specs.declared.LookupAnswer.the-variants as L
-use Rattle.parts.specs.Cards.{pieces, isBadLength}
+use Rattle.roles.specs.Cards.{pieces, isBadLength}
 use Rattle.header.specs.Reading.{headerFrom, headerOf}
 use Rattle.header.specs.Answers.{Outcome, written, lookupOf}
 use Rattle.rice.specs.declared.Decoded.{Decoded}

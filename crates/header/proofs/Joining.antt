@@ -25,12 +25,12 @@ use Rattle.joining.proofs.Answers.{joinOn-shut}
 use Rattle.header.specs.declared.Lengths.{Lengths}
 use Rattle.header.specs.declared.Kind.{Kind}
 use Rattle.header.specs.declared.Kind.the-variants.{Entry, More, Neutral, Last}
-use Rattle.parts.specs.Cards.{rolesOf}
+use Rattle.roles.specs.Cards.{rolesOf}
 use Rattle.header.specs.Answers.{isThere, bytesIn, over}
 use Rattle.header.specs.Passes.{kindOf, contentOf, roleNo, wordsOf, moreOf, roleFrom, joinedBy, goesOn, placeBehind, laidBehind, Stands, Stepped, Space, Room}
 use Rattle.header.proofs.Kind as kind
 use Rattle.header.proofs.Buffers.{joined-length, joined-laid}
-use Rattle.parts.proofs.Cards.{cardNo}
+use Rattle.roles.proofs.Cards.{cardNo}
 use Rattle.header.proofs.Playing.{roleAs, role-kind}
 use Rattle.header.proofs.Looking.{roles-from, roles-past}
 

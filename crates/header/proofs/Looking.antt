@@ -24,11 +24,11 @@ use Rattle.header.specs.declared.Header.{Header}
 use Rattle.header.specs.declared.Header.the-variants.{Accepted, Refused}
 use Rattle.header.specs.declared.Kind.{Kind}
 use Rattle.header.specs.declared.Scan.{Scan}
-use Rattle.parts.specs.Cards.{cardsOf, roleAt, rolesOf, isBadLength}
+use Rattle.roles.specs.Cards.{cardsOf, roleAt, rolesOf, isBadLength}
 use Rattle.header.specs.Reading.{headerFrom, headerOf}
 use Rattle.header.specs.Answers.{entryHead}
 use Rattle.header.specs.Passes.{kindOf, lastFrom, scanBy, scanOf}
-use Rattle.parts.proofs.Cards.{drop-map, cardNo, card-count, cards-from, cards-past}
+use Rattle.roles.proofs.Cards.{drop-map, cardNo, card-count, cards-from, cards-past}
 use Rattle.header.proofs.Playing.{roleAs, role-kind}
 
 -- ---- lengths

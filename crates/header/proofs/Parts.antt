@@ -8,12 +8,12 @@ use Rattle.card.specs.declared.Card.the-variants as C
 use Rattle.card.specs.declared.CardAnswer.{CardAnswer}
 use Rattle.card.specs.declared.CardAnswer.the-variants as A
 use Rattle.card.specs.Cards.{cardOf}
-use Rattle.parts.specs.declared.Part.{Part}
-use Rattle.parts.specs.declared.Part.the-variants.{Refused as Refused-card, Last, Entry, Other}
-use Rattle.parts.specs.Cards.{cardsOf}
-use Rattle.parts.specs.Named.{partOf, namedOf}
-use Rattle.parts.proofs.Cards.{cardNo, cards-from}
-use Rattle.parts.proofs.Parts.{part-here}
+use Rattle.roles.specs.declared.Part.{Part}
+use Rattle.roles.specs.declared.Part.the-variants.{Refused as Refused-card, Last, Entry, Other}
+use Rattle.roles.specs.Cards.{cardsOf}
+use Rattle.roles.specs.Named.{partOf, namedOf}
+use Rattle.roles.proofs.Cards.{cardNo, cards-from}
+use Rattle.roles.proofs.Parts.{part-here}
 use Rattle.header.specs.declared.Header.{Header}
 use Rattle.header.specs.declared.Header.the-variants.{Accepted, Refused}
 use Rattle.header.specs.Reading.{headerAt, headerFrom}

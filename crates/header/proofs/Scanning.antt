@@ -20,10 +20,10 @@ use Rattle.joining.specs.Roles.{Role, roleOf}
 use Rattle.header.specs.declared.Header.{Header}
 use Rattle.header.specs.declared.Header.the-variants.{Accepted, Refused}
 use Rattle.header.specs.declared.Scan.{Scan}
-use Rattle.parts.specs.Cards.{cardsOf, roleAt, rolesOf, isBadLength}
+use Rattle.roles.specs.Cards.{cardsOf, roleAt, rolesOf, isBadLength}
 use Rattle.header.specs.Reading.{isEnd, headerAt, headerFrom, headerOf}
 use Rattle.header.specs.Passes.{isLast, foundAt, lastFrom, refusedScan, scanBy, scanOf}
-use Rattle.parts.proofs.Cards.{cardNo, cards-from, cards-past}
+use Rattle.roles.proofs.Cards.{cardNo, cards-from, cards-past}
 use Rattle.header.proofs.Playing.{last-is-end}
 
 -- ---- where the loop stands: what is left decides for the whole

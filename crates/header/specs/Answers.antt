@@ -16,7 +16,7 @@ use Rattle.header.specs.declared.Header.the-variants.{Accepted, Refused}
 use Rattle.header.specs.declared.LookupAnswer.{LookupAnswer}
 use Rattle.header.specs.declared.LookupAnswer.the-variants as L
 use Rattle.header.specs.declared.Looked.{Looked}
-use Rattle.parts.specs.Cards.{rolesOf, isBadLength}
+use Rattle.roles.specs.Cards.{rolesOf, isBadLength}
 use Rattle.header.specs.Reading.{headerOf}
 
 -- an answer, and the lent buffers for text and comment after it

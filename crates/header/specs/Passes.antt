@@ -36,7 +36,7 @@ use Rattle.header.specs.declared.Kind.the-variants.{Entry, More, Neutral
 use Rattle.header.specs.declared.Lengths.{Lengths}
 use Rattle.header.specs.declared.Content.{Content}
 use Rattle.header.specs.declared.Written.{Written}
-use Rattle.parts.specs.Cards.{roleAt, rolesOf}
+use Rattle.roles.specs.Cards.{roleAt, rolesOf}
 use Rattle.header.specs.Reading.{headerOf}
 use Rattle.header.specs.Answers.{Outcome, isThere, bytesIn, unread, over}
 

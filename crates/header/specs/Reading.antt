@@ -10,7 +10,7 @@ use Rattle.card.specs.declared.Card.the-variants as C
 use Rattle.card.specs.declared.CardAnswer.{CardAnswer}
 use Rattle.card.specs.declared.CardAnswer.the-variants as A
 use Rattle.card.specs.Cards.{cardOf}
-use Rattle.parts.specs.Cards.{cardsOf, isBadLength}
+use Rattle.roles.specs.Cards.{cardsOf, isBadLength}
 use Rattle.header.specs.declared.Header.{Header}
 use Rattle.header.specs.declared.Header.the-variants.{Accepted, Refused}
 

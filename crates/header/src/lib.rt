@@ -11,7 +11,7 @@ ghost use Rattle.card.specs.Cards.{cardOf};
 ghost use Rattle.joining.specs.Words.{endsOpen, addsNothing, joinText, opens};
 ghost use Rattle.joining.specs.Roles.{hasText, hasDigits, isString, commentOf, roleOf};
 ghost use Rattle.joining.specs.Lookup.{joinOn};
-ghost use Rattle.parts.specs.Cards.{rolesOf};
+ghost use Rattle.roles.specs.Cards.{rolesOf};
 ghost use Rattle.header.specs.Reading.{isEnd, headerOf};
 ghost use Rattle.header.specs.Answers.{unread, given, lookupOf, entryOf, entryHead};
 ghost use Rattle.header.specs.Passes.{kindIn, kindOf, contentOf, refusalIn, foundAt, scanOf, refusedScan, refusedHeader, leaves, answerBy, roleNo, roleFrom, wordsOf, placeBehind, laidBehind, Stands, Stepped, Space, Room, Wrote, WroteAt};
@@ -119,7 +119,7 @@ pub fn read_entry(header: &[u8], i: usize, text: &mut [u8], comment: &mut [u8]) 
     ensures { λ _. ⌜ now (text .exit) ≡ entryOf (now (header .entry)) i (now (text .entry)) (now (comment .entry)) .text ⌝ }
     ensures { λ _. ⌜ now (comment .exit) ≡ entryOf (now (header .entry)) i (now (text .entry)) (now (comment .entry)) .comment ⌝ }
 {
-    if parts::is_bad_length(header.len()) {
+    if roles::is_bad_length(header.len()) {
         return refused_header(Header::Refused(Refusal::HeaderLength, 0));
     }
     if header.len() / CARD <= i {
@@ -222,7 +222,7 @@ fn content_at(header: &[u8], i: usize) -> Content
     requires { ⌜ i < length (now header) / 80 ⌝ }
     ensures { λ r. ⌜ r ≡ contentOf (cardOf (take 80 (drop (i * 80) (now (header .entry))))) ⌝ }
 {
-    let read = parts::card_at(header, i);
+    let read = roles::card_at(header, i);
     let answer = read.answer;
     let text = read.text;
     let comment = read.comment;
@@ -260,14 +260,14 @@ fn found_at(card: CardRead, name: &[u8], i: usize, last: Place) -> Place
 fn scan_cards(header: &[u8], name: &[u8]) -> Scan
     ensures { λ r. ⌜ r ≡ scanOf (now (header .entry)) (now (name .entry)) ⌝ }
 {
-    if parts::is_bad_length(header.len()) {
+    if roles::is_bad_length(header.len()) {
         return refused_scan(Refusal::HeaderLength, 0);
     }
     let n = header.len() / CARD;
     let mut last = Place::Nowhere;
     let mut i = 0;
     while i < n {
-        let read = parts::card_at(header, i);
+        let read = roles::card_at(header, i);
         let answer = read.answer;
         let CardAnswer::Read(card) = answer else {
             return refused_scan(refusal_in(answer), i);

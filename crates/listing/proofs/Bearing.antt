@@ -23,14 +23,14 @@ use Rattle.card.specs.declared.CardRead.{CardRead}
 use Rattle.card.specs.Keywords.{keywordOf}
 use Rattle.card.specs.Cards.{cardOf}
 use Rattle.joining.specs.Roles.{Held, Role, entry, neutral, isString, heldOf, roleBy}
-use Rattle.parts.specs.declared.Part.{Part}
-use Rattle.parts.specs.declared.Part.the-variants.{Refused as Refused-card, Last, Entry, Other}
-use Rattle.parts.specs.declared.Named.{Named}
-use Rattle.parts.specs.Cards.{roleAt, rolesOf}
-use Rattle.parts.specs.Named.{partOf, namedBy, namedOf}
-use Rattle.parts.proofs.Cards.{cardNo}
+use Rattle.roles.specs.declared.Part.{Part}
+use Rattle.roles.specs.declared.Part.the-variants.{Refused as Refused-card, Last, Entry, Other}
+use Rattle.roles.specs.declared.Named.{Named}
+use Rattle.roles.specs.Cards.{roleAt, rolesOf}
+use Rattle.roles.specs.Named.{partOf, namedBy, namedOf}
+use Rattle.roles.proofs.Cards.{cardNo}
 use Rattle.header.proofs.Looking.{roles-from}
-use Rattle.parts.proofs.Parts.{named-here, part-here}
+use Rattle.roles.proofs.Parts.{named-here, part-here}
 use Rattle.listing.specs.declared.Inserted.the-variants.{Names}
 use Rattle.listing.specs.Listing.{Table, Listed, putRole, nameOf}
 use Rattle.listing.specs.Inserting.{bearsOf, placeBy, Insertion, insertAt}

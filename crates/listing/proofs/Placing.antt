@@ -26,12 +26,12 @@ use Rattle.joining.specs.Roles.{Held, Role, entry, neutral}
 use Rattle.joining.proofs.Names.{same-eq}
 use Rattle.header.specs.declared.Header.{Header}
 use Rattle.header.specs.declared.Header.the-variants.{Accepted, Refused}
-use Rattle.parts.specs.declared.Part.{Part}
-use Rattle.parts.specs.declared.Part.the-variants.{Refused as Refused-card, Last, Entry, Other}
-use Rattle.parts.specs.Cards.{cardsOf, rolesOf, isBadLength}
+use Rattle.roles.specs.declared.Part.{Part}
+use Rattle.roles.specs.declared.Part.the-variants.{Refused as Refused-card, Last, Entry, Other}
+use Rattle.roles.specs.Cards.{cardsOf, rolesOf, isBadLength}
 use Rattle.header.specs.Reading.{isEnd, headerAt, headerFrom, headerOf}
-use Rattle.parts.specs.Named.{namedOf}
-use Rattle.parts.proofs.Cards.{cardNo, cards-past}
+use Rattle.roles.specs.Named.{namedOf}
+use Rattle.roles.proofs.Cards.{cardNo, cards-past}
 use Rattle.header.proofs.Looking.{roles-from, good-cards}
 use Rattle.header.proofs.Parts.{headerBy, header-next}
 use Rattle.listing.specs.declared.Inserted.{Inserted}

@@ -10,7 +10,7 @@ use Rattle.text.specs.Bytes.{ascii}
 use Rattle.text.specs.Same.{same}
 use Rattle.card.specs.Keywords.{keywordOf}
 use Rattle.joining.specs.Roles.{neutral}
-use Rattle.parts.specs.Cards.{rolesOf}
+use Rattle.roles.specs.Cards.{rolesOf}
 use Rattle.listing.specs.declared.Inserted.{Inserted}
 use Rattle.listing.specs.declared.Inserted.the-variants.{Names, Full}
 use Rattle.listing.specs.Listing.{nameOf}

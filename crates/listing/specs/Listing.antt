@@ -12,7 +12,7 @@ use Rattle.text.specs.Text.{filled}
 use Rattle.joining.specs.Roles.{Role, entry, more, neutral, last}
 use Rattle.header.specs.declared.Header.{Header}
 use Rattle.header.specs.declared.Header.the-variants.{Accepted, Refused}
-use Rattle.parts.specs.Cards.{rolesOf}
+use Rattle.roles.specs.Cards.{rolesOf}
 use Rattle.header.specs.Reading.{headerOf}
 use Rattle.header.specs.Answers.{Outcome, entryOf}
 use Rattle.listing.specs.declared.Listing.{Listing}

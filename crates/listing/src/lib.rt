@@ -8,7 +8,7 @@ ghost use Rattle.listing.specs.Inserting.{bearsOf, placeBy, insertAt, in
 ghost use Rattle.listing.specs.Marks.{markOf, Bears, namesIn, Marked};
 use header::Header;
 use header::Looked;
-use parts::Part;
+use roles::Part;
 use refusal::Refusal;
 use text::Cut;
 use text::Place;
@@ -50,7 +50,7 @@ const BUCKETS: usize = 256;
 pub fn list(header: &[u8]) -> Listing
     ensures { λ r. ⌜ r ≡ listOf (now (header .entry)) ⌝ }
 {
-    let cards = parts::card_count(header);
+    let cards = roles::card_count(header);
     if cards == 0 {
         return refused(Refusal::HeaderLength, 0);
     }
@@ -62,7 +62,7 @@ pub fn list(header: &[u8]) -> Listing
     let mut count: usize = 0;
     let mut i: usize = 0;
     'cards: while i < cards {
-        let named = parts::named_at(header, i);
+        let named = roles::named_at(header, i);
         let part = named.part;
         let name = named.name;
         match part {
@@ -157,7 +157,7 @@ fn bears(header: &[u8], i: usize, name: &[u8]) -> bool
         let at = i * CARD;
         let word = text::trimmed(text::first_of(&header[at..], KEYWORD), Cut::Blanks);
         if text::same_bytes(word, b"HIERARCH") {
-            let own = parts::named_at(header, i);
+            let own = roles::named_at(header, i);
             let dotted = own.name;
             let bytes = dotted.bytes;
             return text::same_bytes(text::first_of(&bytes, dotted.len), name);

@@ -1,36 +1,48 @@
 -- Numbers and refusals are one to one.
 use Prim.Native.Nat.{ℕ}
 use mathlib.Core.Path.{_≡_, refl, sym, ap, _∙_}
-use mathlib.Core.List.{List, [], _∷_, map}
+use mathlib.Core.List.{List, [], _∷_}
+use mathlib.Core.Option.{Option, none, some}
+use lib.ListN.{getD}
 use Rattle.refusal.specs.declared.Refusal.{Refusal}
-use Rattle.refusal.specs.declared.Refusal.the-variants.{HighByte, OddByte, StringNotClosed, StringNotOpened, Complex, NoEquals, NoName, ExtensionNotQuoted, HeaderLength, NoEnd, TableFull, NameNotFound, BufferShort, Limits, PixelCount, TileEnds, FsAboveTop, BadCursor}
-use Rattle.refusal.specs.Numbers.{numberOf, inOrder, refusal}
+use Rattle.refusal.specs.declared.Refusal.the-variants.{HighByte, OddByte, StringNotClosed, StringNotOpened, Complex, NoEquals}
+use Rattle.refusal.specs.declared.Refusal.the-variants.{NoName, ExtensionNotQuoted, HeaderLength, NoEnd, TableFull, NameNotFound}
+use Rattle.refusal.specs.declared.Refusal.the-variants.{BufferShort, Limits, PixelCount, TileEnds, FsAboveTop, BadCursor}
+use Rattle.refusal.specs.Numbers.{numberOf}
 
--- the cases stand in the order of their numbers, 1 to 18
-pub in-order : map numberOf inOrder ≡ 1 ∷ 2 ∷ 3 ∷ 4 ∷ 5 ∷ 6 ∷ 7 ∷ 8 ∷ 9 ∷ 10 ∷ 11 ∷ 12 ∷ 13 ∷ 14 ∷ 15 ∷ 16 ∷ 17 ∷ 18 ∷ []
-in-order = refl
+-- the cases by their numbers: no case has the number 0
+abbrev table : List (Option Refusal)
+table =
+    none ∷ some HighByte ∷ some OddByte ∷ some StringNotClosed ∷ some StringNotOpened ∷ some Complex ∷ some NoEquals ∷ some NoName
+    ∷ some ExtensionNotQuoted ∷ some HeaderLength ∷ some NoEnd ∷ some TableFull ∷ some NameNotFound ∷ some BufferShort ∷ some Limits
+    ∷ some PixelCount ∷ some TileEnds ∷ some FsAboveTop ∷ some BadCursor ∷ []
 
 -- a refusal is the one with its number
-pub refusal-numberOf : (r : Refusal) → refusal (numberOf r) ≡ r
-refusal-numberOf HighByte = refl
-refusal-numberOf OddByte = refl
-refusal-numberOf StringNotClosed = refl
-refusal-numberOf StringNotOpened = refl
-refusal-numberOf Complex = refl
-refusal-numberOf NoEquals = refl
-refusal-numberOf NoName = refl
-refusal-numberOf ExtensionNotQuoted = refl
-refusal-numberOf HeaderLength = refl
-refusal-numberOf NoEnd = refl
-refusal-numberOf TableFull = refl
-refusal-numberOf NameNotFound = refl
-refusal-numberOf BufferShort = refl
-refusal-numberOf Limits = refl
-refusal-numberOf PixelCount = refl
-refusal-numberOf TileEnds = refl
-refusal-numberOf FsAboveTop = refl
-refusal-numberOf BadCursor = refl
+told : (r : Refusal) → getD table (numberOf r) none ≡ some r
+told HighByte = refl
+told OddByte = refl
+told StringNotClosed = refl
+told StringNotOpened = refl
+told Complex = refl
+told NoEquals = refl
+told NoName = refl
+told ExtensionNotQuoted = refl
+told HeaderLength = refl
+told NoEnd = refl
+told TableFull = refl
+told NameNotFound = refl
+told BufferShort = refl
+told Limits = refl
+told PixelCount = refl
+told TileEnds = refl
+told FsAboveTop = refl
+told BadCursor = refl
+
+-- the case of an option, or another
+abbrev or : Refusal → Option Refusal → Refusal
+or s none = s
+or s (some r) = r
 
 -- so a number tells the refusal
 pub number-tells : (r s : Refusal) → numberOf r ≡ numberOf s → r ≡ s
-number-tells r s e = sym (refusal-numberOf r) ∙ ap refusal e ∙ refusal-numberOf s
+number-tells r s e = ap (or s) (sym (told r) ∙ ap (λ (n : ℕ). getD table n none) e ∙ told s)

@@ -1,9 +1,10 @@
 -- The refusal numbers of document 01, "Refusal numbers".
-use Prim.Native.Nat.{ℕ, _-_}
-use mathlib.Core.List.{List, [], _∷_}
-use lib.ListN.{getD}
+use Prim.Native.Nat.{ℕ}
 use Rattle.refusal.specs.declared.Refusal.{Refusal}
-use Rattle.refusal.specs.declared.Refusal.the-variants.{HighByte, OddByte, StringNotClosed, StringNotOpened, Complex, NoEquals, NoName, ExtensionNotQuoted, HeaderLength, NoEnd, TableFull, NameNotFound, BufferShort, Limits, PixelCount, TileEnds, FsAboveTop, BadCursor}
+use Rattle.refusal.specs.declared.Refusal.the-variants.{HighByte, OddByte, StringNotClosed, StringNotOpened, Complex, NoEquals}
+use Rattle.refusal.specs.declared.Refusal.the-variants.{NoName, ExtensionNotQuoted, HeaderLength, NoEnd, TableFull, NameNotFound}
+use Rattle.refusal.specs.declared.Refusal.the-variants.{BufferShort, Limits, PixelCount, TileEnds, FsAboveTop, BadCursor}
+use Rattle.refusal.specs.declared.Fault.{Fault}
 
 -- the number of each case
 abbrev pub numberOf : Refusal → ℕ
@@ -26,12 +27,6 @@ numberOf TileEnds = 16
 numberOf FsAboveTop = 17
 numberOf BadCursor = 18
 
--- the cases in the order of their numbers
-abbrev pub inOrder : List Refusal
-inOrder =
-    HighByte ∷ OddByte ∷ StringNotClosed ∷ StringNotOpened ∷ Complex ∷ NoEquals ∷ NoName ∷ ExtensionNotQuoted ∷ HeaderLength
-    ∷ NoEnd ∷ TableFull ∷ NameNotFound ∷ BufferShort ∷ Limits ∷ PixelCount ∷ TileEnds ∷ FsAboveTop ∷ BadCursor ∷ []
-
--- the refusal with a number: definitions name refusals by it
-abbrev pub refusal : ℕ → Refusal
-refusal n = getD inOrder (n - 1) BadCursor
+-- the fault that carries a refusal
+abbrev pub faultOf : Refusal → Fault
+faultOf why = record { why = why }

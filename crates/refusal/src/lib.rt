@@ -1,6 +1,6 @@
-// The refusals, one case for each row of document 01's table.
+// The refusals, one case for each row of document 01's table, and the fault that carries one up through every layer.
 ghost use mathlib.Core.Path.{_≡_};
-ghost use Rattle.refusal.specs.Numbers.{numberOf};
+ghost use Rattle.refusal.specs.Numbers.{numberOf, faultOf};
 
 // Why an input gets no reading.
 pub enum Refusal {
@@ -40,6 +40,30 @@ pub enum Refusal {
     FsAboveTop,
     // A cursor outside its rules.
     BadCursor,
+}
+
+// A refusal on its way up: every answer that can be refused holds one, and hands it on unchanged.
+pub struct Fault {
+    pub why: Refusal,
+}
+
+// The fault of a refusal.
+pub fn fault_of(why: Refusal) -> Fault
+    ensures { λ r. ⌜ r ≡ faultOf why ⌝ }
+{
+    Fault {
+        why: why,
+    }
+}
+
+impl Fault {
+    // The number of its refusal in document 01.
+    pub fn number(self) -> u8
+        ensures { λ r. ⌜ r ≡ numberOf (self .why) ⌝ }
+    {
+        let why = self.why;
+        why.number()
+    }
 }
 
 impl Refusal {

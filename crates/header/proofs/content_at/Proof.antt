@@ -1,6 +1,6 @@
 -- `header::content_at` meets its contract.
 use mathlib.Core.Path.{ap, _∙_}
-use Rattle.parts.proofs.Parts.{card-here}
+use Rattle.roles.proofs.Parts.{card-here}
 use Rattle.header.specs.Passes.{contentOf}
 use borrow.Author.Needs.{needs}
 use Rattle.header.proofs.content_at.Statement.{statement}

@@ -15,10 +15,10 @@ use Rattle.joining.specs.Lookup.{joinOn, whole}
 use Rattle.header.specs.declared.Kind.{Kind}
 use Rattle.header.specs.declared.Kind.the-variants.{Entry}
 use Rattle.header.specs.declared.Content.{Content}
-use Rattle.parts.specs.Cards.{rolesOf}
+use Rattle.roles.specs.Cards.{rolesOf}
 use Rattle.header.specs.Answers.{given, entryHead}
 use Rattle.header.specs.Passes.{kindOf, wordsOf, roleNo, Wrote, WroteAt, leaves, answerBy}
-use Rattle.parts.proofs.Cards.{cardNo}
+use Rattle.roles.proofs.Cards.{cardNo}
 use Rattle.header.proofs.Playing.{roleAs, role-kind}
 use Rattle.header.proofs.Telling.{gives-none}
 use Rattle.header.proofs.Looking.{head-kind}

@@ -14,7 +14,7 @@ use Rattle.header.specs.declared.Kind.{Kind}
 use Rattle.header.specs.declared.Kind.the-variants.{More, Neutral}
 use Rattle.header.specs.declared.Content.{Content}
 use Rattle.header.specs.Passes.{roleFrom, moreOf, Stepped}
-use Rattle.parts.proofs.Cards.{cardNo}
+use Rattle.roles.proofs.Cards.{cardNo}
 use Rattle.header.proofs.Playing.{roleAs}
 use Rattle.header.proofs.Joining.{stopped, passed, ended, role-at, with-comment, with-none}
 use borrow.Author.Needs.{needs}

@@ -8,7 +8,7 @@ use Rattle.text.specs.declared.Place.the-variants.{At, Nowhere}
 use Rattle.joining.specs.Roles.{Held}
 use Rattle.header.specs.declared.Header.{Header}
 use Rattle.header.specs.declared.Header.the-variants.{Accepted, Refused}
-use Rattle.parts.specs.Cards.{rolesOf}
+use Rattle.roles.specs.Cards.{rolesOf}
 use Rattle.header.specs.Reading.{headerOf}
 use Rattle.header.specs.Answers.{Outcome, unread, given, lookedUp, lookupOf}
 use Rattle.header.specs.Passes.{refusedHeader, lastFrom}

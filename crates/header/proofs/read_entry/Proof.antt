@@ -8,7 +8,7 @@ use lib.ListN.{length, drop}
 use Rattle.refusal.specs.Numbers.{refusal}
 use Rattle.joining.specs.Roles.{Held}
 use Rattle.header.specs.declared.LookupAnswer.the-variants as L
-use Rattle.parts.specs.Cards.{isBadLength, rolesOf}
+use Rattle.roles.specs.Cards.{isBadLength, rolesOf}
 use Rattle.header.specs.Answers.{Outcome, untouched, given, entryHead, entryOf}
 use Rattle.header.proofs.Looking.{good-cards, no-entry}
 use borrow.Author.Needs.{needs}

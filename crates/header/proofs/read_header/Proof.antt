@@ -6,7 +6,7 @@ use Rattle.joining.specs.Roles.{Role}
 use Rattle.header.specs.declared.Header.{Header}
 use Rattle.header.specs.declared.Header.the-variants.{Accepted, Refused}
 use Rattle.header.specs.declared.Scan.{Scan}
-use Rattle.parts.specs.Cards.{rolesOf}
+use Rattle.roles.specs.Cards.{rolesOf}
 use Rattle.header.specs.Reading.{headerOf}
 use Rattle.header.proofs.Looking.{scan-header}
 use borrow.Author.Needs.{needs}

@@ -8,8 +8,8 @@ use lib.ListN.{length}
 use borrow.Author.Needs.{needs}
 use Rattle.refusal.specs.declared.Refusal.{Refusal}
 use Rattle.card.specs.declared.CardAnswer.{CardAnswer}
-use Rattle.parts.specs.Cards.{isBadLength}
-use Rattle.parts.proofs.Parts.{card-here}
+use Rattle.roles.specs.Cards.{isBadLength}
+use Rattle.roles.proofs.Parts.{card-here}
 use Rattle.header.specs.Passes.{refusalIn, refusedScan}
 use Rattle.header.proofs.Scanning.{Reached, start, bad-scan, at-end, on-refused, on-end, on-more}
 use Rattle.header.proofs.scan_cards.Statement.{statement}

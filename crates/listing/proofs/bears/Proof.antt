@@ -11,7 +11,7 @@ use Rattle.text.specs.Same.{same}
 use Rattle.text.specs.Text.{bytesOf}
 use Rattle.text.proofs.Trimming.{take-rest}
 use Rattle.card.specs.Keywords.{keywordOf}
-use Rattle.parts.specs.declared.Named.{Named}
+use Rattle.roles.specs.declared.Named.{Named}
 use Rattle.listing.proofs.Bearing.{name-told, bears-past, bears-dotted, bears-plain}
 use borrow.Author.Needs.{needs}
 use Rattle.listing.proofs.bears.Statement.{statement}

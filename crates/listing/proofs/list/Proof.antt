@@ -9,12 +9,12 @@ use borrow.Author.Needs.{needs}
 use Rattle.refusal.specs.Numbers.{refusal}
 use Rattle.text.specs.Text.{bytesOf}
 use Rattle.header.specs.declared.Header.the-variants.{Accepted, Refused}
-use Rattle.parts.specs.declared.Part.{Part}
-use Rattle.parts.specs.declared.Part.the-variants.{Refused as Refused-card, Last, Entry, Other}
-use Rattle.parts.specs.declared.Named.{Named}
-use Rattle.parts.specs.Cards.{isBadLength}
-use Rattle.parts.specs.Named.{namedOf}
-use Rattle.parts.proofs.Parts.{count-none, count-some, count-is}
+use Rattle.roles.specs.declared.Part.{Part}
+use Rattle.roles.specs.declared.Part.the-variants.{Refused as Refused-card, Last, Entry, Other}
+use Rattle.roles.specs.declared.Named.{Named}
+use Rattle.roles.specs.Cards.{isBadLength}
+use Rattle.roles.specs.Named.{namedOf}
+use Rattle.roles.proofs.Parts.{count-none, count-some, count-is}
 use Rattle.listing.specs.Listing.{tabled, empty}
 use Rattle.listing.specs.Inserting.{Insertion, insertOf}
 use Rattle.listing.specs.Marks.{Bears}

@@ -1,0 +1,63 @@
+-- `abi_card::write_card` meets its contract: by what the card was read as.
+use mathlib.Core.Path.{_≡_, refl, sym, ap, _∙_}
+use mir.Syntax.{w64}
+use mir.Val.{toZ, ofZ}
+use Rattle.abi_value.specs.declared.Told.{Told}
+use Rattle.card.specs.declared.CardAnswer.{CardAnswer}
+use Rattle.abi_card.specs.Records.{said, recordAfter, numberAfter}
+use borrow.Author.Needs.{needs}
+use Rattle.abi_card.proofs.write_card.Statement.{statement}
+use Rattle.abi_card.proofs.write_card.Tie as tie
+
+enum-known-answer : tie.Need-enum-known-answer
+enum-known-answer c = search needs
+
+number-requires : tie.Need-number-requires
+number-requires c κs = search needs
+
+enum-known-answer-2 : tie.Need-enum-known-answer-2
+enum-known-answer-2 c = search needs
+
+write-record-requires : tie.Need-write-record-requires
+write-record-requires c κs = search needs
+
+card-told-requires : tie.Need-card-told-requires
+card-told-requires c κs = search needs
+
+returns : tie.Need-returns
+returns c =
+    let known = c .before .before in
+    let a = known .before .before .before .args in
+    let e = sym (known .answer .given .1) in (
+      c .number .ensures ∙ ap said e,
+      (ap (λ (x : CardAnswer). recordAfter x (a .read) (a .out .now)) e, ap (λ (x : CardAnswer). numberAfter x (a .number .now)) e),
+    )
+
+same-length : tie.Need-same-length
+same-length c = search needs
+
+returns-2 : tie.Need-returns-2
+returns-2 c =
+    let written = c .before .before .before .before in
+    let known = written .before .before .before in
+    let a = known .before .before .before .args in
+    let z = c .before .card-told .result .number in
+    let fits : toZ w64 (ofZ w64 z) ≡ z = search needs in
+    let stored = fits ∙ ap (λ (t : Told). t .number) (c .before .card-told .ensures) in
+    let e = sym (known .answer2 .given .1) in (
+      ap said e,
+      (written .write-record .ensures ∙ ap (λ (x : CardAnswer). recordAfter x (a .read) (a .out .now)) e, stored ∙ ap (λ (x : CardAnswer). numberAfter x (a .number .now)) e),
+    )
+
+pub write-card-spec : {M : Type 1} → statement M
+write-card-spec =
+    tie.close
+    (tie.spec
+    enum-known-answer
+    number-requires
+    enum-known-answer-2
+    write-record-requires
+    card-told-requires
+    returns
+    same-length
+    returns-2)

@@ -1,0 +1,2 @@
+-- What the contracts of `abi_card` cite.
+pub mod Records

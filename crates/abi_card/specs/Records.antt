@@ -1,0 +1,87 @@
+-- What the C boundary writes: a card as a record of 248 bytes and a number.
+use Prim.Native.Nat.{ℕ, min}
+use mathlib.Core.Bool.{Bool, false, cond, _&&_}
+use mathlib.Core.List.{List, [], _∷_, _++_}
+use lib.Dec.{eqb}
+use lib.IntN.{ℤ, pos}
+use lib.ListN.{length}
+use Rattle.refusal.specs.Numbers.{numberOf}
+use Rattle.text.specs.declared.Text.{Text}
+use Rattle.card.specs.declared.Card.{Card}
+use Rattle.card.specs.declared.Card.the-variants as C
+use Rattle.card.specs.declared.CardAnswer.{CardAnswer}
+use Rattle.card.specs.declared.CardAnswer.the-variants.{Read, Refused}
+use Rattle.card.specs.declared.CardRead.{CardRead}
+use Rattle.card.specs.Cards.{cardOf}
+use Rattle.abi_value.specs.declared.Told.{Told}
+use Rattle.abi_value.specs.Telling.{told, valueTold, bitOf, wrongLength}
+
+-- ---- a card in numbers
+
+-- the number of a card's class
+abbrev pub classNumber : Card → ℕ
+classNumber (C.Value v) = 1
+classNumber C.Continuation = 2
+classNumber C.Xtension = 3
+classNumber C.Comment = 4
+classNumber C.History = 5
+classNumber (C.Hierarch v) = 6
+classNumber C.Space = 7
+classNumber C.End = 8
+classNumber C.Undefined = 9
+
+-- a card without a value has kind 0
+abbrev pub cardTold : Card → Told
+cardTold (C.Value v) = valueTold v
+cardTold (C.Hierarch v) = valueTold v
+cardTold C.Continuation = told 0 false (pos 0)
+cardTold C.Xtension = told 0 false (pos 0)
+cardTold C.Comment = told 0 false (pos 0)
+cardTold C.History = told 0 false (pos 0)
+cardTold C.Space = told 0 false (pos 0)
+cardTold C.End = told 0 false (pos 0)
+cardTold C.Undefined = told 0 false (pos 0)
+
+-- ---- the record
+
+-- a length in a byte
+abbrev pub byteOf : ℕ → ℕ
+byteOf n = min n 255
+
+-- the eight numbers in front
+abbrev pub headOf : CardRead → ℕ → Told → List ℕ
+headOf r class t =
+    class ∷ t .kind ∷ bitOf (t .flag) ∷ bitOf (r .commented) ∷ byteOf (r .name .len) ∷ byteOf (r .text .len) ∷ byteOf (r .comment .len) ∷ 0 ∷ []
+
+-- then the name, the text and the comment, 80 bytes each
+abbrev pub recordOf : Card → CardRead → List ℕ
+recordOf c r = headOf r (classNumber c) (cardTold c) ++ r .name .bytes ++ r .text .bytes ++ r .comment .bytes
+
+-- ---- what reading a card answers, and leaves in lent memory
+
+-- 0, or the refusal's number
+abbrev pub said : CardAnswer → ℕ
+said (Read c) = 0
+said (Refused why) = numberOf why
+
+-- a refusal leaves all as it was
+abbrev pub recordAfter : CardAnswer → CardRead → List ℕ → List ℕ
+recordAfter (Read c) r o = recordOf c r
+recordAfter (Refused why) r o = o
+
+abbrev pub numberAfter : CardAnswer → ℤ → ℤ
+numberAfter (Read c) z = cardTold c .number
+numberAfter (Refused why) z = z
+
+-- the lengths that are asked for: a card's and a record's
+unfoldable pub isFit : List ℕ → List ℕ → Bool
+isFit card o = eqb (length card) 80 && eqb (length o) 248
+
+abbrev pub answerOf : List ℕ → List ℕ → ℕ
+answerOf card o = cond (isFit card o) (said (cardOf card .answer)) wrongLength
+
+abbrev pub leftOf : List ℕ → List ℕ → List ℕ
+leftOf card o = cond (isFit card o) (recordAfter (cardOf card .answer) (cardOf card) o) o
+
+abbrev pub numberLeft : List ℕ → List ℕ → ℤ → ℤ
+numberLeft card o z = cond (isFit card o) (numberAfter (cardOf card .answer) z) z

@@ -1,0 +1,3 @@
+-- Laws that the proofs of `abi_header` share.
+pub mod Fitting
+pub mod Leaving

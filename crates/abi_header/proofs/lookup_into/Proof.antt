@@ -1,0 +1,63 @@
+-- `abi_header::lookup_into` meets its contract: with other lengths nothing is read; otherwise what is read is written.
+use lib.ListN.{length}
+use Rattle.header.specs.Answers.{lookupOf}
+use Rattle.abi_header.specs.Headers.{isFit}
+use Rattle.abi_header.proofs.Fitting.{both}
+use Rattle.abi_header.proofs.Leaving.{unread, read}
+use borrow.Author.Needs.{needs}
+use Rattle.abi_header.proofs.lookup_into.Statement.{statement}
+use Rattle.abi_header.proofs.lookup_into.Tie as tie
+
+lookup-requires : tie.Need-lookup-requires
+lookup-requires c κs = search needs
+
+write-looked-requires : tie.Need-write-looked-requires
+write-looked-requires c κs =
+    let tested = c .before .before .before .before .before .before .before .before .before .before in
+    let a = tested .before .before .before .before .before .before .before .args in
+    both (length (a .digits .now)) 80 (length (a .out .now)) 7 (tested .if1 .taken)
+
+same-length : tie.Need-same-length
+same-length c = search needs
+
+same-length-2 : tie.Need-same-length-2
+same-length-2 c = search needs
+
+same-length-3 : tie.Need-same-length-3
+same-length-3 c = search needs
+
+same-length-4 : tie.Need-same-length-4
+same-length-4 c = search needs
+
+returns : tie.Need-returns
+returns c =
+    let written = c .before .before .before .before in
+    let got = written .before .before .before .before .before .before .before .before in
+    let tested = got .before .before .before in
+    let a = tested .before .before .before .before .before .before .before .args in
+    let d = a .digits .now in
+    let o = a .out .now in
+    let x = lookupOf (a .header .now) (a .name .now) (a .text .now) (a .comment .now) in
+    read (isFit d o) x (a .text .now) (a .comment .now) d o (a .number .now)
+    (tested .if1 .taken) (got .lookup .ensures) (written .write-looked .ensures)
+
+returns-2 : tie.Need-returns-2
+returns-2 c =
+    let a = c .before .before .before .before .before .before .before .args in
+    let d = a .digits .now in
+    let o = a .out .now in
+    let x = lookupOf (a .header .now) (a .name .now) (a .text .now) (a .comment .now) in
+    unread (isFit d o) x (a .text .now) (a .comment .now) d o (a .number .now) (c .if1 .left)
+
+pub lookup-into-spec : {M : Type 1} → statement M
+lookup-into-spec =
+    tie.close
+    (tie.spec
+    lookup-requires
+    write-looked-requires
+    same-length
+    same-length-2
+    same-length-3
+    same-length-4
+    returns
+    returns-2)

@@ -1,0 +1,69 @@
+-- `abi_header::write_listing` meets its contract: by the answer that an arm knows.
+use mathlib.Core.Path.{refl}
+use Rattle.abi_header.proofs.Leaving.{list-by}
+use borrow.Author.Needs.{needs}
+use Rattle.abi_header.proofs.write_listing.Statement.{statement}
+use Rattle.abi_header.proofs.write_listing.Tie as tie
+
+enum-known-answer : tie.Need-enum-known-answer
+enum-known-answer c = search needs
+
+number-requires : tie.Need-number-requires
+number-requires c κs = search needs
+
+enum-told : tie.Need-enum-told
+enum-told c = search needs
+
+slice-aggregate-put-numbers : tie.Need-slice-aggregate-put-numbers
+slice-aggregate-put-numbers c = search needs
+
+put-numbers-requires : tie.Need-put-numbers-requires
+put-numbers-requires c κs =
+    let start = c .before .before .before .before .before .before .before .before in
+    rw (start .pre .0) (search needs)
+
+slice-aggregate-put-numbers-2 : tie.Need-slice-aggregate-put-numbers-2
+slice-aggregate-put-numbers-2 c = search needs
+
+put-numbers-requires-2 : tie.Need-put-numbers-requires-2
+put-numbers-requires-2 c κs =
+    let start = c .before .before .before .before .before .before .before .before .before .before .before .before .before in
+    rw (start .pre .1) (search needs)
+
+returns : tie.Need-returns
+returns c =
+    let known = c .before .before in
+    let a = known .before .before .before .before .args in
+    list-by (a .read) (a .first .now) (a .last .now) (known .answer .given .1)
+    (c .number .ensures, (refl, (refl, refl)))
+
+same-length : tie.Need-same-length
+same-length c = search needs
+
+same-length-2 : tie.Need-same-length-2
+same-length-2 c = search needs
+
+returns-2 : tie.Need-returns-2
+returns-2 c =
+    let second = c .before .before in
+    let first = second .before .before .before .before .before in
+    let known = first .before .before .before .before .before in
+    let a = known .before .before .before .before .args in
+    list-by (a .read) (a .first .now) (a .last .now) (known .enum-told .given .1)
+    (refl, (first .put-numbers .ensures, (second .put-numbers2 .ensures, refl)))
+
+pub write-listing-spec : {M : Type 1} → statement M
+write-listing-spec =
+    tie.close
+    (tie.spec
+    enum-known-answer
+    number-requires
+    enum-told
+    slice-aggregate-put-numbers
+    put-numbers-requires
+    slice-aggregate-put-numbers-2
+    put-numbers-requires-2
+    returns
+    same-length
+    same-length-2
+    returns-2)

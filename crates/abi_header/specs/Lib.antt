@@ -1,0 +1,2 @@
+-- What the contracts of `abi_header` cite.
+pub mod Headers

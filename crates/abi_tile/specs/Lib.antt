@@ -1,0 +1,2 @@
+-- What the contracts of `abi_tile` cite.
+pub mod Tiles

@@ -1,0 +1,2 @@
+-- What the contracts of `abi_value` cite.
+pub mod Telling

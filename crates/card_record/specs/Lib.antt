@@ -1,2 +1,0 @@
--- What the contracts of `card_record` cite.
-pub mod Records

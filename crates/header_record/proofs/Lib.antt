@@ -1,3 +1,0 @@
--- Laws that the proofs of `header_record` share.
-pub mod Fitting
-pub mod Leaving

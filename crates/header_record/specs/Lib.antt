@@ -1,2 +1,0 @@
--- What the contracts of `header_record` cite.
-pub mod Headers

@@ -1,2 +1,0 @@
--- What the contracts of `tile_record` cite.
-pub mod Tiles

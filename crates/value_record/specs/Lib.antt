@@ -1,2 +1,0 @@
--- What the contracts of `value_record` cite.
-pub mod Telling

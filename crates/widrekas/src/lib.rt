@@ -1,0 +1,166 @@
+// The C boundary: functions over slices and numbers, which take anything. A slice is a pointer and a length there.
+ghost use mathlib.Core.Path.{_≡_};
+ghost use Rattle.value.specs.Units.{unitOf};
+ghost use Rattle.abi_value.specs.Telling.{unitEnd};
+ghost use Rattle.abi_card.specs.Records.{answerOf, leftOf, numberLeft};
+ghost use Rattle.header.specs.Answers.{lookupOf, entryOf};
+ghost use Rattle.listing.specs.Listing.{listOf};
+ghost use Rattle.abi_header.specs.Headers.{isFit, entryAnswer, entryText, entryComment, entryDigits, entryNumbers, entryNumber};
+ghost use Rattle.abi_header.specs.Headers.{isRoom, listAnswer, listFirst, listLast, listCount};
+ghost use Rattle.rice.specs.Steps.{openOf, stepOf, decodeOf};
+ghost use Rattle.abi_tile.specs.Tiles.{cursorOf, openSaid, cursorAfter, stepSaid, steppedTo, writtenAfter, decodeSaid, countOf};
+
+// The version of this boundary.
+#[no_mangle]
+pub extern "C" fn widrekas_version() -> u32
+    ensures { λ r. ⌜ r ≡ 1 ⌝ }
+{
+    1
+}
+
+// ---- cards
+
+// Reads a card of 80 bytes into a record of 248 bytes and a number, and answers 0.
+// Otherwise it answers the refusal's number, or 255 where a slice has another length, and both stay as they are.
+#[no_mangle]
+pub extern "C" fn widrekas_card(card: &[u8], out: &mut [u8], number: &mut i64) -> u8
+    ensures { λ r. ⌜ r ≡ answerOf (now (card .entry)) (now (out .entry)) ⌝ }
+    ensures { λ _. ⌜ now (out .exit) ≡ leftOf (now (card .entry)) (now (out .entry)) ⌝ }
+    ensures { λ _. ⌜ now (number .exit) ≡ numberLeft (now (card .entry)) (now (out .entry)) (now (number .entry)) ⌝ }
+{
+    abi_card::read_into(card, out, number)
+}
+
+// The end of the unit that a comment names, which starts at byte 1; 0 where it names none.
+#[no_mangle]
+pub extern "C" fn widrekas_unit(comment: &[u8]) -> usize
+    ensures { λ r. ⌜ r ≡ unitEnd (unitOf (now (comment .entry))) ⌝ }
+{
+    abi_value::unit_end(comment)
+}
+
+// ---- headers
+
+// Looks a name up in a header. Answers 0, with seven numbers: 0, the value's kind, whether it is true or negative, whether there is
+// a comment, and the lengths of the text, the comment and the digits; the text and the comment at the front of their buffers; a
+// decimal's digits, then zeros, in 80 bytes; and the integer or the power of ten. Otherwise it answers the refusal's number, and all
+// stays as it is, but that a refusal of the header leaves the card's number in the first of the seven. 255 where digits or numbers
+// have another length.
+#[no_mangle]
+pub extern "C" fn widrekas_lookup(
+    header: &[u8],
+    name: &[u8],
+    text: &mut [u8],
+    comment: &mut [u8],
+    digits: &mut [u8],
+    out: &mut [usize],
+    number: &mut i64,
+) -> u8
+    ensures { λ r. ⌜ r ≡ entryAnswer (isFit (now (digits .entry)) (now (out .entry))) (lookupOf (now (header .entry)) (now (name .entry)) (now (text .entry)) (now (comment .entry))) ⌝ }
+    ensures { λ _. ⌜ now (text .exit) ≡ entryText (isFit (now (digits .entry)) (now (out .entry))) (lookupOf (now (header .entry)) (now (name .entry)) (now (text .entry)) (now (comment .entry))) (now (text .entry)) ⌝ }
+    ensures { λ _. ⌜ now (comment .exit) ≡ entryComment (isFit (now (digits .entry)) (now (out .entry))) (lookupOf (now (header .entry)) (now (name .entry)) (now (text .entry)) (now (comment .entry))) (now (comment .entry)) ⌝ }
+    ensures { λ _. ⌜ now (digits .exit) ≡ entryDigits (isFit (now (digits .entry)) (now (out .entry))) (lookupOf (now (header .entry)) (now (name .entry)) (now (text .entry)) (now (comment .entry))) (now (digits .entry)) ⌝ }
+    ensures { λ _. ⌜ now (out .exit) ≡ entryNumbers (isFit (now (digits .entry)) (now (out .entry))) (lookupOf (now (header .entry)) (now (name .entry)) (now (text .entry)) (now (comment .entry))) (now (out .entry)) ⌝ }
+    ensures { λ _. ⌜ now (number .exit) ≡ entryNumber (isFit (now (digits .entry)) (now (out .entry))) (lookupOf (now (header .entry)) (now (name .entry)) (now (text .entry)) (now (comment .entry))) (now (number .entry)) ⌝ }
+{
+    abi_header::lookup_into(header, name, text, comment, digits, out, number)
+}
+
+// Reads the entry at a card's number, whatever stands elsewhere in the header, and answers as a lookup does.
+#[no_mangle]
+pub extern "C" fn widrekas_entry(
+    header: &[u8],
+    card: usize,
+    text: &mut [u8],
+    comment: &mut [u8],
+    digits: &mut [u8],
+    out: &mut [usize],
+    number: &mut i64,
+) -> u8
+    ensures { λ r. ⌜ r ≡ entryAnswer (isFit (now (digits .entry)) (now (out .entry))) (entryOf (now (header .entry)) card (now (text .entry)) (now (comment .entry))) ⌝ }
+    ensures { λ _. ⌜ now (text .exit) ≡ entryText (isFit (now (digits .entry)) (now (out .entry))) (entryOf (now (header .entry)) card (now (text .entry)) (now (comment .entry))) (now (text .entry)) ⌝ }
+    ensures { λ _. ⌜ now (comment .exit) ≡ entryComment (isFit (now (digits .entry)) (now (out .entry))) (entryOf (now (header .entry)) card (now (text .entry)) (now (comment .entry))) (now (comment .entry)) ⌝ }
+    ensures { λ _. ⌜ now (digits .exit) ≡ entryDigits (isFit (now (digits .entry)) (now (out .entry))) (entryOf (now (header .entry)) card (now (text .entry)) (now (comment .entry))) (now (digits .entry)) ⌝ }
+    ensures { λ _. ⌜ now (out .exit) ≡ entryNumbers (isFit (now (digits .entry)) (now (out .entry))) (entryOf (now (header .entry)) card (now (text .entry)) (now (comment .entry))) (now (out .entry)) ⌝ }
+    ensures { λ _. ⌜ now (number .exit) ≡ entryNumber (isFit (now (digits .entry)) (now (out .entry))) (entryOf (now (header .entry)) card (now (text .entry)) (now (comment .entry))) (now (number .entry)) ⌝ }
+{
+    abi_header::entry_into(header, card, text, comment, digits, out, number)
+}
+
+// Lists a header's names in the order of their first cards. Answers 0, with the number of names and, for each, the number of the
+// first card that bears it and of the last; the places behind them hold 720. Otherwise it answers the refusal's number, with the
+// card's number as the count; or 255 where a slice has another length than 720. All else stays as it is.
+#[no_mangle]
+pub extern "C" fn widrekas_list(
+    header: &[u8],
+    first: &mut [usize],
+    last: &mut [usize],
+    count: &mut usize,
+) -> u8
+    ensures { λ r. ⌜ r ≡ listAnswer (isRoom (now (first .entry)) (now (last .entry))) (listOf (now (header .entry))) ⌝ }
+    ensures { λ _. ⌜ now (first .exit) ≡ listFirst (isRoom (now (first .entry)) (now (last .entry))) (listOf (now (header .entry))) (now (first .entry)) ⌝ }
+    ensures { λ _. ⌜ now (last .exit) ≡ listLast (isRoom (now (first .entry)) (now (last .entry))) (listOf (now (header .entry))) (now (last .entry)) ⌝ }
+    ensures { λ _. ⌜ now (count .exit) ≡ listCount (isRoom (now (first .entry)) (now (last .entry))) (listOf (now (header .entry))) (now (count .entry)) ⌝ }
+{
+    abi_header::list_into(header, first, last, count)
+}
+
+// ---- tiles
+
+// Opens a tile of nx pixels in blocks of nblock, of 8, 16 or 32 bits each. Answers 0, with the cursor at the first block; or the
+// refusal's number, and the cursor stays as it is.
+#[no_mangle]
+pub extern "C" fn widrekas_open(
+    tile: &[u8],
+    nx: usize,
+    nblock: usize,
+    bits: usize,
+    bit: &mut usize,
+    done: &mut usize,
+    last: &mut i32,
+) -> u8
+    ensures { λ r. ⌜ r ≡ openSaid (openOf (now (tile .entry)) nx nblock bits) ⌝ }
+    ensures { λ _. ⌜ cursorOf (now (bit .exit)) (now (done .exit)) (now (last .exit)) ≡ cursorAfter (openOf (now (tile .entry)) nx nblock bits) (cursorOf (now (bit .entry)) (now (done .entry)) (now (last .entry))) ⌝ }
+{
+    abi_tile::open_into(tile, nx, nblock, bits, bit, done, last)
+}
+
+// One block, from a cursor, into the pixels from the cursor's place on. Answers 0, with the cursor at the next block; 254 where
+// nothing is left; or the refusal's number, with the number of pixels of the step that were written. Whatever is not named stays
+// as it is.
+#[no_mangle]
+pub extern "C" fn widrekas_step(
+    tile: &[u8],
+    nx: usize,
+    nblock: usize,
+    bits: usize,
+    bit: &mut usize,
+    done: &mut usize,
+    last: &mut i32,
+    pixels: &mut [i32],
+    written: &mut usize,
+) -> u8
+    ensures { λ r. ⌜ r ≡ stepSaid (stepOf (now (tile .entry)) nx nblock bits (cursorOf (now (bit .entry)) (now (done .entry)) (now (last .entry))) (now (pixels .entry)) .answer) ⌝ }
+    ensures { λ _. ⌜ cursorOf (now (bit .exit)) (now (done .exit)) (now (last .exit)) ≡ steppedTo (stepOf (now (tile .entry)) nx nblock bits (cursorOf (now (bit .entry)) (now (done .entry)) (now (last .entry))) (now (pixels .entry)) .answer) (cursorOf (now (bit .entry)) (now (done .entry)) (now (last .entry))) ⌝ }
+    ensures { λ _. ⌜ now (pixels .exit) ≡ stepOf (now (tile .entry)) nx nblock bits (cursorOf (now (bit .entry)) (now (done .entry)) (now (last .entry))) (now (pixels .entry)) .content ⌝ }
+    ensures { λ _. ⌜ now (written .exit) ≡ writtenAfter (stepOf (now (tile .entry)) nx nblock bits (cursorOf (now (bit .entry)) (now (done .entry)) (now (last .entry))) (now (pixels .entry)) .answer) (now (written .entry)) ⌝ }
+{
+    abi_tile::step_into(tile, nx, nblock, bits, bit, done, last, pixels, written)
+}
+
+// Decodes a tile whole. Answers 0, and the count is the bits used; or the refusal's number, and the count is the pixels written.
+#[no_mangle]
+pub extern "C" fn widrekas_decode(
+    tile: &[u8],
+    nx: usize,
+    nblock: usize,
+    bits: usize,
+    pixels: &mut [i32],
+    count: &mut usize,
+) -> u8
+    ensures { λ r. ⌜ r ≡ decodeSaid (decodeOf (now (tile .entry)) nx nblock bits (now (pixels .entry)) .answer) ⌝ }
+    ensures { λ _. ⌜ now (pixels .exit) ≡ decodeOf (now (tile .entry)) nx nblock bits (now (pixels .entry)) .content ⌝ }
+    ensures { λ _. ⌜ now (count .exit) ≡ countOf (decodeOf (now (tile .entry)) nx nblock bits (now (pixels .entry)) .answer) ⌝ }
+{
+    abi_tile::decode_into(tile, nx, nblock, bits, pixels, count)
+}
