@@ -2,5 +2,6 @@
 pub mod Bytes
 pub mod Trim
 pub mod Same
+pub mod Ends
 pub mod Text
 pub mod Place
