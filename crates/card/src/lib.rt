@@ -58,6 +58,9 @@ pub enum Class {
     Other,
 }
 
+// The bytes of a card.
+pub const CARD: usize = 80;
+
 // The keyword's bytes, where the text of commentary and CONTINUE begins.
 const KEYWORD: usize = 8;
 

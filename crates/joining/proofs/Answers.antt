@@ -5,8 +5,8 @@ use mathlib.Core.Bool.{Bool, true, false, cond}
 use mathlib.Core.List.{List, [], _∷_}
 use mathlib.Core.Option.{Option, none, some}
 use Rattle.text.specs.Same.{same}
-use Rattle.joining.specs.Words.{Words, opens}
-use Rattle.joining.specs.Roles.{Held, Role, entry, more, neutral, last}
+use Rattle.joining.specs.Words.{opens}
+use Rattle.roles.specs.Roles.{Words, Held, Role, entry, more, neutral, last, refused}
 use Rattle.joining.specs.Lookup.{isOpen, joined, orElse, ifSame, joinOn, whole, lookup}
 use Rattle.joining.specs.Belonging.{Entry, Open, ended, idle, held, Effect, gives, nothing, stops, does, leaves, effects}
 use Rattle.joining.proofs.Names.{answer, or-none}
@@ -19,8 +19,9 @@ joinOn-shut w e (entry n v ∷ h) = refl
 joinOn-shut w e (more t c ∷ h) = rw e
 joinOn-shut w e (neutral ∷ h) = joinOn-shut w e h
 joinOn-shut w e (last ∷ h) = refl
+joinOn-shut w e (refused f ∷ h) = joinOn-shut w e h
 
-or-assoc : (u v w : Option Held) → orElse (orElse u v) w ≡ orElse u (orElse v w)
+pub or-assoc : (u v w : Option Held) → orElse (orElse u v) w ≡ orElse u (orElse v w)
 or-assoc none v w = refl
 or-assoc (some u) v w = refl
 
@@ -40,7 +41,8 @@ after-end n (c ∷ h) = rw (after-end n h)
 module _ (n : List ℕ) where
   -- what an entry that was just given comes to with what follows, where q stands open then
   Comes : Entry → Open → List Role → Type 0
-  Comes e q h = orElse (answer n (effects q h)) (ifSame (e .name) n (e .value)) ≡ orElse (lookup n h) (ifSame (e .name) n (whole (e .value) h))
+  Comes e q h =
+      orElse (answer n (effects q h)) (ifSame (e .name) n (e .value)) ≡ orElse (lookup n h) (ifSame (e .name) n (whole (e .value) h))
 
   -- where nothing is open, and where an open entry is held
   Both : List Role → Type 0
@@ -71,6 +73,7 @@ module _ (n : List ℕ) where
   )
   both (neutral ∷ h) = (or-none _ ∙ both h .0, λ e o. rw or-none (both h .1 e o))
   both (last ∷ h) = (rw (after-end n h), λ e o. rw (after-end n h))
+  both (refused f ∷ h) = (or-none _ ∙ both h .0, λ e o. rw or-none (both h .1 e o))
 
   pub by-effects : (h : List Role) → lookup n h ≡ answer n (effects idle h)
   unfolding Both

@@ -7,7 +7,7 @@ use mathlib.Core.List.{List, [], _∷_, map}
 use mathlib.Core.Option.{Option}
 use lib.ListN.{length, getD, length-map, List·getD-map}
 use Rattle.text.specs.Same.{same}
-use Rattle.joining.specs.Roles.{Held, Role, entry, more, neutral, last}
+use Rattle.roles.specs.Roles.{Held, Role, entry, more, neutral, last, refused}
 use Rattle.joining.specs.Lookup.{isOpen, joined, lookup}
 use Rattle.joining.specs.Belonging.{Entry, Open, ended, idle, held, Effect, gives, nothing, stops, does, leaves, effects, bears, belongs}
 use Rattle.joining.proofs.Names.{others, answer, answer-others}

@@ -1,18 +1,16 @@
 -- Names, and what a name is answered when another name's cards are left out.
 use Prim.Native.Nat.{ℕ}
 use mathlib.Core.Path.{_≡_, refl, sym, ap, ap₂, _∙_}
-use mathlib.Core.Bool.{Bool, true, false, cond, _&&_, true≢false}
+use mathlib.Core.Bool.{Bool, true, false, cond, _&&_}
 use mathlib.Core.List.{List, [], _∷_}
 use mathlib.Core.Option.{Option, none, some}
 use lib.Dec.{eqb}
 use borrow.Author.Tests.{eqb-true}
+use Rattle.laws.proofs.Truths.{false≢true}
 use Rattle.text.specs.Same.{same}
-use Rattle.joining.specs.Roles.{Held}
+use Rattle.roles.specs.Roles.{Held}
 use Rattle.joining.specs.Lookup.{orElse, ifSame}
 use Rattle.joining.specs.Belonging.{Effect, Entry, gives, nothing, stops, bears}
-
-false≢true : false ≡ true → ⊥
-false≢true e = true≢false (sym e)
 
 pub same-eq : (s t : List ℕ) → same s t ≡ true → s ≡ t
 unfolding same

@@ -4,7 +4,7 @@ use mathlib.Core.List.{List}
 use mathlib.Core.Path.{_≡_, refl, sym, _∙_}
 use mathlib.Core.Bool.{Bool, true, false, cond, true≢false}
 use Rattle.text.specs.Same.{same}
-use Rattle.joining.specs.Roles.{Role, entry, more, neutral, last}
+use Rattle.roles.specs.Roles.{Role, entry, more, neutral, last, refused}
 use Rattle.joining.specs.Lookup.{isOpen}
 use Rattle.joining.specs.Belonging.{Entry, Open, idle, held, Effect, gives, nothing, stops, does, leaves, bears}
 
@@ -31,3 +31,4 @@ module _ (k : List ℕ) where
   like-idle (own x) (more t d) b = absurd (true≢false (sym x ∙ b))
   like-idle (own x) neutral b = refl
   like-idle (own x) last b = refl
+  like-idle (own x) (refused f) b = refl

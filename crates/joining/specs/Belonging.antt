@@ -4,7 +4,7 @@ use mathlib.Core.Bool.{Bool, true, false, cond}
 use mathlib.Core.List.{List, [], _∷_}
 use lib.ListN.{getD}
 use Rattle.text.specs.Same.{same}
-use Rattle.joining.specs.Roles.{Held, Role, entry, more, neutral, last}
+use Rattle.roles.specs.Roles.{Held, Role, entry, more, neutral, last, refused}
 use Rattle.joining.specs.Lookup.{isOpen, joined}
 
 -- A name with the value that it has so far.
@@ -28,10 +28,12 @@ does idle (entry n v) = gives (record { name = n; value = v })
 does idle (more t c) = nothing
 does idle neutral = nothing
 does idle last = stops
+does idle (refused f) = nothing
 does (held e) (entry n v) = gives (record { name = n; value = v })
 does (held e) (more t c) = gives (record { name = e .name; value = joined (e .value) t c })
 does (held e) neutral = nothing
 does (held e) last = stops
+does (held e) (refused f) = nothing
 
 -- what it leaves open
 abbrev pub leaves : Open → Effect → Open

@@ -1,5 +1,4 @@
--- Joining and lookup (document 01, "Joining and lookup").
+-- What public promises and the demands cite: joining, lookup, and which cards belong to a name (document 01, "Joining and lookup").
 pub mod Words
-pub mod Roles
 pub mod Lookup
 pub mod Belonging

@@ -4,8 +4,8 @@ use mathlib.Core.Bool.{Bool, true, false, cond}
 use mathlib.Core.List.{List, [], _∷_}
 use mathlib.Core.Option.{Option, none, some}
 use Rattle.text.specs.Same.{same}
-use Rattle.joining.specs.Words.{Comment, Words, opens, joinWords}
-use Rattle.joining.specs.Roles.{Held, Role, entry, more, neutral, last}
+use Rattle.roles.specs.Roles.{Comment, Words, Held, Role, entry, more, neutral, last, refused}
+use Rattle.joining.specs.Words.{opens, joinWords}
 
 -- words with the CONTINUE cards joined to them that follow: those that come while they are open, before another entry
 unfoldable pub joinOn : Words → List Role → Words
@@ -14,6 +14,7 @@ joinOn w (entry n v ∷ h) = w
 joinOn w (more t c ∷ h) = cond (opens w) (joinOn (joinWords w t c) h) w
 joinOn w (neutral ∷ h) = joinOn w h
 joinOn w (last ∷ h) = w
+joinOn w (refused f ∷ h) = joinOn w h
 
 -- the same of what an entry holds
 abbrev pub isOpen : Held → Bool
@@ -40,3 +41,4 @@ lookup n (entry m v ∷ h) = orElse (lookup n h) (ifSame m n (whole v h))
 lookup n (more t c ∷ h) = lookup n h
 lookup n (neutral ∷ h) = lookup n h
 lookup n (last ∷ h) = none
+lookup n (refused f ∷ h) = lookup n h

@@ -1,3 +1,3 @@
--- Laws of a header's cards by their numbers.
+-- What is proved of a header's cards and their roles.
 pub mod Cards
-pub mod Parts
+pub mod Counting

@@ -1,28 +1,26 @@
 -- A header's bytes as its cards (document 01, "Refusal numbers").
 use Prim.Native.Nat.{ℕ, zero, suc, _*_, _/_, _%_}
+use Prim.Native.Char.{code}
 use mathlib.Core.Bool.{Bool, cond, _||_, not}
 use mathlib.Core.List.{List, [], _∷_, map}
 use lib.Dec.{eqb, ltb}
 use lib.ListN.{length, take, drop, replicate}
 use Rattle.card.specs.declared.CardRead.{CardRead}
 use Rattle.card.specs.Cards.{cardOf}
-use Rattle.joining.specs.Roles.{Role, roleOf}
+use Rattle.roles.specs.Roles.{Role, roleOf}
 
 -- the first n pieces of 80 bytes
-unfoldable pub pieces : ℕ → List ℕ → List (List ℕ)
-pieces zero h = []
-pieces (suc n) h = take 80 h ∷ pieces n (drop 80 h)
+unfoldable pub cardsIn : ℕ → List ℕ → List (List ℕ)
+cardsIn zero h = []
+cardsIn (suc n) h = take 80 h ∷ cardsIn n (drop 80 h)
 
 -- the cards of a header
 abbrev pub cardsOf : List ℕ → List (List ℕ)
-cardsOf h = pieces (length h / 80) h
+cardsOf h = cardsIn (length h / 80) h
 
 -- what each card is to the header
-abbrev pub roleAt : List ℕ → Role
-roleAt c = roleOf (cardOf c)
-
 abbrev pub rolesOf : List ℕ → List Role
-rolesOf h = map roleAt (cardsOf h)
+rolesOf h = map roleOf (cardsOf h)
 
 -- 0, not a multiple of 80, or above 57,600
 unfoldable pub isBadLength : ℕ → Bool
@@ -34,4 +32,4 @@ cardCount n = cond (isBadLength n) 0 (n / 80)
 
 -- the card with number i; one that the header lacks is blank
 unfoldable pub cardAt : List ℕ → ℕ → CardRead
-cardAt h i = cond (ltb i (length h / 80)) (cardOf (take 80 (drop (i * 80) h))) (cardOf (replicate 80 32))
+cardAt h i = cond (ltb i (length h / 80)) (cardOf (take 80 (drop (i * 80) h))) (cardOf (replicate 80 (code " ")))

@@ -1,3 +1,3 @@
--- What the contracts of `parts` cite.
+-- What public promises cite: the roles, and a header's bytes as its cards.
+pub mod Roles
 pub mod Cards
-pub mod Named

@@ -1,35 +1,43 @@
-// The cards of a header by their numbers: how many there are, what stands at each, and what it is to its header.
+// What each card is to its header, and the cards of a header by their numbers.
 ghost use mathlib.Core.Path.{_≡_};
 ghost use Prim.Native.Nat.{_*_, _/_, _<_};
 ghost use lib.ListN.{length, take, drop};
 ghost use Rattle.card.specs.Cards.{cardOf};
+ghost use Rattle.roles.specs.Roles.{isString, roleBy, seenOf};
 ghost use Rattle.roles.specs.Cards.{isBadLength, cardCount, cardAt};
-ghost use Rattle.roles.specs.Named.{partBy, partOf, nameless, namedOf};
+use card::CARD;
 use card::Card;
 use card::CardAnswer;
 use card::CardRead;
-use refusal::Refusal;
+use numbers::Value;
+use refusal::Fault;
 use text::Text;
 
-// What part a card has in its header: it is refused, it is END, it is an entry, or it is none of these.
-pub enum Part {
-    Refused(Refusal),
+// What a card is to its header.
+pub enum Role {
+    // A value, HIERARCH or XTENSION card, with its value. CONTINUE cards may be joined to it where it says so.
+    Entry { value: Value, joins: bool },
+    // A CONTINUE card.
+    More,
+    // A comment, history, space or undefined card: it does nothing.
+    Neutral,
+    // END.
     Last,
-    Entry,
-    Other,
+    // A card that is refused.
+    Refused(Fault),
 }
 
-// A card's part, and the name that an entry bears.
-pub struct Named {
-    pub part: Part,
+// A card's role, with its name, its text and its comment as they are read.
+pub struct CardRole {
+    pub role: Role,
     pub name: Text,
+    pub text: Text,
+    pub commented: bool,
+    pub comment: Text,
 }
-
-// The bytes of a card.
-const CARD: usize = 80;
 
 // The bytes of the longest header: 720 cards.
-const LONGEST: usize = 57600;
+const LONGEST: usize = 720 * CARD;
 
 // 0, not a multiple of a card, or beyond the longest.
 pub fn is_bad_length(n: usize) -> bool
@@ -54,8 +62,26 @@ pub fn card_count(header: &[u8]) -> usize
     header.len() / CARD
 }
 
+// The role of the card with a number; a blank card where the header has no such card.
+pub fn role_at(header: &[u8], i: usize) -> CardRole
+    ensures { λ r. ⌜ r ≡ seenOf (cardAt (now (header .entry)) i) ⌝ }
+{
+    let read = card_at(header, i);
+    let answer = read.answer;
+    let name = read.name;
+    let text = read.text;
+    let comment = read.comment;
+    CardRole {
+        role: role_by(answer),
+        name: name,
+        text: text,
+        commented: read.commented,
+        comment: comment,
+    }
+}
+
 // The card with a number; a blank one where the header has no such card.
-pub fn card_at(header: &[u8], i: usize) -> CardRead
+fn card_at(header: &[u8], i: usize) -> CardRead
     ensures { λ r. ⌜ r ≡ cardAt (now (header .entry)) i ⌝ }
 {
     if i < header.len() / CARD {
@@ -63,23 +89,6 @@ pub fn card_at(header: &[u8], i: usize) -> CardRead
     }
     let blank = [b' '; 80];
     card::read_card(&blank)
-}
-
-// What the card with a number is to its header, and its name where it is an entry.
-pub fn named_at(header: &[u8], i: usize) -> Named
-    ensures { λ r. ⌜ r ≡ namedOf (now (header .entry)) i ⌝ }
-{
-    let read = card_at(header, i);
-    let answer = read.answer;
-    let own = read.name;
-    let part = part_of(answer);
-    let Part::Entry = part else {
-        return nameless(part);
-    };
-    Named {
-        part: part,
-        name: own,
-    }
 }
 
 // The card with a number that the header has.
@@ -93,38 +102,46 @@ fn card_within(header: &[u8], i: usize) -> CardRead
     card::read_card(&bytes)
 }
 
-// A part with no name beside it.
-fn nameless(part: Part) -> Named
-    ensures { λ r. ⌜ r ≡ nameless part ⌝ }
+fn role_by(answer: CardAnswer) -> Role
+    ensures { λ r. ⌜ r ≡ roleBy answer ⌝ }
 {
-    Named {
-        part: part,
-        name: text::empty_text(),
+    match answer {
+        CardAnswer::Read(card) => role_in(card),
+        CardAnswer::Refused(fault) => Role::Refused(fault),
     }
 }
 
 // What a card is to its header by its class.
-fn part_by(card: Card) -> Part
-    ensures { λ r. ⌜ r ≡ partBy card ⌝ }
+fn role_in(card: Card) -> Role
+    ensures { λ r. ⌜ r ≡ roleBy (CardAnswer.Read card) ⌝ }
 {
     match card {
-        Card::End => Part::Last,
-        Card::Value(_) => Part::Entry,
-        Card::Hierarch(_) => Part::Entry,
-        Card::Xtension => Part::Entry,
-        Card::Continuation => Part::Other,
-        Card::Comment => Part::Other,
-        Card::History => Part::Other,
-        Card::Space => Part::Other,
-        Card::Undefined => Part::Other,
+        Card::Value(v) => Role::Entry {
+            value: v,
+            joins: is_string(v),
+        },
+        Card::Hierarch(v) => Role::Entry {
+            value: v,
+            joins: is_string(v),
+        },
+        Card::Xtension => Role::Entry {
+            value: Value::String,
+            joins: false,
+        },
+        Card::Continuation => Role::More,
+        Card::Comment => Role::Neutral,
+        Card::History => Role::Neutral,
+        Card::Space => Role::Neutral,
+        Card::Undefined => Role::Neutral,
+        Card::End => Role::Last,
     }
 }
 
-fn part_of(answer: CardAnswer) -> Part
-    ensures { λ r. ⌜ r ≡ partOf answer ⌝ }
+fn is_string(value: Value) -> bool
+    ensures { λ r. ⌜ r ≡ isString value ⌝ }
 {
-    match answer {
-        CardAnswer::Read(card) => part_by(card),
-        CardAnswer::Refused(why) => Part::Refused(why),
-    }
+    let Value::String = value else {
+        return false;
+    };
+    true
 }

@@ -1,5 +1,6 @@
 -- `roles::card_at` meets its contract: by whether the header has the card.
 use Prim.Native.Nat.{ℕ, _/_, _≤_}
+use Prim.Native.Char.{code}
 use mathlib.Core.Path.{_≡_, sym, _∙_}
 use mathlib.Core.List.{List}
 use lib.ListN.{length, replicate}
@@ -7,11 +8,11 @@ use borrow.Author.Needs.{needs}
 use borrow.Author.Tests.{le-ltb}
 use Rattle.card.specs.Cards.{cardOf}
 use Rattle.roles.specs.Cards.{cardAt}
-use Rattle.roles.proofs.Parts.{card-here}
+use Rattle.roles.proofs.Counting.{card-here}
 use Rattle.roles.proofs.card_at.Statement.{statement}
 use Rattle.roles.proofs.card_at.Tie as tie
 
-past : (h : List ℕ) (i : ℕ) → length h / 80 ≤ i → cardOf (replicate 80 32) ≡ cardAt h i
+past : (h : List ℕ) (i : ℕ) → length h / 80 ≤ i → cardOf (replicate 80 (code " ")) ≡ cardAt h i
 unfolding cardAt
 past h i p = rw (le-ltb i (length h / 80) p)
 
