@@ -3,3 +3,4 @@ pub mod Trimming
 pub mod Comparing
 pub mod Texts
 pub mod Finding
+pub mod Laying

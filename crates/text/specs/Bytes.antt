@@ -11,30 +11,46 @@ abbrev pub ascii : String → List ℕ
 ascii none = []
 ascii (c then s) = code c ∷ ascii s
 
+-- control bytes, which have no character
+abbrev pub tab : ℕ
+tab = 9
+
+abbrev pub lineFeed : ℕ
+lineFeed = 10
+
+abbrev pub formFeed : ℕ
+formFeed = 12
+
+abbrev pub carriageReturn : ℕ
+carriageReturn = 13
+
+abbrev pub delete : ℕ
+delete = 127
+
 -- space
 unfoldable pub isSpace : ℕ → Bool
-isSpace b = eqb b 32
+isSpace b = eqb b (code " ")
 
 -- space, tab, line feed, form feed, return
 unfoldable pub isBlank : ℕ → Bool
-isBlank b = eqb b 32 || (eqb b 9 || (eqb b 10 || (eqb b 12 || eqb b 13)))
+isBlank b = eqb b (code " ") || (eqb b tab || (eqb b lineFeed || (eqb b formFeed || eqb b carriageReturn)))
 
 -- the characters that the standard allows (4.1.1, 4.2.1.1)
 unfoldable pub isPrintable : ℕ → Bool
-isPrintable b = leb 32 b && leb b 126
+isPrintable b = leb (code " ") b && leb b (code "~")
 
 -- 0 to 9
 unfoldable pub isDigit : ℕ → Bool
-isDigit b = leb 48 b && leb b 57
+isDigit b = leb (code "0") b && leb b (code "9")
 
 -- 0
 unfoldable pub isZero : ℕ → Bool
-isZero b = eqb b 48
+isZero b = eqb b (code "0")
 
 -- a byte, or 127 where the standard does not allow it ("a replaced character")
 unfoldable pub shown : ℕ → ℕ
-shown b = cond (isPrintable b) b 127
+shown b = cond (isPrintable b) b delete
 
 -- a byte, or E where it is D ("Numbers": every D becomes E)
 unfoldable pub dToE : ℕ → ℕ
-dToE b = cond (eqb b 68) 69 b
+dToE b = cond (eqb b (code "D")) (code "E") b

@@ -1,8 +1,9 @@
-// Bytes and texts: classes of bytes, trimming, comparing, and texts held in arrays.
+// Bytes and texts: classes of bytes, trimming, comparing, laying bytes over lent memory, and texts held in arrays.
 ghost use mathlib.Core.Path.{_≡_};
 ghost use Prim.Native.Nat.{_+_, _≤_, _<_, min};
 ghost use mathlib.Core.List.{[], map};
 ghost use lib.ListN.{length, take, drop};
+ghost use lib.Seq.{sets};
 ghost use Rattle.text.specs.Bytes.{isBlank, isPrintable, isDigit, shown, dToE};
 ghost use Rattle.text.specs.Trim.{trimStart, trimEnd, trim, leading, cutOf};
 ghost use Rattle.text.specs.Same.{same};
@@ -202,6 +203,23 @@ pub fn same_bytes(s: &[u8], t: &[u8]) -> bool
         i += 1;
     }
     true
+}
+
+// ---- lent memory
+
+// Stores the bytes of a slice in another from a place on, as many as fit. What stands before and behind stays.
+pub fn put_at(s: &[u8], out: &mut [u8], at: usize)
+    ensures { λ _. ⌜ now (out .exit) ≡ sets (now (out .entry)) at (now (s .entry)) ⌝ }
+{
+    if out.len() <= at {
+        return;
+    }
+    let part = first_of(s, out.len() - at);
+    let mut i = 0;
+    while i < part.len() {
+        out[at + i] = part[i];
+        i += 1;
+    }
 }
 
 // ---- texts in arrays

@@ -1,2 +1,0 @@
--- Laws of a list laid over another.
-pub mod Laying

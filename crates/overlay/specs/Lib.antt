@@ -1,2 +1,0 @@
--- What the contract of `overlay` cites.
-pub mod Overlay
