@@ -4,11 +4,12 @@ ghost use Prim.Native.Nat.{_≤_};
 ghost use lib.ListN.{length};
 ghost use Rattle.text.specs.Text.{size, textOf};
 ghost use Rattle.card.specs.Keywords.{hasHigh, classOf, dottedName};
-ghost use Rattle.card.specs.Cards.{refusedWith, readAs, cardWith, ofValue, remarkOf, emptyOf, stringCard, continuationOf, quotedCard, extensionOf, hierarchOf, otherOf, cardOf};
+ghost use Rattle.card.specs.Cards.{cardRefused, cardAs, cardWith, ofValue, remarkOf, emptyOf, stringCard, continuationOf, quotedCard, extensionOf, hierarchOf, otherOf, cardOf};
 use numbers::Value;
+use refusal::Fault;
 use refusal::Refusal;
-use splitting::Parts;
 use splitting::Quoted;
+use splitting::SplitAnswer;
 use text::Change;
 use text::Cut;
 use text::Place;
@@ -32,7 +33,7 @@ pub enum Card {
 // What reading a card answers.
 pub enum CardAnswer {
     Read(Card),
-    Refused(Refusal),
+    Refused(Fault),
 }
 
 // The texts stand beside the answer; one that is missing is empty. The name is the keyword, or a HIERARCH card's pieces.
@@ -80,7 +81,7 @@ pub fn read_card(card: &[u8; 80]) -> CardRead
 {
     let whole = &card[..];
     if has_high(whole) {
-        return refused(Refusal::HighByte);
+        return refused(refusal::fault_of(Refusal::HighByte));
     }
     let word = text::trimmed(text::first_of(whole, KEYWORD), Cut::Blanks);
     let name = text::text_of(word);
@@ -98,11 +99,11 @@ pub fn read_card(card: &[u8; 80]) -> CardRead
 
 // ---- answers
 
-fn refused(why: Refusal) -> CardRead
-    ensures { λ r. ⌜ r ≡ refusedWith why ⌝ }
+fn refused(fault: Fault) -> CardRead
+    ensures { λ r. ⌜ r ≡ cardRefused fault ⌝ }
 {
     CardRead {
-        answer: CardAnswer::Refused(why),
+        answer: CardAnswer::Refused(fault),
         name: text::empty_text(),
         text: text::empty_text(),
         commented: false,
@@ -112,7 +113,7 @@ fn refused(why: Refusal) -> CardRead
 
 // A card with no comment.
 fn read_as(card: Card, name: Text, text: Text) -> CardRead
-    ensures { λ r. ⌜ r ≡ readAs card name text ⌝ }
+    ensures { λ r. ⌜ r ≡ cardAs card name text ⌝ }
 {
     CardRead {
         answer: CardAnswer::Read(card),
@@ -147,7 +148,7 @@ fn with_value(dotted: bool, name: Text, read: ValueRead) -> CardRead
             commented: read.commented,
             comment: comment,
         },
-        ValueAnswer::Refused(why) => refused(why),
+        ValueAnswer::Refused(fault) => refused(fault),
     }
 }
 
@@ -209,7 +210,7 @@ fn remark_text(whole: &[u8]) -> Text
 
 fn remark(card: Card, name: Text, whole: &[u8]) -> CardRead
     requires { ⌜ length (now whole) ≤ size ⌝ }
-    ensures { λ r. ⌜ r ≡ readAs card name (textOf (remarkOf (now (whole .entry)))) ⌝ }
+    ensures { λ r. ⌜ r ≡ cardAs card name (textOf (remarkOf (now (whole .entry)))) ⌝ }
 {
     read_as(card, name, remark_text(whole))
 }
@@ -231,16 +232,16 @@ fn continuation(name: Text, card: &[u8; 80]) -> CardRead
     ensures { λ r. ⌜ r ≡ continuationOf name (now (card .entry)) ⌝ }
 {
     let halves = splitting::split(card, KEYWORD);
-    let parts = halves.parts;
+    let answer = halves.answer;
     let v = halves.value;
     let comment = halves.comment;
     let read = splitting::parse_string(v);
-    let answer = read.answer;
+    let string = read.answer;
     let text = read.text;
-    match parts {
-        Parts::Bare => string_card(answer, name, text, false, comment),
-        Parts::Commented => string_card(answer, name, text, true, comment),
-        Parts::Refused(_) => refused(Refusal::OddByte),
+    match answer {
+        SplitAnswer::Bare => string_card(string, name, text, false, comment),
+        SplitAnswer::Commented => string_card(string, name, text, true, comment),
+        SplitAnswer::Refused(fault) => refused(fault),
     }
 }
 
@@ -256,7 +257,7 @@ fn string_card(answer: Quoted, name: Text, text: Text, commented: bool, comment:
             commented: commented,
             comment: comment,
         },
-        Quoted::Refused(why) => refused(why),
+        Quoted::Refused(fault) => refused(fault),
     }
 }
 
@@ -264,12 +265,12 @@ fn extension(name: Text, card: &[u8; 80]) -> CardRead
     ensures { λ r. ⌜ r ≡ extensionOf name (now (card .entry)) ⌝ }
 {
     let halves = splitting::split(card, VALUE);
-    let parts = halves.parts;
+    let answer = halves.answer;
     let v = halves.value;
-    match parts {
-        Parts::Bare => quoted_card(name, v),
-        Parts::Commented => quoted_card(name, v),
-        Parts::Refused(_) => refused(Refusal::OddByte),
+    match answer {
+        SplitAnswer::Bare => quoted_card(name, v),
+        SplitAnswer::Commented => quoted_card(name, v),
+        SplitAnswer::Refused(fault) => refused(fault),
     }
 }
 
@@ -281,13 +282,13 @@ fn quoted_card(name: Text, v: Text) -> CardRead
     let s = text::first_of(&bytes, v.len);
     let n = s.len();
     if n < 2 {
-        return refused(Refusal::ExtensionNotQuoted);
+        return refused(refusal::fault_of(Refusal::ExtensionNotQuoted));
     }
     if s[0] != QUOTE {
-        return refused(Refusal::ExtensionNotQuoted);
+        return refused(refusal::fault_of(Refusal::ExtensionNotQuoted));
     }
     if s[n - 1] != QUOTE {
-        return refused(Refusal::ExtensionNotQuoted);
+        return refused(refusal::fault_of(Refusal::ExtensionNotQuoted));
     }
     let inner = text::trimmed(&s[1..n - 1], Cut::Spaces);
     read_as(Card::Xtension, name, text::text_of(inner))
@@ -298,11 +299,11 @@ fn hierarch(card: &[u8; 80]) -> CardRead
 {
     let rest = text::rest_of(&card[..], HIERARCHY);
     let Place::At(i) = text::find_byte(rest, b'=') else {
-        return refused(Refusal::NoEquals);
+        return refused(refusal::fault_of(Refusal::NoEquals));
     };
     let name = dotted_name(text::first_of(rest, i));
     if name.len == 0 {
-        return refused(Refusal::NoName);
+        return refused(refusal::fault_of(Refusal::NoName));
     }
     let read = value::read_value(card, VALUE + i);
     with_value(true, name, read)

@@ -178,9 +178,9 @@ fn put_reading(read: CardRead) {
     let answer = read.answer;
     match answer {
         CardAnswer::Read(card) => put_card(card, read),
-        CardAnswer::Refused(why) => {
+        CardAnswer::Refused(fault) => {
             put(b"refusal ");
-            io::print_decimal(STDOUT_FILENO, why.number() as u64);
+            io::print_decimal(STDOUT_FILENO, fault.number() as u64);
         }
     }
 }

@@ -7,8 +7,9 @@ use borrow.Author.Tests.{eq-eqb, ne-eqb}
 use lib.ListN.{length, getD, take, drop}
 use Rattle.text.specs.Bytes.{isSpace}
 use Rattle.text.specs.Trim.{trimEnd}
-use Rattle.refusal.specs.Numbers.{refusal}
-use Rattle.splitting.specs.Strings.{orSpace, settledOf, reads, refusedWith, opened, unopened, stringOf}
+use Rattle.refusal.specs.declared.Refusal.the-variants as R
+use Rattle.refusal.specs.Numbers.{faultOf}
+use Rattle.splitting.specs.Strings.{orSpace, settledOf, reads, stringRefused, opened, unopened, stringOf}
 
 pub empty : (s : List ℕ) → length s ≡ 0 → s ≡ []
 empty [] h = refl
@@ -25,7 +26,7 @@ kept [] h = absurd (h refl)
 kept (b ∷ t) h = refl
 
 -- ---- the quotes
-pub lone : (s : List ℕ) → length s ≡ 1 → getD s 0 0 ≡ 39 → stringOf s ≡ refusedWith (refusal 3)
+pub lone : (s : List ℕ) → length s ≡ 1 → getD s 0 0 ≡ 39 → stringOf s ≡ stringRefused (faultOf R.StringNotClosed)
 unfolding stringOf opened
 lone [] h e = absurd (omega arith)
 lone (b ∷ []) h e = rw (eq-eqb b 39 e)
@@ -47,7 +48,7 @@ quoted (b ∷ c ∷ s) some more e d =
     let x : suc (suc (length s)) - 1 ≡ suc (length s) = omega arith in
     rw (eq-eqb b 39 e, eq-eqb _ 39 (sym (last b c s) ∙ d), x)
 
-pub unclosed : (s : List ℕ) → (length s ≡ 0 → ⊥) → (length s ≡ 1 → ⊥) → getD s 0 0 ≡ 39 → (getD s (length s - 1) 0 ≡ 39 → ⊥) → stringOf s ≡ refusedWith (refusal 3)
+pub unclosed : (s : List ℕ) → (length s ≡ 0 → ⊥) → (length s ≡ 1 → ⊥) → getD s 0 0 ≡ 39 → (getD s (length s - 1) 0 ≡ 39 → ⊥) → stringOf s ≡ stringRefused (faultOf R.StringNotClosed)
 unfolding stringOf opened
 unclosed [] some more e d = absurd (some refl)
 unclosed (b ∷ []) some more e d = absurd (more refl)
@@ -62,7 +63,7 @@ module _ (s : List ℕ) (some : length s ≡ 0 → ⊥) (bare : getD s 0 0 ≡ 3
       go [] h e = absurd (h refl)
       go (b ∷ s) h e = rw (ne-eqb b 39 e)
 
-  pub unopened-quote : getD s (length s - 1) 0 ≡ 39 → stringOf s ≡ refusedWith (refusal 4)
+  pub unopened-quote : getD s (length s - 1) 0 ≡ 39 → stringOf s ≡ stringRefused (faultOf R.StringNotOpened)
   unfolding unopened
   unopened-quote e = without ∙ rw (eq-eqb _ 39 e)
 

@@ -5,8 +5,9 @@ use mathlib.Core.List.{List, [], _∷_}
 use lib.Dec.{eqb}
 use lib.ListN.{length, getD, take}
 use Rattle.splitting.specs.declared.StringRead.{StringRead}
-use Rattle.refusal.specs.declared.Refusal.{Refusal}
-use Rattle.refusal.specs.Numbers.{refusal}
+use Rattle.refusal.specs.declared.Fault.{Fault}
+use Rattle.refusal.specs.declared.Refusal.the-variants as R
+use Rattle.refusal.specs.Numbers.{faultOf}
 use Rattle.splitting.specs.declared.Quoted.the-variants.{Str, Refused}
 use Rattle.text.specs.Bytes.{isSpace}
 use Rattle.text.specs.Trim.{trimEnd}
@@ -35,15 +36,15 @@ endsQuoted s = isQuote (getD s (length s - 1) 0)
 abbrev pub reads : List ℕ → StringRead
 reads s = record { answer = Str; text = textOf (settledOf s) }
 
-abbrev pub refusedWith : Refusal → StringRead
-refusedWith why = record { answer = Refused why; text = textOf [] }
+abbrev pub stringRefused : Fault → StringRead
+stringRefused fault = record { answer = Refused fault; text = textOf [] }
 
 -- after an opening quote, and without one
 unfoldable pub opened : List ℕ → StringRead
-opened s = cond (endsQuoted s) (reads (front s)) (refusedWith (refusal 3))
+opened s = cond (endsQuoted s) (reads (front s)) (stringRefused (faultOf R.StringNotClosed))
 
 unfoldable pub unopened : List ℕ → StringRead
-unopened s = cond (endsQuoted s) (refusedWith (refusal 4)) (reads s)
+unopened s = cond (endsQuoted s) (stringRefused (faultOf R.StringNotOpened)) (reads s)
 
 unfoldable pub stringOf : List ℕ → StringRead
 stringOf [] = reads []

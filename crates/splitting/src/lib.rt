@@ -8,25 +8,26 @@ ghost use Rattle.text.specs.Trim.{trim, trimEnd};
 ghost use Rattle.text.specs.Text.{size, textOf, bytesOf};
 ghost use Rattle.splitting.specs.Scan.{scanOf};
 ghost use Rattle.splitting.specs.Split.{splitOf};
-ghost use Rattle.splitting.specs.Strings.{settledOf, refusedWith, stringOf};
+ghost use Rattle.splitting.specs.Strings.{settledOf, stringRefused, stringOf};
+use refusal::Fault;
 use refusal::Refusal;
 use text::Change;
 use text::Cut;
 use text::Text;
 
 // What splitting answers.
-pub enum Parts {
+pub enum SplitAnswer {
     // A value text alone.
     Bare,
     // A value text and a comment, which may be empty.
     Commented,
-    // Refusal 2, with the place of the byte in the trimmed text.
-    Refused(usize),
+    // A byte before the slash is refused.
+    Refused(Fault),
 }
 
 // The texts stand beside the answer; one that is missing is empty.
 pub struct Halves {
-    pub parts: Parts,
+    pub answer: SplitAnswer,
     pub value: Text,
     pub comment: Text,
 }
@@ -34,7 +35,7 @@ pub struct Halves {
 // What reading a string answers.
 pub enum Quoted {
     Str,
-    Refused(Refusal),
+    Refused(Fault),
 }
 
 // The string's text stands beside the answer.
@@ -79,17 +80,17 @@ pub fn split(card: &[u8; 80], from: usize) -> Halves
     let none = text::empty_text();
     match place {
         Slash::At(i) => Halves {
-            parts: Parts::Commented,
+            answer: SplitAnswer::Commented,
             value: value,
             comment: comment_of(&s[i + 1..]),
         },
         Slash::Nowhere => Halves {
-            parts: Parts::Bare,
+            answer: SplitAnswer::Bare,
             value: value,
             comment: none,
         },
-        Slash::Bad(i) => Halves {
-            parts: Parts::Refused(i),
+        Slash::Bad(_) => Halves {
+            answer: SplitAnswer::Refused(refusal::fault_of(Refusal::OddByte)),
             value: none,
             comment: none,
         },
@@ -193,11 +194,11 @@ fn settled(s: &[u8]) -> Text
     text::text_of(t)
 }
 
-fn refused(why: Refusal) -> StringRead
-    ensures { λ r. ⌜ r ≡ refusedWith why ⌝ }
+fn refused(fault: Fault) -> StringRead
+    ensures { λ r. ⌜ r ≡ stringRefused fault ⌝ }
 {
     StringRead {
-        answer: Quoted::Refused(why),
+        answer: Quoted::Refused(fault),
         text: text::empty_text(),
     }
 }
@@ -216,7 +217,7 @@ fn unquoted(s: &[u8]) -> StringRead
     }
     if s[0] == QUOTE {
         if n == 1 {
-            return refused(Refusal::StringNotClosed);
+            return refused(refusal::fault_of(Refusal::StringNotClosed));
         }
         if s[n - 1] == QUOTE {
             return StringRead {
@@ -224,10 +225,10 @@ fn unquoted(s: &[u8]) -> StringRead
                 text: settled(&s[1..n - 1]),
             };
         }
-        return refused(Refusal::StringNotClosed);
+        return refused(refusal::fault_of(Refusal::StringNotClosed));
     }
     if s[n - 1] == QUOTE {
-        return refused(Refusal::StringNotOpened);
+        return refused(refusal::fault_of(Refusal::StringNotOpened));
     }
     StringRead {
         answer: Quoted::Str,

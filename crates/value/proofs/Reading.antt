@@ -13,15 +13,15 @@ use Rattle.numbers.specs.declared.Value.{Value}
 use Rattle.value.specs.declared.ValueAnswer.the-variants.{Read}
 use Rattle.value.specs.declared.ValueRead.{ValueRead}
 use Rattle.value.specs.declared.UnitPlace.the-variants.{Nowhere}
-use Rattle.value.specs.Values.{keepsComment, readAs}
+use Rattle.value.specs.Values.{keepsComment, valueAs}
 use Rattle.value.specs.Units.{closedAt, unitOf}
 
 -- ---- comments
 module _ (v : Value) (text : Text) (commented : Bool) (comment : Text) where
-  pub comment-kept : keepsComment v ≡ true → _≡_ {A = ValueRead} (record { answer = Read v; text = text; commented = commented; comment = comment }) (readAs v text commented comment)
+  pub comment-kept : keepsComment v ≡ true → _≡_ {A = ValueRead} (record { answer = Read v; text = text; commented = commented; comment = comment }) (valueAs v text commented comment)
   comment-kept e = rw e
 
-  pub comment-dropped : keepsComment v ≡ false → _≡_ {A = ValueRead} (record { answer = Read v; text = text; commented = false; comment = textOf [] }) (readAs v text commented comment)
+  pub comment-dropped : keepsComment v ≡ false → _≡_ {A = ValueRead} (record { answer = Read v; text = text; commented = false; comment = textOf [] }) (valueAs v text commented comment)
   comment-dropped e = rw e
 
 -- ---- units

@@ -3,13 +3,14 @@ use Prim.Native.Nat.{ℕ}
 use mathlib.Core.Bool.{Bool, true, false, cond, _&&_, _||_}
 use mathlib.Core.List.{List, [], _∷_}
 use lib.Dec.{eqb}
-use Rattle.refusal.specs.declared.Refusal.{Refusal}
-use Rattle.refusal.specs.Numbers.{refusal}
+use Rattle.refusal.specs.declared.Fault.{Fault}
+use Rattle.refusal.specs.declared.Refusal.the-variants as R
+use Rattle.refusal.specs.Numbers.{faultOf}
 use Rattle.text.specs.declared.Text.{Text}
 use Rattle.text.specs.Bytes.{isDigit}
 use Rattle.text.specs.Text.{textOf, bytesOf}
-use Rattle.splitting.specs.declared.Parts.{Parts}
-use Rattle.splitting.specs.declared.Parts.the-variants.{Bare, Commented, Refused as Refused-parts}
+use Rattle.splitting.specs.declared.SplitAnswer.{SplitAnswer}
+use Rattle.splitting.specs.declared.SplitAnswer.the-variants.{Bare, Commented, Refused as Refused-split}
 use Rattle.splitting.specs.declared.Quoted.{Quoted}
 use Rattle.splitting.specs.declared.Quoted.the-variants.{Str, Refused as Refused-string}
 use Rattle.splitting.specs.Split.{splitOf}
@@ -46,46 +47,46 @@ keepsComment Undefined = false
 keepsComment Invalid = false
 
 -- a value with its text, and its comment where it keeps one
-abbrev pub readAs : Value → Text → Bool → Text → ValueRead
-readAs v text commented comment =
+abbrev pub valueAs : Value → Text → Bool → Text → ValueRead
+valueAs v text commented comment =
     record { answer = Read v; text = text; commented = cond (keepsComment v) commented false; comment = cond (keepsComment v) comment (textOf []) }
 
-abbrev pub refusedWith : Refusal → ValueRead
-refusedWith why = record { answer = Refused why; text = textOf []; commented = false; comment = textOf [] }
+abbrev pub valueRefused : Fault → ValueRead
+valueRefused fault = record { answer = Refused fault; text = textOf []; commented = false; comment = textOf [] }
 
 -- a value text that begins with a quote
 abbrev pub byQuotes : Quoted → Text → Bool → Text → ValueRead
-byQuotes Str s commented comment = readAs String s commented comment
-byQuotes (Refused-string why) s commented comment = refusedWith why
+byQuotes Str s commented comment = valueAs String s commented comment
+byQuotes (Refused-string fault) s commented comment = valueRefused fault
 
 unfoldable pub ofString : Text → Bool → Text → ValueRead
 ofString v commented comment = let r = stringOf (bytesOf v) in byQuotes (r .answer) (r .text) commented comment
 
 -- a value text that begins as a number does
 unfoldable pub ofNumber : Text → Bool → Text → ValueRead
-ofNumber v commented comment = let r = numberOf (bytesOf v) in readAs (r .value) (r .text) commented comment
+ofNumber v commented comment = let r = numberOf (bytesOf v) in valueAs (r .value) (r .text) commented comment
 
 -- by what the first byte of the value text v says; an invalid value holds the whole raw text
 abbrev pub byStart : Start → Text → List ℕ → Bool → Text → ValueRead
 byStart Quote v raw commented comment = ofString v commented comment
-byStart (Truth t) v raw commented comment = readAs (Logical t) (textOf []) commented comment
+byStart (Truth t) v raw commented comment = valueAs (Logical t) (textOf []) commented comment
 byStart Number v raw commented comment = ofNumber v commented comment
-byStart Complex v raw commented comment = refusedWith (refusal 5)
-byStart Else v raw commented comment = readAs Invalid (textOf raw) commented comment
+byStart Complex v raw commented comment = valueRefused (faultOf R.Complex)
+byStart Else v raw commented comment = valueAs Invalid (textOf raw) commented comment
 
 -- empty text is undefined
 abbrev pub byBytes : List ℕ → Text → List ℕ → Bool → Text → ValueRead
-byBytes [] v raw commented comment = readAs Undefined (textOf []) commented comment
+byBytes [] v raw commented comment = valueAs Undefined (textOf []) commented comment
 byBytes (b ∷ s) v raw commented comment = byStart (startOf b) v raw commented comment
 
 unfoldable pub valueWith : Text → List ℕ → Bool → Text → ValueRead
 valueWith v raw commented comment = byBytes (bytesOf v) v raw commented comment
 
-abbrev pub byParts : Parts → Text → List ℕ → Text → ValueRead
+abbrev pub byParts : SplitAnswer → Text → List ℕ → Text → ValueRead
 byParts Bare v raw comment = valueWith v raw false comment
 byParts Commented v raw comment = valueWith v raw true comment
-byParts (Refused-parts i) v raw comment = refusedWith (refusal 2)
+byParts (Refused-split fault) v raw comment = valueRefused fault
 
 -- the value in a raw text
 unfoldable pub valueOf : List ℕ → ValueRead
-valueOf raw = let h = splitOf raw in byParts (h .parts) (h .value) raw (h .comment)
+valueOf raw = let h = splitOf raw in byParts (h .answer) (h .value) raw (h .comment)

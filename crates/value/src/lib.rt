@@ -3,19 +3,20 @@ ghost use mathlib.Core.Path.{_≡_};
 ghost use Prim.Native.Nat.{_≤_};
 ghost use lib.ListN.{length, drop};
 ghost use Rattle.text.specs.Text.{size};
-ghost use Rattle.value.specs.Values.{startsNumber, startOf, keepsComment, readAs, refusedWith, ofString, ofNumber, valueWith, valueOf};
+ghost use Rattle.value.specs.Values.{startsNumber, startOf, keepsComment, valueAs, valueRefused, ofString, ofNumber, valueWith, valueOf};
 ghost use Rattle.value.specs.Units.{unitOf};
 use numbers::Value;
+use refusal::Fault;
 use refusal::Refusal;
-use splitting::Parts;
 use splitting::Quoted;
+use splitting::SplitAnswer;
 use text::Place;
 use text::Text;
 
 // What reading a value text answers.
 pub enum ValueAnswer {
     Read(Value),
-    Refused(Refusal),
+    Refused(Fault),
 }
 
 // The texts stand beside the answer: that of a string, of an invalid value or of a decimal's digits, and the comment.
@@ -47,14 +48,14 @@ pub fn read_value(card: &[u8; 80], from: usize) -> ValueRead
     ensures { λ r. ⌜ r ≡ valueOf (drop from (now (card .entry))) ⌝ }
 {
     let halves = splitting::split(card, from);
-    let parts = halves.parts;
+    let answer = halves.answer;
     let v = halves.value;
     let comment = halves.comment;
     let raw = text::rest_of(&card[..], from);
-    match parts {
-        Parts::Bare => value_with(v, raw, false, comment),
-        Parts::Commented => value_with(v, raw, true, comment),
-        Parts::Refused(_) => refused(Refusal::OddByte),
+    match answer {
+        SplitAnswer::Bare => value_with(v, raw, false, comment),
+        SplitAnswer::Commented => value_with(v, raw, true, comment),
+        SplitAnswer::Refused(fault) => refused(fault),
     }
 }
 
@@ -126,7 +127,7 @@ fn keeps_comment(value: Value) -> bool
 
 // A value with its text, and its comment where it keeps one.
 fn read_as(value: Value, text: Text, commented: bool, comment: Text) -> ValueRead
-    ensures { λ r. ⌜ r ≡ readAs value text commented comment ⌝ }
+    ensures { λ r. ⌜ r ≡ valueAs value text commented comment ⌝ }
 {
     if keeps_comment(value) {
         return ValueRead {
@@ -144,11 +145,11 @@ fn read_as(value: Value, text: Text, commented: bool, comment: Text) -> ValueRea
     }
 }
 
-fn refused(why: Refusal) -> ValueRead
-    ensures { λ r. ⌜ r ≡ refusedWith why ⌝ }
+fn refused(fault: Fault) -> ValueRead
+    ensures { λ r. ⌜ r ≡ valueRefused fault ⌝ }
 {
     ValueRead {
-        answer: ValueAnswer::Refused(why),
+        answer: ValueAnswer::Refused(fault),
         text: text::empty_text(),
         commented: false,
         comment: text::empty_text(),
@@ -164,7 +165,7 @@ fn string_value(v: Text, commented: bool, comment: Text) -> ValueRead
     let s = read.text;
     match answer {
         Quoted::Str => read_as(Value::String, s, commented, comment),
-        Quoted::Refused(why) => refused(why),
+        Quoted::Refused(fault) => refused(fault),
     }
 }
 
@@ -183,7 +184,7 @@ fn value_with(v: Text, raw: &[u8], commented: bool, comment: Text) -> ValueRead
         Start::Quote => string_value(v, commented, comment),
         Start::Truth(t) => read_as(Value::Logical(t), none, commented, comment),
         Start::Number => number_value(v, commented, comment),
-        Start::Complex => refused(Refusal::Complex),
+        Start::Complex => refused(refusal::fault_of(Refusal::Complex)),
         Start::Else => read_as(Value::Invalid, text::text_of(raw), commented, comment),
     }
 }

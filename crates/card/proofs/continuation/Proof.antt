@@ -1,8 +1,8 @@
 -- `card::continuation` meets its contract: by how the text splits.
 use mathlib.Core.Path.{_≡_, sym, ap, _∙_}
 use mathlib.Core.Bool.{Bool, true, false}
-use Rattle.splitting.specs.declared.Parts.{Parts}
-use Rattle.splitting.specs.declared.Parts.the-variants.{Bare, Commented, Refused}
+use Rattle.splitting.specs.declared.SplitAnswer.{SplitAnswer}
+use Rattle.splitting.specs.declared.SplitAnswer.the-variants.{Bare, Commented, Refused}
 use Rattle.splitting.specs.declared.Halves.{Halves}
 use Rattle.splitting.specs.declared.StringRead.{StringRead}
 use Rattle.splitting.specs.Strings.{stringOf}
@@ -23,14 +23,14 @@ string-is c commented =
     ap (λ (r : StringRead). stringCard (r .answer) name (r .text) commented (halves c .comment)) (c .parse-string .ensures)
 
 -- the case that an arm knows is the whole
-by : (c : tie.After-parse-string) (p : Parts) → halves c .parts ≡ p
+by : (c : tie.After-parse-string) (p : SplitAnswer) → halves c .answer ≡ p
     → let a = c .before .before .before .before .args in
     continued p (a .name) (halves c .value) (halves c .comment) ≡ continuationOf (a .name) (a .card .now)
 unfolding continuationOf
 by c p e =
     let a = c .before .before .before .before .args in
-    ap (λ (x : Parts). continued x (a .name) (halves c .value) (halves c .comment)) (sym e)
-    ∙ ap (λ (h : Halves). continued (h .parts) (a .name) (h .value) (h .comment)) (c .before .before .before .split .ensures)
+    ap (λ (x : SplitAnswer). continued x (a .name) (halves c .value) (halves c .comment)) (sym e)
+    ∙ ap (λ (h : Halves). continued (h .answer) (a .name) (h .value) (h .comment)) (c .before .before .before .split .ensures)
 
 split-requires : tie.Need-split-requires
 split-requires c κs = search needs
@@ -50,8 +50,8 @@ enum-told-2 c = search needs
 string-card-requires-2 : tie.Need-string-card-requires-2
 string-card-requires-2 c κs = search needs
 
-enum-told-3 : tie.Need-enum-told-3
-enum-told-3 c = search needs
+enum-known-answer : tie.Need-enum-known-answer
+enum-known-answer c = search needs
 
 refused-requires : tie.Need-refused-requires
 refused-requires c κs = search needs
@@ -64,8 +64,8 @@ returns-2 c = c .string-card2 .ensures ∙ string-is (c .before .before .before 
 
 returns-3 : tie.Need-returns-3
 returns-3 c =
-    let told = c .before in
-    c .refused .ensures ∙ by (told .before .before .before) (Refused (told .enum-told3 .given .0 .0)) (told .enum-told3 .given .1)
+    let told = c .before .before in
+    c .refused .ensures ∙ by (told .before .before .before) (Refused (told .answer .given .0 .0)) (told .answer .given .1)
 
 pub continuation-spec : {M : Type 1} → statement M
 continuation-spec =
@@ -77,7 +77,7 @@ continuation-spec =
     string-card-requires
     enum-told-2
     string-card-requires-2
-    enum-told-3
+    enum-known-answer
     refused-requires
     returns
     returns-2

@@ -1,7 +1,7 @@
 -- `card::extension` meets its contract: by how the text splits.
 use mathlib.Core.Path.{_≡_, sym, ap, _∙_}
-use Rattle.splitting.specs.declared.Parts.{Parts}
-use Rattle.splitting.specs.declared.Parts.the-variants.{Bare, Commented, Refused}
+use Rattle.splitting.specs.declared.SplitAnswer.{SplitAnswer}
+use Rattle.splitting.specs.declared.SplitAnswer.the-variants.{Bare, Commented, Refused}
 use Rattle.splitting.specs.declared.Halves.{Halves}
 use Rattle.card.specs.Cards.{extended, extensionOf}
 use borrow.Author.Needs.{needs}
@@ -9,12 +9,12 @@ use Rattle.card.proofs.extension.Statement.{statement}
 use Rattle.card.proofs.extension.Tie as tie
 
 -- the case that an arm knows is the whole
-by : (c : tie.After-split) (p : Parts) → c .split .result .parts ≡ p
+by : (c : tie.After-split) (p : SplitAnswer) → c .split .result .answer ≡ p
     → extended p (c .before .args .name) (c .split .result .value) ≡ extensionOf (c .before .args .name) (c .before .args .card .now)
 unfolding extensionOf
 by c p e =
     let name = c .before .args .name in
-    ap (λ (x : Parts). extended x name (c .split .result .value)) (sym e) ∙ ap (λ (h : Halves). extended (h .parts) name (h .value)) (c .split .ensures)
+    ap (λ (x : SplitAnswer). extended x name (c .split .result .value)) (sym e) ∙ ap (λ (h : Halves). extended (h .answer) name (h .value)) (c .split .ensures)
 
 split-requires : tie.Need-split-requires
 split-requires c κs = search needs
@@ -31,8 +31,8 @@ enum-told-2 c = search needs
 quoted-card-requires-2 : tie.Need-quoted-card-requires-2
 quoted-card-requires-2 c κs = search needs
 
-enum-told-3 : tie.Need-enum-told-3
-enum-told-3 c = search needs
+enum-known-answer : tie.Need-enum-known-answer
+enum-known-answer c = search needs
 
 refused-requires : tie.Need-refused-requires
 refused-requires c κs = search needs
@@ -45,8 +45,8 @@ returns-2 c = c .quoted-card2 .ensures ∙ by (c .before .before .before .before
 
 returns-3 : tie.Need-returns-3
 returns-3 c =
-    let told = c .before in
-    c .refused .ensures ∙ by (told .before .before .before) (Refused (told .enum-told3 .given .0 .0)) (told .enum-told3 .given .1)
+    let told = c .before .before in
+    c .refused .ensures ∙ by (told .before .before .before) (Refused (told .answer .given .0 .0)) (told .answer .given .1)
 
 pub extension-spec : {M : Type 1} → statement M
 extension-spec =
@@ -57,7 +57,7 @@ extension-spec =
     quoted-card-requires
     enum-told-2
     quoted-card-requires-2
-    enum-told-3
+    enum-known-answer
     refused-requires
     returns
     returns-2

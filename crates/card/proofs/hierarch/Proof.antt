@@ -12,11 +12,12 @@ use Rattle.text.specs.declared.Place.the-variants.{At, Nowhere}
 use Rattle.text.specs.Place.{placeOf}
 use Rattle.text.specs.Text.{size, textOf}
 use Rattle.text.proofs.Finding.{found-within}
-use Rattle.refusal.specs.Numbers.{refusal}
+use Rattle.refusal.specs.declared.Refusal.the-variants as R
+use Rattle.refusal.specs.Numbers.{faultOf}
 use Rattle.value.specs.declared.ValueRead.{ValueRead}
 use Rattle.value.specs.Values.{valueOf}
 use Rattle.card.specs.Keywords.{dottedName}
-use Rattle.card.specs.Cards.{refusedWith, ofValue, named, byEquals, hierarchOf}
+use Rattle.card.specs.Cards.{cardRefused, ofValue, named, byEquals, hierarchOf}
 use Rattle.card.proofs.hierarch.Statement.{statement}
 use Rattle.card.proofs.hierarch.Tie as tie
 
@@ -50,7 +51,7 @@ name-is c =
 whole : (c : tie.After-dotted-name) → let card = card (c .before .before .before .before .before) in named (name-of c) (drop (10 + index c) card) ≡ hierarchOf card
 whole c = by (c .before .before .before .before .before) (At (index c)) (c .before .before .before .i .given .1)
 
-nameless : (n raw : List ℕ) → length n ≡ 0 → refusedWith (refusal 7) ≡ named n raw
+nameless : (n raw : List ℕ) → length n ≡ 0 → cardRefused (faultOf R.NoName) ≡ named n raw
 nameless [] raw e = refl
 nameless (b ∷ n) raw e = absurd (omega arith)
 
@@ -70,11 +71,16 @@ enum-known-i c = search needs
 enum-told : tie.Need-enum-told
 enum-told c = search needs
 
+fault-of-requires : tie.Need-fault-of-requires
+fault-of-requires c κs = search needs
+
 refused-requires : tie.Need-refused-requires
 refused-requires c κs = search needs
 
 returns : tie.Need-returns
-returns c = c .refused .ensures ∙ by (c .before .before .before) Nowhere (c .before .enum-told .given .1)
+returns c =
+    let told = c .before .before in
+    c .refused .ensures ∙ ap cardRefused (c .before .fault-of .ensures) ∙ by (told .before .before) Nowhere (told .enum-told .given .1)
 
 first-of-requires : tie.Need-first-of-requires
 first-of-requires c κs = search needs
@@ -84,13 +90,19 @@ dotted-name-requires c κs =
     let find = c .before .before .before .before in
     rw (c .first-of .ensures) (omega (arith, length-take (c .before .before .i .given .0 .0) (find .before .rest-of .result .now), fits find))
 
+fault-of-requires-2 : tie.Need-fault-of-requires-2
+fault-of-requires-2 c κs = search needs
+
 refused-requires-2 : tie.Need-refused-requires-2
 refused-requires-2 c κs = search needs
 
 returns-2 : tie.Need-returns-2
 returns-2 c =
-    let at-name = c .before .before .before in
-    c .refused2 .ensures ∙ nameless (name-of at-name) _ (sym (ap (λ (t : Text). t .len) (name-is at-name)) ∙ c .before .if1 .taken) ∙ whole at-name
+    let at-name = c .before .before .before .before in
+    c .refused2 .ensures
+    ∙ ap cardRefused (c .before .fault-of2 .ensures)
+    ∙ nameless (name-of at-name) _ (sym (ap (λ (t : Text). t .len) (name-is at-name)) ∙ c .before .before .if1 .taken)
+    ∙ whole at-name
 
 add-read-value : tie.Need-add-read-value
 add-read-value c =
@@ -122,10 +134,12 @@ hierarch-spec =
     find-byte-requires
     enum-known-i
     enum-told
+    fault-of-requires
     refused-requires
     returns
     first-of-requires
     dotted-name-requires
+    fault-of-requires-2
     refused-requires-2
     returns-2
     add-read-value

@@ -12,7 +12,7 @@ use Rattle.text.specs.Text.{size, textOf}
 use Rattle.text.proofs.Texts.{whole-text}
 use Rattle.value.specs.Values.{valueOf}
 use Rattle.card.specs.declared.Card.the-variants.{Undefined}
-use Rattle.card.specs.Cards.{readAs, ofValue, otherOf}
+use Rattle.card.specs.Cards.{cardAs, ofValue, otherOf}
 use borrow.Author.Needs.{needs}
 use Rattle.card.proofs.other.Statement.{statement}
 use Rattle.card.proofs.other.Tie as tie
@@ -31,7 +31,7 @@ with-equals : (name : Text) (c : List ℕ) → same (take 2 (drop 8 c)) (ascii "
 unfolding otherOf
 with-equals name c e = rw e
 
-without-equals : (name : Text) (c : List ℕ) → same (take 2 (drop 8 c)) (ascii "= ") ≡ false → readAs Undefined name (textOf c) ≡ otherOf name c
+without-equals : (name : Text) (c : List ℕ) → same (take 2 (drop 8 c)) (ascii "= ") ≡ false → cardAs Undefined name (textOf c) ≡ otherOf name c
 unfolding otherOf
 without-equals name c e = rw e
 
@@ -71,7 +71,7 @@ returns-2 c =
     let a = first at-test .before .before .before .args in
     let long : length (a .card .now) ≡ size = whole at-test in
     c .read-as .ensures
-    ∙ ap (readAs Undefined (a .name)) (c .before .text-of .ensures ∙ whole-text (a .card .now) (omega arith))
+    ∙ ap (cardAs Undefined (a .name)) (c .before .text-of .ensures ∙ whole-text (a .card .now) (omega arith))
     ∙ without-equals (a .name) (a .card .now) (sym (told at-test) ∙ c .before .before .if1 .left)
 
 pub other-spec : {M : Type 1} → statement M

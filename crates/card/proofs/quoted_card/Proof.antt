@@ -11,9 +11,10 @@ use Rattle.text.specs.Trim.{trim}
 use Rattle.text.specs.Text.{size, textOf, bytesOf}
 use Rattle.text.proofs.Trimming.{shorter}
 use Rattle.text.proofs.Texts.{whole-text, bytes-fit}
-use Rattle.refusal.specs.Numbers.{refusal}
+use Rattle.refusal.specs.declared.Refusal.the-variants as R
+use Rattle.refusal.specs.Numbers.{faultOf}
 use Rattle.card.specs.declared.Card.the-variants.{Xtension}
-use Rattle.card.specs.Cards.{refusedWith, readAs, isWithinQuotes, inside, quotedCard}
+use Rattle.card.specs.Cards.{cardRefused, cardAs, isWithinQuotes, inside, quotedCard}
 use Rattle.card.proofs.Classes.{too-short, unopened, unclosed, quoted}
 use borrow.Author.Needs.{needs}
 use Rattle.card.proofs.quoted_card.Statement.{statement}
@@ -26,16 +27,16 @@ fits c =
     rw (c .first-of .ensures) (bytes-fit v long)
 
 not-within : (c : tie.After-first-of) → isWithinQuotes (c .first-of .result .now) ≡ false
-    → let a = c .before .before .before .args in refusedWith (refusal 8) ≡ quotedCard (a .name) (a .v)
+    → let a = c .before .before .before .args in cardRefused (faultOf R.ExtensionNotQuoted) ≡ quotedCard (a .name) (a .v)
 unfolding quotedCard
 not-within c e = rw (sym (ap isWithinQuotes (c .first-of .ensures)) ∙ e)
 
 is-within : (c : tie.After-first-of) → isWithinQuotes (c .first-of .result .now) ≡ true
-    → let a = c .before .before .before .args in readAs Xtension (a .name) (textOf (trim isSpace (inside (c .first-of .result .now)))) ≡ quotedCard (a .name) (a .v)
+    → let a = c .before .before .before .args in cardAs Xtension (a .name) (textOf (trim isSpace (inside (c .first-of .result .now)))) ≡ quotedCard (a .name) (a .v)
 unfolding quotedCard
 is-within c e =
     let a = c .before .before .before .args in
-    ap (λ (l : List ℕ). readAs Xtension (a .name) (textOf (trim isSpace (inside l)))) (c .first-of .ensures) ∙ rw (sym (ap isWithinQuotes (c .first-of .ensures)) ∙ e)
+    ap (λ (l : List ℕ). cardAs Xtension (a .name) (textOf (trim isSpace (inside l)))) (c .first-of .ensures) ∙ rw (sym (ap isWithinQuotes (c .first-of .ensures)) ∙ e)
 
 slice-aggregate-first-of : tie.Need-slice-aggregate-first-of
 slice-aggregate-first-of c = search needs
@@ -43,22 +44,28 @@ slice-aggregate-first-of c = search needs
 first-of-requires : tie.Need-first-of-requires
 first-of-requires c κs = search needs
 
+fault-of-requires : tie.Need-fault-of-requires
+fault-of-requires c κs = search needs
+
 refused-requires : tie.Need-refused-requires
 refused-requires c κs = search needs
 
 returns : tie.Need-returns
-returns c = c .refused .ensures ∙ not-within (c .before .before) (too-short (c .before .before .first-of .result .now) (c .before .if1 .taken))
+returns c = c .refused .ensures ∙ ap cardRefused (c .before .fault-of .ensures) ∙ not-within (c .before .before .before) (too-short (c .before .before .before .first-of .result .now) (c .before .before .if1 .taken))
 
 shared-slice-read-if2 : tie.Need-shared-slice-read-if2
 shared-slice-read-if2 c = search needs
+
+fault-of-requires-2 : tie.Need-fault-of-requires-2
+fault-of-requires-2 c κs = search needs
 
 refused-requires-2 : tie.Need-refused-requires-2
 refused-requires-2 c κs = search needs
 
 returns-2 : tie.Need-returns-2
 returns-2 c =
-    let first = c .before .before .before .before in
-    c .refused2 .ensures ∙ not-within first (unopened (first .first-of .result .now) (c .before .before .before .if1 .left) (c .before .if2 .taken))
+    let first = c .before .before .before .before .before in
+    c .refused2 .ensures ∙ ap cardRefused (c .before .fault-of2 .ensures) ∙ not-within first (unopened (first .first-of .result .now) (c .before .before .before .before .if1 .left) (c .before .before .if2 .taken))
 
 sub-if3 : tie.Need-sub-if3
 sub-if3 c = search needs
@@ -66,14 +73,17 @@ sub-if3 c = search needs
 shared-slice-read-if3 : tie.Need-shared-slice-read-if3
 shared-slice-read-if3 c = search needs
 
+fault-of-requires-3 : tie.Need-fault-of-requires-3
+fault-of-requires-3 c κs = search needs
+
 refused-requires-3 : tie.Need-refused-requires-3
 refused-requires-3 c κs = search needs
 
 returns-3 : tie.Need-returns-3
 returns-3 c =
-    let second = c .before .before .before in
+    let second = c .before .before .before .before in
     let first = second .before .before .before in
-    c .refused3 .ensures ∙ not-within first (unclosed (first .first-of .result .now) (second .before .before .if1 .left) (second .if2 .left) (c .before .if3 .taken))
+    c .refused3 .ensures ∙ ap cardRefused (c .before .fault-of3 .ensures) ∙ not-within first (unclosed (first .first-of .result .now) (second .before .before .if1 .left) (second .if2 .left) (c .before .before .if3 .taken))
 
 sub-trimmed : tie.Need-sub-trimmed
 sub-trimmed c = search needs
@@ -108,7 +118,7 @@ returns-4 c =
     let part : length (inside s) ≤ size = omega (arith, length-take (length s - 1 - 1) (drop 1 s), length-drop 1 s) in
     let short : length t ≤ size = rw (c .before .before .trimmed .ensures) (omega (arith, shorter isSpace (inside s))) in
     c .read-as .ensures
-    ∙ ap (readAs Xtension (a .name)) (c .before .text-of .ensures ∙ whole-text t short ∙ ap textOf (c .before .before .trimmed .ensures))
+    ∙ ap (cardAs Xtension (a .name)) (c .before .text-of .ensures ∙ whole-text t short ∙ ap textOf (c .before .before .trimmed .ensures))
     ∙ is-within first (quoted s (second .before .before .if1 .left) (second .if2 .left) (third .if3 .left))
 
 pub quoted-card-spec : {M : Type 1} → statement M
@@ -117,13 +127,16 @@ quoted-card-spec =
     (tie.spec
     slice-aggregate-first-of
     first-of-requires
+    fault-of-requires
     refused-requires
     returns
     shared-slice-read-if2
+    fault-of-requires-2
     refused-requires-2
     returns-2
     sub-if3
     shared-slice-read-if3
+    fault-of-requires-3
     refused-requires-3
     returns-3
     sub-trimmed

@@ -12,19 +12,20 @@ use Rattle.text.specs.Trim.{trim}
 use Rattle.text.specs.Text.{size, textOf}
 use Rattle.text.proofs.Trimming.{shorter}
 use Rattle.text.proofs.Texts.{whole-text}
-use Rattle.refusal.specs.Numbers.{refusal}
+use Rattle.refusal.specs.declared.Refusal.the-variants as R
+use Rattle.refusal.specs.Numbers.{faultOf}
 use Rattle.card.specs.declared.Card.the-variants as C
 use Rattle.card.specs.declared.Class.{Class}
 use Rattle.card.specs.declared.Class.the-variants.{Empty, Comment, History, Continue, Xtension, Hierarch, End, Other}
 use Rattle.card.specs.Keywords.{hasHigh, keywordOf, classOf}
-use Rattle.card.specs.Cards.{refusedWith, readAs, byClass, cardOf}
+use Rattle.card.specs.Cards.{cardRefused, cardAs, byClass, cardOf}
 use Rattle.card.proofs.read_card.Statement.{statement}
 use Rattle.card.proofs.read_card.Tie as tie
 
 abbrev card-at : tie.After-has-high → List ℕ
 card-at c = c .before .before .args .card .now
 
-high : (c : List ℕ) → hasHigh c ≡ true → refusedWith (refusal 1) ≡ cardOf c
+high : (c : List ℕ) → hasHigh c ≡ true → cardRefused (faultOf R.HighByte) ≡ cardOf c
 unfolding cardOf
 high c e = rw e
 
@@ -57,11 +58,18 @@ by c k e =
 has-high-requires : tie.Need-has-high-requires
 has-high-requires c κs = search needs
 
+fault-of-requires : tie.Need-fault-of-requires
+fault-of-requires c κs = search needs
+
 refused-requires : tie.Need-refused-requires
 refused-requires c κs = search needs
 
 returns : tie.Need-returns
-returns c = c .refused .ensures ∙ high (card-at (c .before .before)) (sym (c .before .before .has-high .ensures) ∙ c .before .if1 .taken)
+returns c =
+    let test = c .before .before .before in
+    c .refused .ensures
+    ∙ ap cardRefused (c .before .fault-of .ensures)
+    ∙ high (card-at test) (sym (test .has-high .ensures) ∙ c .before .before .if1 .taken)
 
 first-of-requires : tie.Need-first-of-requires
 first-of-requires c κs = search needs
@@ -148,7 +156,7 @@ returns-8 : tie.Need-returns-8
 returns-8 c =
     let told = c .before .before in
     let name = told .before .before .before .text-of .result in
-    c .read-as .ensures ∙ ap (readAs C.End name) (c .before .empty-text .ensures) ∙ by (told .before .before) End (told .enum-told7 .given .1)
+    c .read-as .ensures ∙ ap (cardAs C.End name) (c .before .empty-text .ensures) ∙ by (told .before .before) End (told .enum-told7 .given .1)
 
 returns-9 : tie.Need-returns-9
 returns-9 c = c .other .ensures ∙ by (c .before .before .before) Other (c .before .enum-told8 .given .1)
@@ -158,6 +166,7 @@ read-card-spec =
     tie.close
     (tie.spec
     has-high-requires
+    fault-of-requires
     refused-requires
     returns
     first-of-requires

@@ -17,7 +17,7 @@ empty-text-requires-3 c κs = search needs
 returns : tie.Need-returns
 returns c =
     λ j. record {
-      answer = Refused (c .before .before .before .args .why);
+      answer = Refused (c .before .before .before .args .fault);
       name = c .before .before .empty-text .ensures j;
       text = c .before .empty-text2 .ensures j;
       commented = false;

@@ -1,6 +1,6 @@
 -- `card::remark` meets its contract.
 use mathlib.Core.Path.{_≡_, ap, _∙_}
-use Rattle.card.specs.Cards.{readAs}
+use Rattle.card.specs.Cards.{cardAs}
 use borrow.Author.Needs.{needs}
 use Rattle.card.proofs.remark.Statement.{statement}
 use Rattle.card.proofs.remark.Tie as tie
@@ -14,7 +14,7 @@ read-as-requires c κs = search needs
 returns : tie.Need-returns
 returns c =
     let a = c .before .before .before .args in
-    c .read-as .ensures ∙ ap (readAs (a .card) (a .name)) (c .before .remark-text .ensures)
+    c .read-as .ensures ∙ ap (cardAs (a .card) (a .name)) (c .before .remark-text .ensures)
 
 pub remark-spec : {M : Type 1} → statement M
 remark-spec = tie.close (tie.spec remark-text-requires read-as-requires returns)

@@ -3,14 +3,14 @@ use mathlib.Core.Path.{_≡_, sym, ap, _∙_}
 use Rattle.value.specs.declared.ValueAnswer.{ValueAnswer}
 use Rattle.value.specs.declared.ValueAnswer.the-variants.{Read as Read-value, Refused as Refused-value}
 use Rattle.card.specs.declared.CardAnswer.the-variants.{Read}
-use Rattle.card.specs.Cards.{byAnswer, ofValue}
+use Rattle.card.specs.Cards.{ofAnswer, ofValue}
 use borrow.Author.Needs.{needs}
 use Rattle.card.proofs.with_value.Statement.{statement}
 use Rattle.card.proofs.with_value.Tie as tie
 
 -- the case that an arm knows is the whole
-by : (c : tie.Start) (x : ValueAnswer) → c .args .read .answer ≡ x → byAnswer x (c .args .dotted) (c .args .name) (c .args .read) ≡ ofValue (c .args .dotted) (c .args .name) (c .args .read)
-by c x e = ap (λ (y : ValueAnswer). byAnswer y (c .args .dotted) (c .args .name) (c .args .read)) (sym e)
+by : (c : tie.Start) (x : ValueAnswer) → c .args .read .answer ≡ x → ofAnswer x (c .args .dotted) (c .args .name) (c .args .read) ≡ ofValue (c .args .dotted) (c .args .name) (c .args .read)
+by c x e = ap (λ (y : ValueAnswer). ofAnswer y (c .args .dotted) (c .args .name) (c .args .read)) (sym e)
 
 enum-known-answer : tie.Need-enum-known-answer
 enum-known-answer c = search needs

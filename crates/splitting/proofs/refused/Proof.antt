@@ -8,7 +8,7 @@ empty-text-requires : tie.Need-empty-text-requires
 empty-text-requires c κs = search needs
 
 returns : tie.Need-returns
-returns c = λ j. record { answer = Refused (c .before .args .why); text = c .empty-text .ensures j }
+returns c = λ j. record { answer = Refused (c .before .args .fault); text = c .empty-text .ensures j }
 
 pub refused-spec : {M : Type 1} → statement M
 refused-spec = tie.close (tie.spec empty-text-requires returns)

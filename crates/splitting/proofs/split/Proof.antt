@@ -11,7 +11,7 @@ use Rattle.text.specs.Text.{size, textOf, bytesOf}
 use Rattle.text.proofs.Trimming.{take-rest, shorter}
 use Rattle.splitting.specs.declared.Slash.{Slash}
 use Rattle.splitting.specs.declared.Slash.the-variants.{At, Nowhere, Bad}
-use Rattle.splitting.specs.declared.Parts.the-variants.{Bare, Commented, Refused}
+use Rattle.splitting.specs.declared.SplitAnswer.the-variants.{Bare, Commented, Refused}
 use Rattle.splitting.specs.Split.{partsAt, splitOf}
 use Rattle.splitting.proofs.Splitting.{Below, scanned-within, split-found}
 use borrow.Author.Needs.{needs}
@@ -88,8 +88,11 @@ comment-of-requires c κs =
 enum-told : tie.Need-enum-told
 enum-told c = search needs
 
-enum-known-place-2 : tie.Need-enum-known-place-2
-enum-known-place-2 c = search needs
+enum-told-2 : tie.Need-enum-told-2
+enum-told-2 c = search needs
+
+fault-of-requires : tie.Need-fault-of-requires
+fault-of-requires c κs = search needs
 
 returns : tie.Need-returns
 returns c =
@@ -97,7 +100,7 @@ returns c =
     let s = scan-at place .before .trimmed .result .now in
     let i = place .place .given .0 .0 in
     (λ j. record {
-      parts = Commented;
+      answer = Commented;
       value = place .before .before .before .spaces-off .ensures j;
       comment = (c .comment-of .ensures ∙ ap (λ (l : List ℕ). textOf (trimEnd isSpace (map shown l))) (take-rest s (i + 1) ∙ ap (λ (k : ℕ). drop k s) (add-one i))) j;
     })
@@ -106,13 +109,13 @@ returns c =
 returns-2 : tie.Need-returns-2
 returns-2 c =
     let empty = c .before .before in
-    (λ j. record { parts = Bare; value = empty .before .spaces-off .ensures j; comment = empty .empty-text .ensures j }) ∙ by (empty .before .before .before) Nowhere (c .enum-told .given .1)
+    (λ j. record { answer = Bare; value = empty .before .spaces-off .ensures j; comment = empty .empty-text .ensures j }) ∙ by (empty .before .before .before) Nowhere (c .enum-told .given .1)
 
 returns-3 : tie.Need-returns-3
 returns-3 c =
     let empty = c .before .before .before in
-    (λ j. record { parts = Refused (c .before .place2 .given .0 .0); value = empty .empty-text .ensures j; comment = empty .empty-text .ensures j })
-    ∙ by (empty .before .before .before) (Bad (c .before .place2 .given .0 .0)) (c .before .place2 .given .1)
+    (λ j. record { answer = Refused (c .fault-of .ensures j); value = empty .empty-text .ensures j; comment = empty .empty-text .ensures j })
+    ∙ by (empty .before .before .before) (Bad (c .before .enum-told2 .given .0 .0)) (c .before .enum-told2 .given .1)
 
 pub split-spec : {M : Type 1} → statement M
 split-spec =
@@ -130,7 +133,8 @@ split-spec =
     part-comment-of-end
     comment-of-requires
     enum-told
-    enum-known-place-2
+    enum-told-2
+    fault-of-requires
     returns
     returns-2
     returns-3)

@@ -6,7 +6,7 @@ use lib.ListN.{length, take, drop}
 use Rattle.splitting.specs.declared.Quoted.the-variants.{Str}
 use Rattle.splitting.specs.declared.StringRead.{StringRead}
 use Rattle.text.specs.declared.Text.{Text}
-use Rattle.splitting.specs.Strings.{settledOf, stringOf}
+use Rattle.splitting.specs.Strings.{settledOf, stringRefused, stringOf}
 use Rattle.splitting.proofs.Stringing.{empty, lone, quoted, unclosed, unopened-quote, plain-text}
 use borrow.Author.Needs.{needs}
 use Rattle.splitting.proofs.unquoted.Statement.{statement}
@@ -25,14 +25,17 @@ returns c = ap a-string (c .empty-text .ensures) ∙ ap stringOf (sym (empty (c 
 shared-slice-read-if2 : tie.Need-shared-slice-read-if2
 shared-slice-read-if2 c = search needs
 
+fault-of-requires : tie.Need-fault-of-requires
+fault-of-requires c κs = search needs
+
 refused-requires : tie.Need-refused-requires
 refused-requires c κs = search needs
 
 returns-2 : tie.Need-returns-2
 returns-2 c =
-    let quote = c .before .before in
+    let quote = c .before .before .before in
     let s = quote .before .before .before .before .args .s .now in
-    c .refused .ensures ∙ sym (lone s (c .before .if3 .taken) (quote .if2 .taken))
+    c .refused .ensures ∙ ap stringRefused (c .before .fault-of .ensures) ∙ sym (lone s (c .before .before .if3 .taken) (quote .if2 .taken))
 
 sub-if4 : tie.Need-sub-if4
 sub-if4 c = search needs
@@ -62,15 +65,18 @@ returns-3 c =
     let s = quote .before .before .before .before .args .s .now in
     ap a-string (c .settled .ensures) ∙ sym (quoted s (quote .before .before .if1 .left) (last .before .before .if3 .left) (quote .if2 .taken) (last .if4 .taken))
 
+fault-of-requires-2 : tie.Need-fault-of-requires-2
+fault-of-requires-2 c κs = search needs
+
 refused-requires-2 : tie.Need-refused-requires-2
 refused-requires-2 c κs = search needs
 
 returns-4 : tie.Need-returns-4
 returns-4 c =
-    let last = c .before in
+    let last = c .before .before in
     let quote = last .before .before .before in
     let s = quote .before .before .before .before .args .s .now in
-    c .refused2 .ensures ∙ sym (unclosed s (quote .before .before .if1 .left) (last .before .before .if3 .left) (quote .if2 .taken) (last .if4 .left))
+    c .refused2 .ensures ∙ ap stringRefused (c .before .fault-of2 .ensures) ∙ sym (unclosed s (quote .before .before .if1 .left) (last .before .before .if3 .left) (quote .if2 .taken) (last .if4 .left))
 
 sub-if5 : tie.Need-sub-if5
 sub-if5 c = search needs
@@ -78,14 +84,17 @@ sub-if5 c = search needs
 shared-slice-read-if5 : tie.Need-shared-slice-read-if5
 shared-slice-read-if5 c = search needs
 
+fault-of-requires-3 : tie.Need-fault-of-requires-3
+fault-of-requires-3 c κs = search needs
+
 refused-requires-3 : tie.Need-refused-requires-3
 refused-requires-3 c κs = search needs
 
 returns-5 : tie.Need-returns-5
 returns-5 c =
-    let bare = c .before .before .before in
+    let bare = c .before .before .before .before in
     let s = bare .before .before .before .before .args .s .now in
-    c .refused3 .ensures ∙ sym (unopened-quote s (bare .before .before .if1 .left) (bare .if2 .left) (c .before .if5 .taken))
+    c .refused3 .ensures ∙ ap stringRefused (c .before .fault-of3 .ensures) ∙ sym (unopened-quote s (bare .before .before .if1 .left) (bare .if2 .left) (c .before .before .if5 .taken))
 
 settled-requires-2 : tie.Need-settled-requires-2
 settled-requires-2 c κs = search needs
@@ -103,6 +112,7 @@ unquoted-spec =
     empty-text-requires
     returns
     shared-slice-read-if2
+    fault-of-requires
     refused-requires
     returns-2
     sub-if4
@@ -113,10 +123,12 @@ unquoted-spec =
     part-settled-end
     settled-requires
     returns-3
+    fault-of-requires-2
     refused-requires-2
     returns-4
     sub-if5
     shared-slice-read-if5
+    fault-of-requires-3
     refused-requires-3
     returns-5
     settled-requires-2

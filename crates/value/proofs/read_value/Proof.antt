@@ -6,8 +6,8 @@ use mathlib.Core.Bool.{Bool, true, false}
 use mathlib.Core.List.{List}
 use lib.ListN.{length, drop, length-drop}
 use Rattle.text.specs.Text.{size}
-use Rattle.splitting.specs.declared.Parts.{Parts}
-use Rattle.splitting.specs.declared.Parts.the-variants.{Bare, Commented, Refused}
+use Rattle.splitting.specs.declared.SplitAnswer.{SplitAnswer}
+use Rattle.splitting.specs.declared.SplitAnswer.the-variants.{Bare, Commented, Refused}
 use Rattle.splitting.specs.declared.Halves.{Halves}
 use Rattle.splitting.proofs.Splitting.{value-fits}
 use Rattle.value.specs.Values.{byParts, valueWith, valueOf}
@@ -33,11 +33,11 @@ raw-is : (c : tie.After-rest-of) (commented : Bool) → valueWith (halves c .val
 raw-is c commented = ap (λ (l : List ℕ). valueWith (halves c .value) l commented (halves c .comment)) (c .rest-of .ensures)
 
 -- the case that an arm knows is the whole
-by : (c : tie.After-rest-of) (p : Parts) → halves c .parts ≡ p → byParts p (halves c .value) (raw c) (halves c .comment) ≡ valueOf (raw c)
+by : (c : tie.After-rest-of) (p : SplitAnswer) → halves c .answer ≡ p → byParts p (halves c .value) (raw c) (halves c .comment) ≡ valueOf (raw c)
 unfolding valueOf
 by c p e =
-    ap (λ (x : Parts). byParts x (halves c .value) (raw c) (halves c .comment)) (sym e)
-    ∙ ap (λ (h : Halves). byParts (h .parts) (h .value) (raw c) (h .comment)) (c .before .before .before .before .split .ensures)
+    ap (λ (x : SplitAnswer). byParts x (halves c .value) (raw c) (halves c .comment)) (sym e)
+    ∙ ap (λ (h : Halves). byParts (h .answer) (h .value) (raw c) (h .comment)) (c .before .before .before .before .split .ensures)
 
 split-requires : tie.Need-split-requires
 split-requires c κs = search needs
@@ -57,8 +57,8 @@ enum-told-2 c = search needs
 value-with-requires-2 : tie.Need-value-with-requires-2
 value-with-requires-2 c κs = fits (c .before .before)
 
-enum-told-3 : tie.Need-enum-told-3
-enum-told-3 c = search needs
+enum-known-answer : tie.Need-enum-known-answer
+enum-known-answer c = search needs
 
 refused-requires : tie.Need-refused-requires
 refused-requires c κs = search needs
@@ -71,8 +71,8 @@ returns-2 c = c .value-with2 .ensures ∙ raw-is (c .before .before .before) tru
 
 returns-3 : tie.Need-returns-3
 returns-3 c =
-    let told = c .before in
-    c .refused .ensures ∙ by (told .before .before) (Refused (told .enum-told3 .given .0 .0)) (told .enum-told3 .given .1)
+    let told = c .before .before in
+    c .refused .ensures ∙ by (told .before .before) (Refused (told .answer .given .0 .0)) (told .answer .given .1)
 
 pub read-value-spec : {M : Type 1} → statement M
 read-value-spec =
@@ -84,7 +84,7 @@ read-value-spec =
     value-with-requires
     enum-told-2
     value-with-requires-2
-    enum-told-3
+    enum-known-answer
     refused-requires
     returns
     returns-2

@@ -9,7 +9,7 @@ use Rattle.text.proofs.Texts.{whole-text}
 use Rattle.numbers.specs.declared.Value.the-variants.{Logical, Undefined, Invalid}
 use Rattle.value.specs.declared.Start.{Start}
 use Rattle.value.specs.declared.Start.the-variants.{Quote, Truth, Number, Complex, Else}
-use Rattle.value.specs.Values.{readAs, byStart, valueWith}
+use Rattle.value.specs.Values.{valueAs, valueRefused, byStart, valueWith}
 use Rattle.value.proofs.Starts.{with-none, with-some}
 use borrow.Author.Needs.{needs}
 use Rattle.value.proofs.value_with.Statement.{statement}
@@ -35,7 +35,7 @@ returns : tie.Need-returns
 returns c =
     let empty = c .before .before in
     let a = empty .before .before .before .args in
-    c .read-as .ensures ∙ ap (λ (t : Text). readAs Undefined t (a .commented) (a .comment)) (empty .empty-text .ensures) ∙ with-none (a .v) (a .raw .now) (a .commented) (a .comment) (c .before .if1 .taken)
+    c .read-as .ensures ∙ ap (λ (t : Text). valueAs Undefined t (a .commented) (a .comment)) (empty .empty-text .ensures) ∙ with-none (a .v) (a .raw .now) (a .commented) (a .comment) (c .before .if1 .taken)
 
 array-read-start-of : tie.Need-array-read-start-of
 array-read-start-of c = search needs
@@ -64,6 +64,9 @@ number-value-requires c κs = search needs
 enum-told-3 : tie.Need-enum-told-3
 enum-told-3 c = search needs
 
+fault-of-requires : tie.Need-fault-of-requires
+fault-of-requires c κs = search needs
+
 refused-requires : tie.Need-refused-requires
 refused-requires c κs = search needs
 
@@ -84,13 +87,15 @@ returns-3 c =
     let at-t = c .before .before in
     let start = at-t .before .before in
     let a = start .before .before .before .before .before .args in
-    c .read-as2 .ensures ∙ ap (λ (t : Text). readAs (Logical (at-t .t .given .0 .0)) t (a .commented) (a .comment)) (start .before .before .empty-text .ensures) ∙ chosen start (Truth (at-t .t .given .0 .0)) (at-t .t .given .1)
+    c .read-as2 .ensures ∙ ap (λ (t : Text). valueAs (Logical (at-t .t .given .0 .0)) t (a .commented) (a .comment)) (start .before .before .empty-text .ensures) ∙ chosen start (Truth (at-t .t .given .0 .0)) (at-t .t .given .1)
 
 returns-4 : tie.Need-returns-4
 returns-4 c = c .number-value .ensures ∙ chosen (c .before .before .before) Number (c .before .enum-told2 .given .1)
 
 returns-5 : tie.Need-returns-5
-returns-5 c = c .refused .ensures ∙ chosen (c .before .before .before) Complex (c .before .enum-told3 .given .1)
+returns-5 c =
+    let told = c .before .before in
+    c .refused .ensures ∙ ap valueRefused (c .before .fault-of .ensures) ∙ chosen (told .before .before) Complex (told .enum-told3 .given .1)
 
 returns-6 : tie.Need-returns-6
 returns-6 c =
@@ -98,7 +103,7 @@ returns-6 c =
     let start = told .before .before in
     let a = start .before .before .before .before .before .args in
     c .read-as3 .ensures
-    ∙ ap (λ (t : Text). readAs Invalid t (a .commented) (a .comment)) (c .before .text-of .ensures ∙ whole-text (a .raw .now) (start .before .before .before .before .before .pre .1))
+    ∙ ap (λ (t : Text). valueAs Invalid t (a .commented) (a .comment)) (c .before .text-of .ensures ∙ whole-text (a .raw .now) (start .before .before .before .before .before .pre .1))
     ∙ chosen start Else (told .enum-told4 .given .1)
 
 pub value-with-spec : {M : Type 1} → statement M
@@ -117,6 +122,7 @@ value-with-spec =
     enum-told-2
     number-value-requires
     enum-told-3
+    fault-of-requires
     refused-requires
     enum-told-4
     text-of-requires
