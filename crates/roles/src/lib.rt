@@ -140,8 +140,12 @@ fn role_in(card: Card) -> Role
 fn is_string(value: Value) -> bool
     ensures { λ r. ⌜ r ≡ isString value ⌝ }
 {
-    let Value::String = value else {
-        return false;
-    };
-    true
+    match value {
+        Value::Integer(_) => false,
+        Value::Float(_, _) => false,
+        Value::Logical(_) => false,
+        Value::String => true,
+        Value::Undefined => false,
+        Value::Invalid => false,
+    }
 }

@@ -1,0 +1,2 @@
+-- What is proved of finding a name.
+pub mod Searching
