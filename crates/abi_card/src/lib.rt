@@ -6,11 +6,11 @@ ghost use lib.IntN.{pos};
 ghost use lib.ListN.{length};
 ghost use Rattle.abi_value.specs.Telling.{told};
 ghost use Rattle.abi_card.specs.Records.{classNumber, cardTold, byteOf, headOf, recordOf, said, recordAfter, numberAfter, answerOf, leftOf, numberLeft};
+use abi_value::Told;
 use card::Card;
 use card::CardAnswer;
 use card::CardRead;
 use text::Text;
-use abi_value::Told;
 
 // The bytes of a card.
 const CARD: usize = 80;

@@ -6,11 +6,11 @@ ghost use Rattle.listing.specs.Listing.{listOf};
 ghost use Rattle.abi_header.specs.Headers.{numbersOf, said, numbersAfter, digitsAfter, numberAfter, isFit};
 ghost use Rattle.abi_header.specs.Headers.{entryAnswer, entryText, entryComment, entryDigits, entryNumbers, entryNumber};
 ghost use Rattle.abi_header.specs.Headers.{listSaid, placesAfter, countAfter, isRoom, listAnswer, listFirst, listLast, listCount};
+use abi_value::Told;
 use header::Header;
 use header::Looked;
 use header::LookupAnswer;
 use listing::Listing;
-use abi_value::Told;
 
 // The numbers of an entry, the bytes of its digits, and the places of a list.
 const NUMBERS: usize = 7;

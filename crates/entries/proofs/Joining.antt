@@ -1,4 +1,5 @@
 -- Words in scratch, and CONTINUE cards joined to them.
+use Prim.Native.Char.{code}
 use Prim.Native.Nat.{ℕ, zero, suc, _+_, _*_, _/_, _<_, _≤_}
 use native.Mathlib.Omega.{arith}
 use mathlib.Core.Path.{_≡_, refl, sym, ap, subst, _∙_}
@@ -8,9 +9,13 @@ use mathlib.Core.Option.{none, some}
 use borrow.Author.Tests.{eqb-true, eq-eqb, ne-eqb}
 use lib.Dec.{eqb}
 use lib.ListN.{length, take, drop, set}
+use lib.Seq.{sets}
 use types.Run.{OneOf, miss}
 use denote.Enum.Declared.{tagOf}
+use Rattle.laws.proofs.Truths.{and-both, and-false}
+use Rattle.text.specs.Bytes.{isSpace}
 use Rattle.text.specs.Text.{bytesOf}
+use Rattle.text.specs.Ends.{stem, endsWith}
 use Rattle.numbers.specs.declared.Value.{Value}
 use Rattle.numbers.specs.declared.Value.the-variants as Val
 use Rattle.card.specs.declared.Card.the-variants as C
@@ -18,46 +23,38 @@ use Rattle.card.specs.declared.CardAnswer.{CardAnswer}
 use Rattle.card.specs.declared.CardAnswer.the-variants as A
 use Rattle.card.specs.declared.CardRead.{CardRead}
 use Rattle.card.specs.Cards.{cardOf}
-use Rattle.joining.specs.Words.{Comment, Words, endsOpen, opens, stem, addsNothing, joinText, joinComment, joinWords}
-use Rattle.joining.specs.Roles.{Role, entry, more, neutral, last, isString, commentOf, heldOf, roleBy, roleOf}
+use Rattle.roles.specs.declared.Role.{Role as Told}
+use Rattle.roles.specs.declared.Role.the-variants.{Entry, More, Neutral, Last, Refused}
+use Rattle.roles.specs.declared.CardRole.{CardRole}
+use Rattle.roles.specs.Roles.{Comment, Words, Role, entry, more, neutral, last, refused, isString, commentOf, wordsIn, roleBy, seenOf, roleIn}
+use Rattle.roles.specs.Cards.{cardNo, roleNo, rolesOf}
+use Rattle.roles.proofs.Role as role
+use Rattle.roles.proofs.Cards.{roles-from, roles-past}
+use Rattle.joining.specs.Words.{endsOpen, opens, addsNothing, joinText, joinComment, joinWords}
 use Rattle.joining.specs.Lookup.{joinOn}
 use Rattle.joining.proofs.Answers.{joinOn-shut}
-use Rattle.header.specs.declared.Lengths.{Lengths}
-use Rattle.header.specs.declared.Kind.{Kind}
-use Rattle.header.specs.declared.Kind.the-variants.{Entry, More, Neutral, Last}
-use Rattle.roles.specs.Cards.{rolesOf}
-use Rattle.header.specs.Answers.{isThere, bytesIn, over}
-use Rattle.header.specs.Passes.{kindOf, contentOf, roleNo, wordsOf, moreOf, roleFrom, joinedBy, goesOn, placeBehind, laidBehind, Stands, Stepped, Space, Room}
-use Rattle.header.proofs.Kind as kind
-use Rattle.header.proofs.Buffers.{joined-length, joined-laid}
-use Rattle.roles.proofs.Cards.{cardNo}
-use Rattle.header.proofs.Playing.{roleAs, role-kind}
-use Rattle.header.proofs.Looking.{roles-from, roles-past}
+use Rattle.entries.specs.declared.Lengths.{Lengths}
+use Rattle.entries.specs.Answers.{isThere, bytesIn}
+use Rattle.entries.specs.Passes.{wordsOf, joinedWords, moreOf, roleFrom, joinedBy, goesOn, placeBehind, laidBehind}
+use Rattle.entries.specs.Passes.{Stands, JoinedOne, Space, Room}
+use Rattle.entries.proofs.Buffers.{joined-length, joined-laid}
 
 -- ---- open texts and words
 -- a text that is open is not empty, and adds something
 open-some : (s : List ℕ) (n : ℕ) → endsOpen (take n s) ≡ true → 0 < n
-unfolding endsOpen
+unfolding endsOpen endsWith
 open-some s zero e = absurd (true≢false (sym e))
 open-some s (suc n) e = omega arith
 
 open-adds : (t : List ℕ) → endsOpen t ≡ true → addsNothing t ≡ false
-unfolding endsOpen addsNothing
+unfolding endsOpen endsWith addsNothing isSpace
 open-adds [] e = absurd (true≢false (sym e))
-open-adds (b ∷ []) e = let is : b ≡ 38 = eqb-true b 38 e in ne-eqb b 32 (λ (d : b ≡ 32). omega arith)
+open-adds (b ∷ []) e = let is : b ≡ code "&" = eqb-true b (code "&") e in ne-eqb b (code " ") (λ (d : b ≡ code " "). omega arith)
 open-adds (b ∷ c ∷ t) e = refl
-
-pub and-false : (u : Bool) → (u && false) ≡ false
-and-false true = refl
-and-false false = refl
-
-and-second : (u v : Bool) → (u && v) ≡ true → v ≡ true
-and-second true v e = e
-and-second false v e = absurd (true≢false (sym e))
 
 opens-text : (w : Words) → opens w ≡ true → endsOpen (w .text) ≡ true
 unfolding opens
-opens-text w e = and-second (w .joins) (endsOpen (w .text)) e
+opens-text w e = and-both (w .joins) (endsOpen (w .text)) e .1
 
 text-opens : (w : Words) → w .joins ≡ true → endsOpen (w .text) ≡ true → opens w ≡ true
 unfolding opens
@@ -65,42 +62,44 @@ text-opens w d e = rw (d, e)
 
 text-shut : (w : Words) → endsOpen (w .text) ≡ false → opens w ≡ false
 unfolding opens
-text-shut w e = rw (e, and-false)
+text-shut w e = and-false (w .joins) (endsOpen (w .text)) e
 
 -- ---- the words of an open string are those of an & that its card is joined to
 abbrev begun : Words
-begun = record { text = 38 ∷ []; comment = none; joins = true }
+begun = record { text = code "&" ∷ []; comment = none; joins = true }
 
 abbrev beginning : Lengths
 beginning = record { text = 1; comment = 0; commented = false; going = true }
 
-begun-by : (r : CardRead) → endsOpen (bytesOf (r .text)) ≡ true → heldOf Val.String true r .words ≡ joinedBy (moreOf (contentOf r)) begun
+begun-by : (s : CardRole) → endsOpen (bytesOf (s .text)) ≡ true → wordsIn Val.String true s ≡ joinedBy (moreOf s) begun
 unfolding joinWords joinText joinComment stem
-begun-by r e =
-    let adds : bytesOf (r .text) ≡ joinText (38 ∷ []) (bytesOf (r .text)) = rw (open-adds (bytesOf (r .text)) e) in
-    λ j. record { text = adds j; comment = heldOf Val.String true r .words .comment; joins = true }
+begun-by s e =
+    let adds : bytesOf (s .text) ≡ joinText (code "&" ∷ []) (bytesOf (s .text)) = rw (open-adds (bytesOf (s .text)) e) in
+    λ j. record { text = adds j; comment = commentOf (s .commented) (bytesOf (s .comment)); joins = true }
 
-value-begun : (v : Value) (r : CardRead) → opens (heldOf v (isString v) r .words) ≡ true → heldOf v (isString v) r .words ≡ joinedBy (moreOf (contentOf r)) begun
-unfolding opens
-value-begun (Val.Integer z) r e = absurd (true≢false (sym e))
-value-begun (Val.Float minus size) r e = absurd (true≢false (sym e))
-value-begun (Val.Logical t) r e = absurd (true≢false (sym e))
-value-begun Val.String r e = begun-by r e
-value-begun Val.Undefined r e = absurd (true≢false (sym e))
-value-begun Val.Invalid r e = absurd (true≢false (sym e))
+-- what may be continued is a string, so words that are open are those of one
+module _ (s : CardRole) where
+  value-begun : (v : Value) → opens (wordsIn v (isString v) s) ≡ true → wordsIn v (isString v) s ≡ joinedBy (moreOf s) begun
+  unfolding opens
+  value-begun (Val.Integer z) e = absurd (true≢false (sym e))
+  value-begun (Val.Float minus size) e = absurd (true≢false (sym e))
+  value-begun (Val.Logical t) e = absurd (true≢false (sym e))
+  value-begun Val.String e = begun-by s e
+  value-begun Val.Undefined e = absurd (true≢false (sym e))
+  value-begun Val.Invalid e = absurd (true≢false (sym e))
 
-answer-begun : (a : CardAnswer) (r : CardRead) → opens (wordsOf (roleBy a r)) ≡ true → wordsOf (roleBy a r) ≡ joinedBy (moreOf (contentOf r)) begun
-unfolding opens
-answer-begun (A.Read (C.Value v)) r e = value-begun v r e
-answer-begun (A.Read (C.Hierarch v)) r e = value-begun v r e
-answer-begun (A.Read C.Xtension) r e = absurd (true≢false (sym e))
-answer-begun (A.Read C.Continuation) r e = absurd (true≢false (sym e))
-answer-begun (A.Read C.Comment) r e = absurd (true≢false (sym e))
-answer-begun (A.Read C.History) r e = absurd (true≢false (sym e))
-answer-begun (A.Read C.Space) r e = absurd (true≢false (sym e))
-answer-begun (A.Read C.End) r e = absurd (true≢false (sym e))
-answer-begun (A.Read C.Undefined) r e = absurd (true≢false (sym e))
-answer-begun (A.Refused why) r e = absurd (true≢false (sym e))
+  words-begun : (a : CardAnswer) → opens (wordsOf (roleIn (roleBy a) s)) ≡ true → wordsOf (roleIn (roleBy a) s) ≡ joinedBy (moreOf s) begun
+  unfolding opens
+  words-begun (A.Read (C.Value v)) e = value-begun v e
+  words-begun (A.Read (C.Hierarch v)) e = value-begun v e
+  words-begun (A.Read C.Xtension) e = absurd (true≢false (sym e))
+  words-begun (A.Read C.Continuation) e = absurd (true≢false (sym e))
+  words-begun (A.Read C.Comment) e = absurd (true≢false (sym e))
+  words-begun (A.Read C.History) e = absurd (true≢false (sym e))
+  words-begun (A.Read C.Space) e = absurd (true≢false (sym e))
+  words-begun (A.Read C.End) e = absurd (true≢false (sym e))
+  words-begun (A.Read C.Undefined) e = absurd (true≢false (sym e))
+  words-begun (A.Refused f) e = absurd (true≢false (sym e))
 
 -- ---- one card behind open words
 joined-joins : (r : Role) (w : Words) → joinedBy r w .joins ≡ w .joins
@@ -109,6 +108,7 @@ joined-joins (entry n v) w = refl
 joined-joins (more t c) w = refl
 joined-joins neutral w = refl
 joined-joins last w = refl
+joined-joins (refused f) w = refl
 
 module _ (w : Words) (joins : w .joins ≡ true) (opened : opens w ≡ true) where
   still-open : (r : Role) → goesOn r (joinedBy r w .text) ≡ true → opens (joinedBy r w) ≡ true
@@ -116,22 +116,31 @@ module _ (w : Words) (joins : w .joins ≡ true) (opened : opens w ≡ true) whe
   still-open (more t c) e = text-opens (joinWords w t c) (joined-joins (more t c) w ∙ joins) e
   still-open neutral e = opened
   still-open last e = absurd (true≢false (sym e))
+  still-open (refused f) e = opened
 
-  one-more : (r : Role) (h : List Role) → joinOn w (r ∷ h) ≡ cond (goesOn r (joinedBy r w .text)) (joinOn (joinedBy r w) h) (joinedBy r w)
+  one-more : (r : Role) (h : List Role)
+      → joinOn w (r ∷ h) ≡ cond (goesOn r (joinedBy r w .text)) (joinOn (joinedBy r w) h) (joinedBy r w)
   unfolding joinOn
   one-more (entry n v) h = refl
-  one-more (more t c) h = rw opened (go (endsOpen (joinWords w t c .text)) refl)
+  one-more (more t c) h = rw opened (go (endsOpen (next .text)) refl)
     where
-      go : (b : Bool) → endsOpen (joinWords w t c .text) ≡ b → joinOn (joinWords w t c) h ≡ cond b (joinOn (joinWords w t c) h) (joinWords w t c)
+      next : Words
+      next = joinWords w t c
+
+      go : (b : Bool) → endsOpen (next .text) ≡ b → joinOn next h ≡ cond b (joinOn next h) next
       go true e = refl
-      go false e = joinOn-shut (joinWords w t c) (text-shut (joinWords w t c) e) h
+      go false e = joinOn-shut next (text-shut next e) h
   one-more neutral h = refl
   one-more last h = refl
+  one-more (refused f) h = refl
 
 -- ---- where the loop stands: what is left is joined to the words as they stand
 -- the cards from number j on, where the string begins at card i
+abbrev restBy : List ℕ → ℕ → Bool → List Role
+restBy h j first = cond first (moreOf (seenOf (cardOf (cardNo h j))) ∷ drop (j + 1) (rolesOf h)) (drop j (rolesOf h))
+
 abbrev rest : List ℕ → ℕ → ℕ → List Role
-rest h i j = cond (eqb j i) (moreOf (contentOf (cardOf (cardNo h j))) ∷ drop (j + 1) (rolesOf h)) (drop j (rolesOf h))
+rest h i j = restBy h j (eqb j i)
 
 pub record Going (h : List ℕ) (i : ℕ) (held : Lengths) (texts before comments : List ℕ) (j : ℕ) : Type 0 where
   pub w : Words
@@ -142,15 +151,15 @@ pub record Going (h : List ℕ) (i : ℕ) (held : Lengths) (texts before comment
   pub text : held .text ≤ 1 + 79 * j
   pub comment : held .comment ≤ 81 * j
   pub going : held .going ≡ true → opens w ≡ true
-  pub left : cond (held .going) (joinOn w (rest h i j)) w ≡ joinOn (wordsOf (roleNo h i)) (drop (i + 1) (rolesOf h))
+  pub left : cond (held .going) (joinOn w (rest h i j)) w ≡ joinedWords h i
 
 -- an & stands in scratch
-begun-stands : (texts before : List ℕ) → 0 < length texts → Stands begun beginning (set texts 0 38) before before
+begun-stands : (texts before : List ℕ) → 0 < length texts → Stands begun beginning (set texts 0 (code "&")) before before
 begun-stands [] before h = absurd (omega arith)
-begun-stands (b ∷ texts) before h = record { text = refl; within = omega arith; commented = refl; comment = refl; laid = λ _. refl }
+begun-stands (b ∷ texts) before h = record { text = refl; within = omega arith; commented = refl; comment = refl; laid = refl }
 
 begun-open : opens begun ≡ true
-unfolding opens endsOpen
+unfolding opens endsOpen endsWith
 begun-open = refl
 
 begun-more : (t : List ℕ) (c : Comment) (l : List Role) → joinOn begun (more t c ∷ l) ≡ joinOn (joinWords begun t c) l
@@ -158,9 +167,10 @@ unfolding joinOn
 begun-more t c l = rw begun-open
 
 module _ {h : List ℕ} {i : ℕ} {texts₀ : List ℕ} (room : Room h i texts₀) where
-  pub begin : (before : List ℕ) → Going h i beginning (set texts₀ 0 38) before before i
+  pub begin : (before : List ℕ) → Going h i beginning (set texts₀ 0 (code "&")) before before i
   begin before =
       let card = cardOf (cardNo h i) in
+      let seen = seenOf card in
       let all = drop (i + 1) (rolesOf h) in
       record {
         w = begun;
@@ -172,23 +182,23 @@ module _ {h : List ℕ} {i : ℕ} {texts₀ : List ℕ} (room : Room h i texts�
         comment = omega arith;
         going = λ _. begun-open;
         left =
-            ap (λ (b : Bool). joinOn begun (cond b (moreOf (contentOf card) ∷ all) (drop i (rolesOf h)))) (eq-eqb i i refl)
+            ap (λ (b : Bool). joinOn begun (cond b (moreOf seen ∷ all) (drop i (rolesOf h)))) (eq-eqb i i refl)
             ∙ begun-more (bytesOf (card .text)) (commentOf (card .commented) (bytesOf (card .comment))) all
-            ∙ ap (λ (x : Words). joinOn x all) (sym (answer-begun (card .answer) card (room .opened)));
+            ∙ ap (λ (x : Words). joinOn x all) (sym (words-begun seen (card .answer) (room .opened)));
       }
 
   module _ {held : Lengths} {texts before comments : List ℕ} {j : ℕ} (G : Going h i held texts before comments j) where
     -- the words are whole where nothing more is joined
-    pub at-stop : held .going ≡ false → Stands (joinOn (wordsOf (roleNo h i)) (drop (i + 1) (rolesOf h))) held texts before comments
+    pub at-stop : held .going ≡ false → Stands (joinedWords h i) held texts before comments
     at-stop e =
-        let all : G .w ≡ joinOn (wordsOf (roleNo h i)) (drop (i + 1) (rolesOf h)) = sym (ap (λ (b : Bool). cond b (joinOn (G .w) (rest h i j)) (G .w)) e) ∙ G .left in
+        let all : G .w ≡ joinedWords h i = sym (ap (λ (b : Bool). cond b (joinOn (G .w) (rest h i j)) (G .w)) e) ∙ G .left in
         subst (λ (x : Words). Stands x held texts before comments) all (G .stands)
 
-    pub at-end : length h / 80 ≤ j → Stands (joinOn (wordsOf (roleNo h i)) (drop (i + 1) (rolesOf h))) held texts before comments
+    pub at-end : length h / 80 ≤ j → Stands (joinedWords h i) held texts before comments
     unfolding joinOn
     at-end p =
         let later : eqb j i ≡ false = ne-eqb j i (λ (e : j ≡ i). omega (arith, room .card)) in
-        let none-left : rest h i j ≡ [] = ap (λ (b : Bool). cond b (moreOf (contentOf (cardOf (cardNo h j))) ∷ drop (j + 1) (rolesOf h)) (drop j (rolesOf h))) later ∙ roles-past h j p in
+        let none-left : rest h i j ≡ [] = ap (restBy h j) later ∙ roles-past h j p in
         subst (λ (x : Words). Stands x held texts before comments) (sym (go (held .going) (rest h i j) none-left) ∙ G .left) (G .stands)
       where
         go : (b : Bool) (l : List Role) → l ≡ [] → cond b (joinOn (G .w) l) (G .w) ≡ G .w
@@ -209,16 +219,17 @@ module _ {h : List ℕ} {i : ℕ} {texts₀ : List ℕ} (room : Room h i texts�
       here : rest h i j ≡ roleFrom (eqb j i) h j ∷ drop (j + 1) (rolesOf h)
       here = go (eqb j i)
         where
-          go : (b : Bool) → cond b (moreOf (contentOf (cardOf (cardNo h j))) ∷ drop (j + 1) (rolesOf h)) (drop j (rolesOf h)) ≡ roleFrom b h j ∷ drop (j + 1) (rolesOf h)
+          go : (b : Bool) → restBy h j b ≡ roleFrom b h j ∷ drop (j + 1) (rolesOf h)
           go true = refl
           go false = roles-from h j next
 
       behind : rest h i (j + 1) ≡ drop (j + 1) (rolesOf h)
       behind =
           let later : eqb (j + 1) i ≡ false = ne-eqb (j + 1) i (λ (e : j + 1 ≡ i). omega (arith, G .past)) in
-          ap (λ (b : Bool). cond b (moreOf (contentOf (cardOf (cardNo h (j + 1)))) ∷ drop (j + 1 + 1) (rolesOf h)) (drop (j + 1) (rolesOf h))) later
+          ap (restBy h (j + 1)) later
 
-      pub on-card : {r : Lengths} {texts₁ comments₁ : List ℕ} → Stepped (roleFrom (eqb j i) h j) held r texts comments texts₁ comments₁ → Going h i r texts₁ before comments₁ (j + 1)
+      pub on-card : {r : Lengths} {texts₁ comments₁ : List ℕ}
+          → JoinedOne (roleFrom (eqb j i) h j) held r texts comments texts₁ comments₁ → Going h i r texts₁ before comments₁ (j + 1)
       on-card {r} {texts₁} {comments₁} S =
           let role = roleFrom (eqb j i) h j in
           let w = joinedBy role (G .w) in
@@ -246,18 +257,28 @@ module _ {h : List ℕ} {i : ℕ} {texts₀ : List ℕ} (room : Room h i texts�
 abbrev pub stopped : Lengths → Lengths
 stopped held = record { text = held .text; comment = held .comment; commented = held .commented; going = false }
 
-pub passed : (held : Lengths) (texts comments : List ℕ) → held .going ≡ true → Stepped neutral held held texts comments texts comments
-passed held texts comments on = record { words = λ (w : Words) (before : List ℕ) (S : Stands w held texts before comments). S; going = on; text = omega arith; comment = omega arith }
+module _ (held : Lengths) (texts comments : List ℕ) where
+  pub passed : (r : Role) → ((w : Words) → joinedBy r w ≡ w) → ((s : List ℕ) → goesOn r s ≡ true) → held .going ≡ true
+      → JoinedOne r held held texts comments texts comments
+  passed r stays goes on =
+      record {
+        words = λ (w : Words) (before : List ℕ) (S : Stands w held texts before comments).
+            subst (λ (x : Words). Stands x held texts before comments) (sym (stays w)) S;
+        going = on ∙ sym (goes _);
+        text = omega arith;
+        comment = omega arith;
+      }
 
-still : (w : Words) (held : Lengths) (texts before comments : List ℕ) → Stands w held texts before comments → Stands w (stopped held) texts before comments
-still w held texts before comments S = record { text = S .text; within = S .within; commented = S .commented; comment = S .comment; laid = S .laid }
+  still : (w : Words) (before : List ℕ) → Stands w held texts before comments → Stands w (stopped held) texts before comments
+  still w before S = record { text = S .text; within = S .within; commented = S .commented; comment = S .comment; laid = S .laid }
 
-pub ended : (k : Kind) → OneOf (0 ∷ 3 ∷ []) (tagOf kind.the-type k) → (r : CardRead) (held : Lengths) (texts comments : List ℕ)
-    → Stepped (roleAs k r) held (stopped held) texts comments texts comments
-ended (Entry v joins) e r held texts comments = record { words = λ (w : Words) (before : List ℕ). still w held texts before comments; going = refl; text = omega arith; comment = omega arith }
-ended More e r held texts comments = absurd (miss (0 ∷ 3 ∷ []) 1 tt e)
-ended Neutral e r held texts comments = absurd (miss (0 ∷ 3 ∷ []) 2 tt e)
-ended Last e r held texts comments = record { words = λ (w : Words) (before : List ℕ). still w held texts before comments; going = refl; text = omega arith; comment = omega arith }
+  pub ended : (t : Told) → OneOf (0 ∷ 3 ∷ []) (tagOf role.the-type t) → (s : CardRole)
+      → JoinedOne (roleIn t s) held (stopped held) texts comments texts comments
+  ended (Entry v joins) e s = record { words = still; going = refl; text = omega arith; comment = omega arith }
+  ended More e s = absurd (miss (0 ∷ 3 ∷ []) 1 tt e)
+  ended Neutral e s = absurd (miss (0 ∷ 3 ∷ []) 2 tt e)
+  ended Last e s = record { words = still; going = refl; text = omega arith; comment = omega arith }
+  ended (Refused f) e s = absurd (miss (0 ∷ 3 ∷ []) 4 tt e)
 
 -- ---- a CONTINUE card joined: its text in scratch, and its comment where there is one
 there-joined : (k : Comment) (c : List ℕ) → true ≡ isThere (joinComment k (some c))
@@ -270,26 +291,38 @@ unfolding joinComment
 none-joined none = refl
 none-joined (some a) = refl
 
+-- the text that a card leaves in scratch
+pub record TextJoined (t : List ℕ) (held : Lengths) (texts texts₁ : List ℕ) (n : ℕ) (going : Bool) : Type 0 where
+  pub joined : take n texts₁ ≡ joinText (take (held .text) texts) t
+  pub within : n ≤ length texts₁
+  pub short : n ≤ held .text + 79
+  pub goes : going ≡ endsOpen (take n texts₁)
+
 module _ (t c : List ℕ) (held : Lengths) {texts comments texts₁ : List ℕ} {n : ℕ} {there going : Bool}
-    (joined : take n texts₁ ≡ joinText (take (held .text) texts) t) (within : n ≤ length texts₁) (short : n ≤ held .text + 79) (goes : going ≡ endsOpen (take n texts₁)) where
-  pub with-comment : {comments₁ : List ℕ} {m : ℕ} → there ≡ true → length c ≤ 80 → m ≡ placeBehind (held .commented) (held .comment) + length c → comments₁ ≡ laidBehind (held .commented) (held .comment) comments c
-      → Stepped (more t (commentOf there c)) held (record { text = n; comment = m; commented = true; going = going }) texts comments texts₁ comments₁
+    (J : TextJoined t held texts texts₁ n going) where
+  pub with-comment : {comments₁ : List ℕ} {m : ℕ} → there ≡ true → length c ≤ 80
+      → m ≡ placeBehind (held .commented) (held .comment) + length c
+      → comments₁ ≡ laidBehind (held .commented) (held .comment) comments c
+      → let r : Lengths = record { text = n; comment = m; commented = true; going = going } in
+      JoinedOne (more t (commentOf there c)) held r texts comments texts₁ comments₁
   unfolding joinWords
   with-comment {comments₁} {m} e small count laid =
-      subst (λ (b : Bool). Stepped (more t (commentOf b c)) held (record { text = n; comment = m; commented = true; going = going }) texts comments texts₁ comments₁) (sym e)
+      let r : Lengths = record { text = n; comment = m; commented = true; going = going } in
+      subst (λ (b : Bool). JoinedOne (more t (commentOf b c)) held r texts comments texts₁ comments₁) (sym e)
       record {
         words =
             λ (w : Words) (before : List ℕ) (S : Stands w held texts before comments). record {
-              text = joined ∙ ap (λ (s : List ℕ). joinText s t) (S .text);
-              within = within;
+              text = J .joined ∙ ap (λ (s : List ℕ). joinText s t) (S .text);
+              within = J .within;
               commented = there-joined (w .comment) c;
-              comment = count ∙ joined-length c before comments (w .comment) (held .commented) (held .comment) (S .commented) (S .comment);
+              comment = count ∙ joined-length c before (w .comment) (held .commented) (held .comment) (S .commented) (S .comment);
               laid =
-                  λ (fit : m ≤ length before). laid
-                  ∙ joined-laid c before comments (w .comment) (held .commented) (held .comment) (S .commented) (S .comment) (S .laid) (rw count at fit);
+                  laid
+                  ∙ ap (λ (l : List ℕ). laidBehind (held .commented) (held .comment) l c) (S .laid)
+                  ∙ joined-laid c before (w .comment) (held .commented) (held .comment) (S .commented) (S .comment);
             };
-        going = goes;
-        text = short;
+        going = J .goes;
+        text = J .short;
         comment = omega (arith, below (held .commented));
       }
     where
@@ -297,25 +330,28 @@ module _ (t c : List ℕ) (held : Lengths) {texts comments texts₁ : List ℕ} 
       below true = omega arith
       below false = omega arith
 
-  pub with-none : there ≡ false → Stepped (more t (commentOf there c)) held (record { text = n; comment = held .comment; commented = held .commented; going = going }) texts comments texts₁ comments
+  pub with-none : there ≡ false
+      → let r : Lengths = record { text = n; comment = held .comment; commented = held .commented; going = going } in
+      JoinedOne (more t (commentOf there c)) held r texts comments texts₁ comments
   unfolding joinWords
   with-none e =
-      subst (λ (b : Bool). Stepped (more t (commentOf b c)) held (record { text = n; comment = held .comment; commented = held .commented; going = going }) texts comments texts₁ comments) (sym e)
+      let r : Lengths = record { text = n; comment = held .comment; commented = held .commented; going = going } in
+      subst (λ (b : Bool). JoinedOne (more t (commentOf b c)) held r texts comments texts₁ comments) (sym e)
       record {
         words =
             λ (w : Words) (before : List ℕ) (S : Stands w held texts before comments). record {
-              text = joined ∙ ap (λ (s : List ℕ). joinText s t) (S .text);
-              within = within;
+              text = J .joined ∙ ap (λ (s : List ℕ). joinText s t) (S .text);
+              within = J .within;
               commented = S .commented ∙ ap isThere (none-joined (w .comment));
               comment = S .comment ∙ ap (λ (k : Comment). length (bytesIn k)) (none-joined (w .comment));
-              laid = λ (fit : held .comment ≤ length before). S .laid fit ∙ ap (λ (k : Comment). over (bytesIn k) before) (none-joined (w .comment));
+              laid = S .laid ∙ ap (λ (k : Comment). sets before 0 (bytesIn k)) (none-joined (w .comment));
             };
-        going = goes;
-        text = short;
+        going = J .goes;
+        text = J .short;
         comment = omega arith;
       }
 
--- ---- the role of a card to the string before it, by its kind
-pub role-at : (first : Bool) (r : CardRead) → roleAs (cond first More (kindOf (r .answer))) r ≡ cond first (moreOf (contentOf r)) (roleOf r)
-role-at true r = refl
-role-at false r = sym (role-kind r (kindOf (r .answer)) refl)
+-- ---- the role of a card to the string before it
+pub role-at : (first : Bool) (s : CardRole) → roleIn (cond first More (s .role)) s ≡ cond first (moreOf s) (roleIn (s .role) s)
+role-at true s = refl
+role-at false s = refl

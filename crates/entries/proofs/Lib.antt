@@ -1,9 +1,6 @@
--- Laws of a header's cards, of the passes over them and of what they hand over.
-pub mod Playing
+-- What is proved of entries and of looking names up.
 pub mod Telling
-pub mod Scanning
-pub mod Looking
 pub mod Buffers
+pub mod Looking
 pub mod Joining
 pub mod Writing
-pub mod Parts

@@ -1,29 +1,33 @@
 -- What a lookup answers, and what the lent buffers then hold (document 01, "Joining and lookup").
 use Prim.Native.Nat.{ℕ}
 use mathlib.Core.Bool.{Bool, true, false, cond, _&&_}
-use mathlib.Core.List.{List, [], _∷_, _++_}
+use mathlib.Core.List.{List, [], _∷_}
 use mathlib.Core.Option.{Option, none, some}
 use lib.Dec.{leb}
 use lib.ListN.{length, drop}
-use Rattle.refusal.specs.declared.Refusal.{Refusal}
-use Rattle.refusal.specs.Numbers.{refusal}
+use lib.Seq.{sets}
+use Rattle.refusal.specs.declared.Refusal.the-variants as R
+use Rattle.refusal.specs.Numbers.{faultOf}
 use Rattle.text.specs.Text.{textOf}
-use Rattle.joining.specs.Words.{Comment}
-use Rattle.joining.specs.Roles.{Held, Role, entry, more, neutral, last}
-use Rattle.joining.specs.Lookup.{whole, lookup}
-use Rattle.header.specs.declared.Header.{Header}
-use Rattle.header.specs.declared.Header.the-variants.{Accepted, Refused}
-use Rattle.header.specs.declared.LookupAnswer.{LookupAnswer}
-use Rattle.header.specs.declared.LookupAnswer.the-variants as L
-use Rattle.header.specs.declared.Looked.{Looked}
+use Rattle.roles.specs.Roles.{Comment, Held, Role, entry, more, neutral, last, refused}
 use Rattle.roles.specs.Cards.{rolesOf, isBadLength}
-use Rattle.header.specs.Reading.{headerOf}
+use Rattle.joining.specs.Lookup.{whole, lookup}
+use Rattle.finding.specs.declared.Header.{Header}
+use Rattle.finding.specs.declared.Header.the-variants.{Accepted, Refused}
+use Rattle.finding.specs.Finding.{stopAt, headerOf}
+use Rattle.entries.specs.declared.LookupAnswer.{LookupAnswer}
+use Rattle.entries.specs.declared.LookupAnswer.the-variants as L
+use Rattle.entries.specs.declared.Looked.{Looked}
 
 -- an answer, and the lent buffers for text and comment after it
-pub record Outcome : Type 0 where
+pub record LookupOutcome : Type 0 where
   pub answer : Looked
   pub text : List ℕ
   pub comment : List ℕ
+
+-- what a function leaves: its answer, and the lent buffers after it
+abbrev pub leftBy : Looked → List ℕ → List ℕ → LookupOutcome
+leftBy r text comment = record { answer = r; text = text; comment = comment }
 
 -- a comment that is missing has length 0
 abbrev pub isThere : Comment → Bool
@@ -49,32 +53,28 @@ abbrev pub unread : LookupAnswer → Looked
 unread a = record { answer = a; digits = textOf []; commented = false; text = 0; comment = 0 }
 
 -- all refusals leave the buffers untouched
-abbrev pub untouched : LookupAnswer → List ℕ → List ℕ → Outcome
-untouched a text comment = record { answer = unread a; text = text; comment = comment }
+abbrev pub untouched : LookupAnswer → List ℕ → List ℕ → LookupOutcome
+untouched a text comment = leftBy (unread a) text comment
 
--- a text laid over the front of a buffer: bytes beyond its length stay
-abbrev pub over : List ℕ → List ℕ → List ℕ
-over s buffer = s ++ drop (length s) buffer
-
--- 13 where either buffer is shorter than the text for it
-unfoldable pub written : Held → List ℕ → List ℕ → Outcome
+-- each at the front of its buffer, and bytes beyond its length stay; 13 where either buffer is shorter than the text for it
+unfoldable pub written : Held → List ℕ → List ℕ → LookupOutcome
 written v text comment =
     cond (leb (length (v .words .text)) (length text) && leb (length (bytesIn (v .words .comment))) (length comment))
-    (record { answer = found v; text = over (v .words .text) text; comment = over (bytesIn (v .words .comment)) comment })
-    (untouched (L.Refused (refusal 13)) text comment)
+    (leftBy (found v) (sets text 0 (v .words .text)) (sets comment 0 (bytesIn (v .words .comment))))
+    (untouched (L.Refused (faultOf R.BufferShort)) text comment)
 
 -- 12 where there is no entry
-abbrev pub given : Option Held → List ℕ → List ℕ → Outcome
-given none text comment = untouched (L.Refused (refusal 12)) text comment
+abbrev pub given : Option Held → List ℕ → List ℕ → LookupOutcome
+given none text comment = untouched (L.Refused (faultOf R.NameNotFound)) text comment
 given (some v) text comment = written v text comment
 
 -- header refusals come first
-abbrev pub lookedUp : Header → List Role → List ℕ → List ℕ → List ℕ → Outcome
-lookedUp (Refused why i) roles name text comment = untouched (L.Header why i) text comment
+abbrev pub lookedUp : Header → List Role → List ℕ → List ℕ → List ℕ → LookupOutcome
+lookedUp (Refused s) roles name text comment = untouched (L.Header s) text comment
 lookedUp (Accepted i) roles name text comment = given (lookup name roles) text comment
 
 -- looking a name up in a header
-unfoldable pub lookupOf : List ℕ → List ℕ → List ℕ → List ℕ → Outcome
+unfoldable pub lookupOf : List ℕ → List ℕ → List ℕ → List ℕ → LookupOutcome
 lookupOf h name text comment = lookedUp (headerOf h) (rolesOf h) name text comment
 
 -- the entry that a header's cards begin with, with what is joined to it
@@ -84,8 +84,10 @@ entryHead (entry n v ∷ h) = some (whole v h)
 entryHead (more t c ∷ h) = none
 entryHead (neutral ∷ h) = none
 entryHead (last ∷ h) = none
+entryHead (refused f ∷ h) = none
 
 -- reading the entry at card i, whatever stands elsewhere in the header; a header of a bad length has no cards
-unfoldable pub entryOf : List ℕ → ℕ → List ℕ → List ℕ → Outcome
+unfoldable pub entryOf : List ℕ → ℕ → List ℕ → List ℕ → LookupOutcome
 entryOf h i text comment =
-    cond (isBadLength (length h)) (untouched (L.Header (refusal 9) 0) text comment) (given (entryHead (drop i (rolesOf h))) text comment)
+    cond (isBadLength (length h)) (untouched (L.Header (stopAt (faultOf R.HeaderLength) 0)) text comment)
+    (given (entryHead (drop i (rolesOf h))) text comment)

@@ -1,4 +1,4 @@
--- What the contracts of `header` cite.
-pub mod Reading
+-- What public promises cite.
 pub mod Answers
+-- What private contracts cite alone.
 pub mod Passes

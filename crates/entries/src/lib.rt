@@ -1,41 +1,36 @@
-// A header: its cards read up to END, an entry joined with the CONTINUE cards that follow it, a name looked up.
+// An entry of a header: its value with its text and comment, joined with the CONTINUE cards that follow it; a name looked up.
 ghost use mathlib.Core.Path.{_≡_};
 ghost use mathlib.Core.Bool.{true, cond, _&&_};
 ghost use mathlib.Core.List.{[], _∷_};
 ghost use Prim.Native.Nat.{_+_, _*_, _/_, _≤_, _<_};
 ghost use lib.Dec.{leb};
-ghost use lib.ListN.{length, take, drop, getD};
-ghost use Rattle.text.specs.Same.{same};
+ghost use lib.ListN.{length, take, drop};
+ghost use lib.Seq.{sets};
 ghost use Rattle.text.specs.Text.{textOf, bytesOf};
-ghost use Rattle.card.specs.Cards.{cardOf};
+ghost use Rattle.refusal.specs.Numbers.{faultOf};
+ghost use Rattle.roles.specs.Roles.{hasText, hasDigits, commentOf};
+ghost use Rattle.roles.specs.Cards.{rolesOf, roleNo};
 ghost use Rattle.joining.specs.Words.{endsOpen, addsNothing, joinText, opens};
-ghost use Rattle.joining.specs.Roles.{hasText, hasDigits, isString, commentOf, roleOf};
-ghost use Rattle.joining.specs.Lookup.{joinOn};
-ghost use Rattle.roles.specs.Cards.{rolesOf};
-ghost use Rattle.header.specs.Reading.{isEnd, headerOf};
-ghost use Rattle.header.specs.Answers.{unread, given, lookupOf, entryOf, entryHead};
-ghost use Rattle.header.specs.Passes.{kindIn, kindOf, contentOf, refusalIn, foundAt, scanOf, refusedScan, refusedHeader, leaves, answerBy, roleNo, roleFrom, wordsOf, placeBehind, laidBehind, Stands, Stepped, Space, Room, Wrote, WroteAt};
-ghost use Rattle.overlay.specs.Overlay.{overlaid};
-use card::Card;
-use card::CardAnswer;
-use card::CardRead;
+ghost use Rattle.entries.specs.Answers.{leftBy, unread, given, lookupOf, entryOf, entryHead};
+ghost use Rattle.entries.specs.Passes.{longestComment, answerBy, wordsOf, joinedWords, roleFrom, placeBehind, laidBehind};
+ghost use Rattle.entries.specs.Passes.{Stands, JoinedOne, Space, Room, Wrote, WroteAt};
+use card::CARD;
+use finding::Found;
+use finding::Stop;
 use numbers::Value;
+use refusal::Fault;
 use refusal::Refusal;
+use roles::CardRole;
+use roles::Role;
 use text::Cut;
 use text::Place;
 use text::Text;
 
-// What reading a header answers: the number of END, or a refusal with the card's number.
-pub enum Header {
-    Accepted(usize),
-    Refused(Refusal, usize),
-}
-
-// What looking a name up answers: a value; a refusal of the header, with the card's number; or a refusal without a card.
+// What looking a name up answers: a value; where the header is refused; or a refusal without a card.
 pub enum LookupAnswer {
     Found(Value),
-    Header(Refusal, usize),
-    Refused(Refusal),
+    Header(Stop),
+    Refused(Fault),
 }
 
 // Beside the answer stand a decimal's digits, whether there is a comment, and the lengths written to the lent buffers.
@@ -45,20 +40,6 @@ pub struct Looked {
     pub commented: bool,
     pub text: usize,
     pub comment: usize,
-}
-
-// A header's answer, and the last card that bears a name.
-pub struct Scan {
-    pub header: Header,
-    pub last: Place,
-}
-
-// What a card is to its header: an entry, with its value and whether it may be continued; a CONTINUE card; neither; or END.
-pub enum Kind {
-    Entry(Value, bool),
-    More,
-    Neutral,
-    Last,
 }
 
 // How long a joined text and comment are, whether there is a comment, and whether more may be joined.
@@ -77,17 +58,6 @@ pub struct Written {
     pub comment: usize,
 }
 
-// What a card is to its header, with its text and comment.
-pub struct Content {
-    pub kind: Kind,
-    pub text: Text,
-    pub commented: bool,
-    pub comment: Text,
-}
-
-// The bytes of a card.
-const CARD: usize = 80;
-
 // A header of so many cards has small scratch: three blocks of 36.
 const FEW_CARDS: usize = 108;
 
@@ -97,43 +67,31 @@ const LINE_FEED: u8 = 10;
 
 // The name with the last entry that bears it, joined and read into the lent buffers.
 pub fn lookup(header: &[u8], name: &[u8], text: &mut [u8], comment: &mut [u8]) -> Looked
-    ensures { λ r. ⌜ r ≡ lookupOf (now (header .entry)) (now (name .entry)) (now (text .entry)) (now (comment .entry)) .answer ⌝ }
-    ensures { λ _. ⌜ now (text .exit) ≡ lookupOf (now (header .entry)) (now (name .entry)) (now (text .entry)) (now (comment .entry)) .text ⌝ }
-    ensures { λ _. ⌜ now (comment .exit) ≡ lookupOf (now (header .entry)) (now (name .entry)) (now (text .entry)) (now (comment .entry)) .comment ⌝ }
+    ensures { λ r. ⌜ leftBy r (now (text .exit)) (now (comment .exit))
+        ≡ lookupOf (now (header .entry)) (now (name .entry)) (now (text .entry)) (now (comment .entry)) ⌝ }
 {
-    let scanned = scan_cards(header, name);
-    let answer = scanned.header;
-    let last = scanned.last;
-    let Header::Accepted(_) = answer else {
-        return refused_header(answer);
-    };
-    let Place::At(i) = last else {
-        return not_found();
-    };
-    entry_at(header, i, text, comment)
+    match finding::find(header, name) {
+        Found::Refused(stop) => unread(LookupAnswer::Header(stop)),
+        Found::Read { end: _, last } => match last {
+            Place::At(i) => entry_at(header, i, text, comment),
+            Place::Nowhere => not_found(),
+        },
+    }
 }
 
 // The entry at a card's number, joined and read into the lent buffers, whatever stands elsewhere in the header.
 pub fn read_entry(header: &[u8], i: usize, text: &mut [u8], comment: &mut [u8]) -> Looked
-    ensures { λ r. ⌜ r ≡ entryOf (now (header .entry)) i (now (text .entry)) (now (comment .entry)) .answer ⌝ }
-    ensures { λ _. ⌜ now (text .exit) ≡ entryOf (now (header .entry)) i (now (text .entry)) (now (comment .entry)) .text ⌝ }
-    ensures { λ _. ⌜ now (comment .exit) ≡ entryOf (now (header .entry)) i (now (text .entry)) (now (comment .entry)) .comment ⌝ }
+    ensures { λ r. ⌜ leftBy r (now (text .exit)) (now (comment .exit))
+        ≡ entryOf (now (header .entry)) i (now (text .entry)) (now (comment .entry)) ⌝ }
 {
     if roles::is_bad_length(header.len()) {
-        return refused_header(Header::Refused(Refusal::HeaderLength, 0));
+        let fault = refusal::fault_of(Refusal::HeaderLength);
+        return unread(LookupAnswer::Header(finding::stop_at(fault, 0)));
     }
     if header.len() / CARD <= i {
         return not_found();
     }
     entry_at(header, i, text, comment)
-}
-
-// Whether a header is accepted, and where its END stands.
-pub fn read_header(header: &[u8]) -> Header
-    ensures { λ r. ⌜ r ≡ headerOf (now (header .entry)) ⌝ }
-{
-    let scanned = scan_cards(header, b"");
-    scanned.header
 }
 
 // ---- answers
@@ -152,145 +110,9 @@ fn unread(answer: LookupAnswer) -> Looked
 }
 
 fn not_found() -> Looked
-    ensures { λ r. ⌜ r ≡ unread (LookupAnswer.Refused Refusal.NameNotFound) ⌝ }
+    ensures { λ r. ⌜ r ≡ unread (LookupAnswer.Refused (faultOf Refusal.NameNotFound)) ⌝ }
 {
-    unread(LookupAnswer::Refused(Refusal::NameNotFound))
-}
-
-fn refused_header(header: Header) -> Looked
-    ensures { λ r. ⌜ r ≡ unread (refusedHeader header) ⌝ }
-{
-    let Header::Refused(why, i) = header else {
-        return not_found();
-    };
-    unread(LookupAnswer::Header(why, i))
-}
-
-// ---- reading
-
-fn is_end(card: Card) -> bool
-    ensures { λ r. ⌜ r ≡ isEnd card ⌝ }
-{
-    let Card::End = card else {
-        return false;
-    };
-    true
-}
-
-fn refusal_in(answer: CardAnswer) -> Refusal
-    ensures { λ r. ⌜ r ≡ refusalIn answer ⌝ }
-{
-    match answer {
-        CardAnswer::Read(_) => Refusal::NoEnd,
-        CardAnswer::Refused(why) => why,
-    }
-}
-
-fn is_string(value: Value) -> bool
-    ensures { λ r. ⌜ r ≡ isString value ⌝ }
-{
-    let Value::String = value else {
-        return false;
-    };
-    true
-}
-
-fn kind_of(answer: CardAnswer) -> Kind
-    ensures { λ r. ⌜ r ≡ kindOf answer ⌝ }
-{
-    let CardAnswer::Read(card) = answer else {
-        return Kind::Neutral;
-    };
-    kind_in(card)
-}
-
-fn kind_in(card: Card) -> Kind
-    ensures { λ r. ⌜ r ≡ kindIn card ⌝ }
-{
-    match card {
-        Card::Value(v) => Kind::Entry(v, is_string(v)),
-        Card::Hierarch(v) => Kind::Entry(v, is_string(v)),
-        Card::Xtension => Kind::Entry(Value::String, false),
-        Card::Continuation => Kind::More,
-        Card::End => Kind::Last,
-        _ => Kind::Neutral,
-    }
-}
-
-// The content of the card with a number.
-fn content_at(header: &[u8], i: usize) -> Content
-    requires { ⌜ i < length (now header) / 80 ⌝ }
-    ensures { λ r. ⌜ r ≡ contentOf (cardOf (take 80 (drop (i * 80) (now (header .entry))))) ⌝ }
-{
-    let read = roles::card_at(header, i);
-    let answer = read.answer;
-    let text = read.text;
-    let comment = read.comment;
-    Content {
-        kind: kind_of(answer),
-        text: text,
-        commented: read.commented,
-        comment: comment,
-    }
-}
-
-fn bears(own: Text, name: &[u8]) -> bool
-    ensures { λ r. ⌜ r ≡ same (bytesOf own) (now (name .entry)) ⌝ }
-{
-    let bytes = own.bytes;
-    text::same_bytes(text::first_of(&bytes, own.len), name)
-}
-
-// The last place of a name so far, with the card of number i.
-fn found_at(card: CardRead, name: &[u8], i: usize, last: Place) -> Place
-    ensures { λ r. ⌜ r ≡ foundAt (roleOf card) (now (name .entry)) i last ⌝ }
-{
-    let answer = card.answer;
-    let Kind::Entry(_, _) = kind_of(answer) else {
-        return last;
-    };
-    let own = card.name;
-    if bears(own, name) {
-        return Place::At(i);
-    }
-    last
-}
-
-// The cards from number 0 up to END, and the last of them that bears the name.
-fn scan_cards(header: &[u8], name: &[u8]) -> Scan
-    ensures { λ r. ⌜ r ≡ scanOf (now (header .entry)) (now (name .entry)) ⌝ }
-{
-    if roles::is_bad_length(header.len()) {
-        return refused_scan(Refusal::HeaderLength, 0);
-    }
-    let n = header.len() / CARD;
-    let mut last = Place::Nowhere;
-    let mut i = 0;
-    while i < n {
-        let read = roles::card_at(header, i);
-        let answer = read.answer;
-        let CardAnswer::Read(card) = answer else {
-            return refused_scan(refusal_in(answer), i);
-        };
-        if is_end(card) {
-            return Scan {
-                header: Header::Accepted(i),
-                last: last,
-            };
-        }
-        last = found_at(read, name, i, last);
-        i += 1;
-    }
-    refused_scan(Refusal::NoEnd, n)
-}
-
-fn refused_scan(why: Refusal, i: usize) -> Scan
-    ensures { λ r. ⌜ r ≡ refusedScan why i ⌝ }
-{
-    Scan {
-        header: Header::Refused(why, i),
-        last: Place::Nowhere,
-    }
+    unread(LookupAnswer::Refused(refusal::fault_of(Refusal::NameNotFound)))
 }
 
 // ---- joining
@@ -308,12 +130,12 @@ fn count_of(there: bool, t: Text) -> usize
     0
 }
 
-// The first n bytes of a text laid over a part of a buffer, where they fit.
+// The first n bytes of a text stored in a buffer from a place on, as many as fit.
 fn put_text(t: Text, n: usize, out: &mut [u8], at: usize)
-    ensures { λ _. ⌜ now (out .exit) ≡ overlaid (now (out .entry)) at (take n (t .bytes)) ⌝ }
+    ensures { λ _. ⌜ now (out .exit) ≡ sets (now (out .entry)) at (take n (t .bytes)) ⌝ }
 {
     let bytes = t.bytes;
-    overlay::put_at(text::first_of(&bytes, n), out, at);
+    text::put_at(text::first_of(&bytes, n), out, at);
 }
 
 // Whether a text ends in &.
@@ -356,11 +178,12 @@ fn join_text(held: &mut [u8], n: usize, t: Text) -> usize
 
 // A comment laid behind the n bytes of the one before it, with a line feed between them, and how long they then are.
 fn join_comment(out: &mut [u8], there: bool, n: usize, c: Text) -> usize
-    requires { ⌜ n ≤ 58320 ⌝ }
-    ensures { λ r. ⌜ (r ≡ placeBehind there n + length (bytesOf c)) × (now (out .exit) ≡ laidBehind there n (now (out .entry)) (bytesOf c)) ⌝ }
+    requires { ⌜ n ≤ longestComment ⌝ }
+    ensures { λ r. ⌜ r ≡ placeBehind there n + length (bytesOf c) ⌝ }
+    ensures { λ _. ⌜ now (out .exit) ≡ laidBehind there n (now (out .entry)) (bytesOf c) ⌝ }
 {
     if there {
-        overlay::put_at(b"\n", out, n);
+        text::put_at(b"\n", out, n);
         put_text(c, c.len, out, n + 1);
         return n + 1 + count_of(true, c);
     }
@@ -369,16 +192,16 @@ fn join_comment(out: &mut [u8], there: bool, n: usize, c: Text) -> usize
 }
 
 // The card that a string begins with counts as a CONTINUE card.
-fn kind_at(first: bool, kind: Kind) -> Kind
-    ensures { λ r. ⌜ r ≡ cond first Kind.More kind ⌝ }
+fn role_behind(first: bool, role: Role) -> Role
+    ensures { λ r. ⌜ r ≡ cond first Role.More role ⌝ }
 {
     if first {
-        return Kind::More;
+        return Role::More;
     }
-    kind
+    role
 }
 
-// Card j joined to the open words before it, where it is a CONTINUE card; an entry or END lets no more be joined.
+// Card j joined to the open words before it, where it is a CONTINUE card. An entry or END lets no more be joined.
 fn join_card(
     header: &[u8],
     j: usize,
@@ -388,14 +211,18 @@ fn join_card(
     comments: &mut [u8],
 ) -> Lengths
     requires { ⌜ (j < length (now header) / 80) × Space held (now texts) ⌝ }
-    ensures { λ r. ⌜ Stepped (roleFrom first (now (header .entry)) j) held r (now (texts .entry)) (now (comments .entry)) (now (texts .exit)) (now (comments .exit)) ⌝ }
+    ensures { λ r. ⌜ JoinedOne (roleFrom first (now (header .entry)) j) held r
+        (now (texts .entry)) (now (comments .entry)) (now (texts .exit)) (now (comments .exit)) ⌝ }
 {
-    let part = content_at(header, j);
-    let own_kind = part.kind;
-    let kind = kind_at(first, own_kind);
-    match kind {
-        Kind::More => {}
-        Kind::Neutral => {
+    let part = roles::role_at(header, j);
+    let own_role = part.role;
+    let role = role_behind(first, own_role);
+    match role {
+        Role::More => {}
+        Role::Neutral => {
+            return held;
+        }
+        Role::Refused(_) => {
             return held;
         }
         _ => {
@@ -432,7 +259,7 @@ fn join_card(
 // The string itself is joined as a CONTINUE card to an &.
 fn join_cards(header: &[u8], i: usize, texts: &mut [u8], comments: &mut [u8]) -> Lengths
     requires { ⌜ Room (now header) i (now texts) ⌝ }
-    ensures { λ r. ⌜ Stands (joinOn (wordsOf (roleNo (now (header .entry)) i)) (drop (i + 1) (rolesOf (now (header .entry))))) r (now (texts .exit)) (now (comments .entry)) (now (comments .exit)) ⌝ }
+    ensures { λ r. ⌜ Stands (joinedWords (now (header .entry)) i) r (now (texts .exit)) (now (comments .entry)) (now (comments .exit)) ⌝ }
 {
     texts[0] = AMPERSAND;
     let mut held = Lengths {
@@ -460,9 +287,12 @@ fn has_text(value: Value) -> bool
     ensures { λ r. ⌜ r ≡ hasText value ⌝ }
 {
     match value {
+        Value::Integer(_) => false,
+        Value::Float(_, _) => false,
+        Value::Logical(_) => false,
         Value::String => true,
+        Value::Undefined => false,
         Value::Invalid => true,
-        _ => false,
     }
 }
 
@@ -490,7 +320,7 @@ fn answer_of(value: Value, own: Text, put: Written) -> Looked
             comment: put.comment,
         };
     }
-    unread(LookupAnswer::Refused(Refusal::BufferShort))
+    unread(LookupAnswer::Refused(refusal::fault_of(Refusal::BufferShort)))
 }
 
 // Whether buffers of two lengths hold a text and a comment.
@@ -504,8 +334,9 @@ fn both_fit(n: usize, m: usize, text: usize, comment: usize) -> bool
 }
 
 // The words of an entry's own card, written where both lent buffers hold them.
-fn write_own(shown: bool, part: Content, text: &mut [u8], comment: &mut [u8]) -> Written
-    ensures { λ r. ⌜ Wrote (cond shown (bytesOf (part .text)) []) (commentOf (part .commented) (bytesOf (part .comment))) r (now (text .entry)) (now (comment .entry)) (now (text .exit)) (now (comment .exit)) ⌝ }
+fn write_own(shown: bool, part: CardRole, text: &mut [u8], comment: &mut [u8]) -> Written
+    ensures { λ r. ⌜ Wrote (cond shown (bytesOf (part .text)) []) (commentOf (part .commented) (bytesOf (part .comment))) r
+        (now (text .entry)) (now (comment .entry)) (now (text .exit)) (now (comment .exit)) ⌝ }
 {
     let own = part.text;
     let remark = part.comment;
@@ -540,7 +371,7 @@ fn join_within(
     let n = end.text;
     let fits = both_fit(n, end.comment, text.len(), comment.len());
     if fits {
-        overlay::put_at(&texts[..n], text, 0);
+        text::put_at(&texts[..n], text, 0);
         let there = end.commented;
         if there {
             join_cards(header, i, texts, comment);
@@ -554,7 +385,7 @@ fn join_within(
     }
 }
 
-// The same in scratch as large as the header asks: clearing the large one costs more than reading a card.
+// Uses the smaller scratch up to 108 cards: clearing the large one costs more than reading a card.
 fn write_joined(header: &[u8], i: usize, text: &mut [u8], comment: &mut [u8]) -> Written
     requires { ⌜ (i < length (now header) / 80) × (length (now header) / 80 ≤ 720) × (opens (wordsOf (roleNo (now header) i)) ≡ true) ⌝ }
     ensures { λ r. ⌜ WroteAt (now (header .entry)) i r (now (text .entry)) (now (comment .entry)) (now (text .exit)) (now (comment .exit)) ⌝ }
@@ -581,11 +412,12 @@ fn is_open(joins: bool, own: Text) -> bool
 // The entry at card i.
 fn entry_at(header: &[u8], i: usize, text: &mut [u8], comment: &mut [u8]) -> Looked
     requires { ⌜ (i < length (now header) / 80) × (length (now header) / 80 ≤ 720) ⌝ }
-    ensures { λ r. ⌜ leaves r (now (text .exit)) (now (comment .exit)) ≡ given (entryHead (drop i (rolesOf (now (header .entry))))) (now (text .entry)) (now (comment .entry)) ⌝ }
+    ensures { λ r. ⌜ leftBy r (now (text .exit)) (now (comment .exit))
+        ≡ given (entryHead (drop i (rolesOf (now (header .entry))))) (now (text .entry)) (now (comment .entry)) ⌝ }
 {
-    let part = content_at(header, i);
-    let kind = part.kind;
-    let Kind::Entry(value, joins) = kind else {
+    let part = roles::role_at(header, i);
+    let role = part.role;
+    let Role::Entry { value, joins } = role else {
         return not_found();
     };
     let own = part.text;

@@ -14,8 +14,8 @@ use Rattle.roles.specs.declared.Role.{Role as Told}
 use Rattle.roles.specs.declared.Role.the-variants as T
 use Rattle.roles.specs.declared.CardRole.{CardRole}
 use Rattle.roles.specs.Roles.{Role, entry, more, neutral, last, refused, roleIn}
-use Rattle.roles.specs.Cards.{rolesOf, isBadLength}
-use Rattle.roles.proofs.Cards.{roleNo, roles-from, roles-past}
+use Rattle.roles.specs.Cards.{rolesOf, roleNo, isBadLength}
+use Rattle.roles.proofs.Cards.{roles-from, roles-past}
 use Rattle.finding.specs.declared.Stop.{Stop}
 use Rattle.finding.specs.declared.Header.{Header}
 use Rattle.finding.specs.declared.Header.the-variants.{Accepted, Refused}

@@ -113,10 +113,7 @@ fn stopped(role: Role, i: usize, last: Place) -> Found
     ensures { λ r. ⌜ r ≡ stoppedAt role i last ⌝ }
 {
     let Role::Refused(fault) = role else {
-        return Found::Read {
-            end: i,
-            last: last,
-        };
+        return Found::Read { end: i, last: last };
     };
     Found::Refused(stop_at(fault, i))
 }

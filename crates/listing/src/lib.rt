@@ -8,8 +8,8 @@ ghost use Rattle.listing.specs.Inserting.{bearsOf, placeBy, insertAt, in
 ghost use Rattle.listing.specs.Marks.{markOf, Bears, namesIn, Marked};
 use header::Header;
 use header::Looked;
-use roles::Part;
 use refusal::Refusal;
+use roles::Part;
 use text::Cut;
 use text::Place;
 use text::Text;

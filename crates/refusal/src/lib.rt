@@ -51,9 +51,7 @@ pub struct Fault {
 pub fn fault_of(why: Refusal) -> Fault
     ensures { λ r. ⌜ r ≡ faultOf why ⌝ }
 {
-    Fault {
-        why: why,
-    }
+    Fault { why: why }
 }
 
 impl Fault {

@@ -7,15 +7,15 @@ ghost use mathlib.Core.Bool.{true};
 ghost use Prim.Native.Nat.{_+_, _/_, _<_};
 ghost use lib.ListN.{take};
 use libc::STDIN_FILENO;
-use test_output::put;
-use test_output::put_number;
-use test_output::put_pixels;
-use test_output::put_space;
 use refusal::Refusal;
 use rice::Cursor;
 use rice::Decoded;
 use rice::Opened;
 use rice::Stepped;
+use test_output::put;
+use test_output::put_number;
+use test_output::put_pixels;
+use test_output::put_space;
 
 // The most pixels of a stored tile.
 const PIXELS: usize = 256;

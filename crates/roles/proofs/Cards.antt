@@ -6,7 +6,7 @@ use mathlib.Core.List.{List, [], _∷_, map}
 use lib.ListN.{length, take, drop, drop-of-length-le, length-map}
 use lib.Seq.{drop-drop}
 use Rattle.roles.specs.Roles.{Role, roleOf}
-use Rattle.roles.specs.Cards.{cardsIn, cardsOf, rolesOf}
+use Rattle.roles.specs.Cards.{cardsIn, cardsOf, cardNo, roleNo, rolesOf}
 
 -- a part of a list that is mapped
 pub drop-map : {A B : Type 0} (f : A → B) (l : List A) (i : ℕ) → drop i (map f l) ≡ map f (drop i l)
@@ -32,15 +32,11 @@ cards-counted zero h = refl
 cards-counted (suc n) h = ap suc (cards-counted n (drop 80 h))
 
 module _ (h : List ℕ) where
-  -- card i
-  abbrev pub cardNo : ℕ → List ℕ
-  cardNo i = take 80 (drop (i * 80) h)
-
   pub card-count : length (cardsOf h) ≡ length h / 80
   card-count = cards-counted (length h / 80) h
 
   -- the cards from number i on, by the first of them
-  pub cards-from : (i : ℕ) → i < length h / 80 → drop i (cardsOf h) ≡ cardNo i ∷ drop (i + 1) (cardsOf h)
+  pub cards-from : (i : ℕ) → i < length h / 80 → drop i (cardsOf h) ≡ cardNo h i ∷ drop (i + 1) (cardsOf h)
   cards-from i p = cards-at (length h / 80) i h p
 
   -- behind the last there is none
@@ -51,19 +47,15 @@ module _ (h : List ℕ) where
 
 -- ---- the roles of a header's cards, by number
 module _ (h : List ℕ) where
-  -- the role of card i
-  abbrev pub roleNo : ℕ → Role
-  roleNo i = roleOf (cardNo h i)
-
   pub role-count : length (rolesOf h) ≡ length h / 80
   role-count = length-map (cardsOf h) roleOf ∙ card-count h
 
   -- the roles from number i on, by the first of them
-  pub roles-from : (i : ℕ) → i < length h / 80 → drop i (rolesOf h) ≡ roleNo i ∷ drop (i + 1) (rolesOf h)
+  pub roles-from : (i : ℕ) → i < length h / 80 → drop i (rolesOf h) ≡ roleNo h i ∷ drop (i + 1) (rolesOf h)
   roles-from i within =
       drop-map roleOf (cardsOf h) i
       ∙ ap (map roleOf) (cards-from h i within)
-      ∙ ap (λ (l : List Role). roleNo i ∷ l) (sym (drop-map roleOf (cardsOf h) (i + 1)))
+      ∙ ap (λ (l : List Role). roleNo h i ∷ l) (sym (drop-map roleOf (cardsOf h) (i + 1)))
 
   -- behind the last there is none
   pub roles-past : (i : ℕ) → length h / 80 ≤ i → drop i (rolesOf h) ≡ []

@@ -9,8 +9,7 @@ use lib.Dec.{eqb, ltb}
 use lib.ListN.{length}
 use Rattle.laws.proofs.Truths.{or-false}
 use Rattle.card.specs.Cards.{cardOf}
-use Rattle.roles.specs.Cards.{isBadLength, cardCount, cardAt}
-use Rattle.roles.proofs.Cards.{cardNo}
+use Rattle.roles.specs.Cards.{cardNo, isBadLength, cardCount, cardAt}
 
 -- ---- the number of cards
 -- a header without a card is of a bad length

@@ -18,6 +18,13 @@ cardsIn (suc n) h = take 80 h ∷ cardsIn n (drop 80 h)
 abbrev pub cardsOf : List ℕ → List (List ℕ)
 cardsOf h = cardsIn (length h / 80) h
 
+-- card i, and what it is to the header
+abbrev pub cardNo : List ℕ → ℕ → List ℕ
+cardNo h i = take 80 (drop (i * 80) h)
+
+abbrev pub roleNo : List ℕ → ℕ → Role
+roleNo h i = roleOf (cardNo h i)
+
 -- what each card is to the header
 abbrev pub rolesOf : List ℕ → List Role
 rolesOf h = map roleOf (cardsOf h)
@@ -32,4 +39,4 @@ cardCount n = cond (isBadLength n) 0 (n / 80)
 
 -- the card with number i; one that the header lacks is blank
 unfoldable pub cardAt : List ℕ → ℕ → CardRead
-cardAt h i = cond (ltb i (length h / 80)) (cardOf (take 80 (drop (i * 80) h))) (cardOf (replicate 80 (code " ")))
+cardAt h i = cond (ltb i (length h / 80)) (cardOf (cardNo h i)) (cardOf (replicate 80 (code " ")))

@@ -46,5 +46,5 @@ sets-all s d e = sets-front s d (le-of-eq e) ∙ ap (λ (l : List ℕ). s ++ l) 
 pub take-sets : (s d : List ℕ) (at : ℕ) → at + length s ≤ length d → take (at + length s) (sets d at s) ≡ take at d ++ s
 take-sets s d at h =
     let front : length (take at d ++ s) ≡ at + length s =
-      length-append (take at d) s ∙ ap (λ (k : ℕ). k + length s) (length-take-le at d (omega arith)) in
+    length-append (take at d) s ∙ ap (λ (k : ℕ). k + length s) (length-take-le at d (omega arith)) in
     ap (take (at + length s)) (sets-eq s d at h) ∙ take-at (take at d ++ s) (drop (at + length s) d) (at + length s) front

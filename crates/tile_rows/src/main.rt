@@ -1,14 +1,14 @@
 // Decodes the tiles of document 01's "Readings at the edges", whole and block by block, with nblock 32, and prints a line for each: the
 // tile's bytes, its width and number of pixels, and its pixels with the bits used, or the refusal with the pixels written.
 use libc::STDOUT_FILENO;
-use test_output::put;
-use test_output::put_number;
-use test_output::put_pixels;
-use test_output::put_space;
 use refusal::Refusal;
 use rice::Decoded;
 use rice::Opened;
 use rice::Stepped;
+use test_output::put;
+use test_output::put_number;
+use test_output::put_pixels;
+use test_output::put_space;
 
 // The pixels of a block.
 const NBLOCK: usize = 32;

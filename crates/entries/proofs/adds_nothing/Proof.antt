@@ -1,4 +1,5 @@
--- `header::adds_nothing` meets its contract, by the length.
+-- `entries::adds_nothing` meets its contract, by the length.
+use Prim.Native.Char.{code}
 use Prim.Native.Nat.{ℕ, min}
 use native.Mathlib.Omega.{arith}
 use mathlib.Core.Path.{_≡_, refl, sym, ap, _∙_}
@@ -7,19 +8,20 @@ use mathlib.Core.List.{List, [], _∷_}
 use lib.Dec.{eqb}
 use lib.ListN.{length, getD, length-take}
 use lib.Seq.{getD-take}
+use Rattle.text.specs.Bytes.{isSpace}
 use Rattle.text.specs.Text.{size, bytesOf}
 use Rattle.joining.specs.Words.{addsNothing}
 use borrow.Author.Needs.{needs}
-use Rattle.header.proofs.adds_nothing.Statement.{statement}
-use Rattle.header.proofs.adds_nothing.Tie as tie
+use Rattle.entries.proofs.adds_nothing.Statement.{statement}
+use Rattle.entries.proofs.adds_nothing.Tie as tie
 
 none : (t : List ℕ) → length t ≡ 0 → true ≡ addsNothing t
 unfolding addsNothing
 none [] e = refl
 none (b ∷ t) e = absurd (omega arith)
 
-one : (t : List ℕ) → length t ≡ 1 → eqb (getD t 0 0) 32 ≡ addsNothing t
-unfolding addsNothing
+one : (t : List ℕ) → length t ≡ 1 → eqb (getD t 0 0) (code " ") ≡ addsNothing t
+unfolding addsNothing isSpace
 one [] e = absurd (omega arith)
 one (b ∷ []) e = refl
 one (b ∷ c ∷ t) e = absurd (omega arith)

@@ -1,7 +1,7 @@
--- `header::both_fit` meets its contract.
+-- `entries::both_fit` meets its contract.
 use borrow.Author.Tests.{le-leb, lt-leb}
-use Rattle.header.proofs.both_fit.Statement.{statement}
-use Rattle.header.proofs.both_fit.Tie as tie
+use Rattle.entries.proofs.both_fit.Statement.{statement}
+use Rattle.entries.proofs.both_fit.Tie as tie
 
 returns : tie.Need-returns
 returns c = rw (le-leb (c .before .args .n) (c .before .args .text) (c .if1 .taken))

@@ -1,4 +1,4 @@
--- `header::digits_of` meets its contract: only a decimal has digits.
+-- `entries::digits_of` meets its contract: only a decimal has digits.
 use Prim.Native.Nat.{ℕ}
 use mathlib.Core.Path.{_≡_, sym, ap, _∙_}
 use mathlib.Core.Bool.{Bool, cond}
@@ -7,11 +7,11 @@ use lib.ListN.{length, take}
 use Rattle.text.specs.Text.{size, textOf, bytesOf}
 use Rattle.text.proofs.Texts.{whole-text, bytes-fit}
 use Rattle.numbers.specs.declared.Value.{Value}
-use Rattle.joining.specs.Roles.{hasDigits}
-use Rattle.header.proofs.Telling.{not-float}
+use Rattle.roles.specs.Roles.{hasDigits}
+use Rattle.entries.proofs.Telling.{not-float}
 use borrow.Author.Needs.{needs}
-use Rattle.header.proofs.digits_of.Statement.{statement}
-use Rattle.header.proofs.digits_of.Tie as tie
+use Rattle.entries.proofs.digits_of.Statement.{statement}
+use Rattle.entries.proofs.digits_of.Tie as tie
 
 array : (c : tie.Start) → length (c .args .own .bytes) ≡ size
 array c = search needs
@@ -23,7 +23,10 @@ empty-text-requires : tie.Need-empty-text-requires
 empty-text-requires c κs = search needs
 
 returns : tie.Need-returns
-returns c = c .empty-text .ensures ∙ sym (ap (λ (b : Bool). textOf (cond b (bytesOf (c .before .before .args .own)) [])) (not-float (c .before .before .args .value) (c .before .match .keys2)))
+returns c =
+    let a = c .before .before .args in
+    c .empty-text .ensures
+    ∙ sym (ap (λ (b : Bool). textOf (cond b (bytesOf (a .own)) [])) (not-float (a .value) (c .before .match .keys2)))
 
 slice-aggregate-first-of : tie.Need-slice-aggregate-first-of
 slice-aggregate-first-of c = search needs

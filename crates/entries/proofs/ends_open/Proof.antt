@@ -1,17 +1,18 @@
--- `header::ends_open` meets its contract: by the last byte.
+-- `entries::ends_open` meets its contract: by the last byte.
 use Prim.Native.Nat.{ℕ}
 use native.Mathlib.Omega.{arith}
 use mathlib.Core.Path.{_≡_, refl}
 use mathlib.Core.Bool.{false}
 use mathlib.Core.List.{List, [], _∷_}
 use lib.ListN.{length}
+use Rattle.text.specs.Ends.{endsWith}
 use Rattle.joining.specs.Words.{endsOpen}
 use borrow.Author.Needs.{needs}
-use Rattle.header.proofs.ends_open.Statement.{statement}
-use Rattle.header.proofs.ends_open.Tie as tie
+use Rattle.entries.proofs.ends_open.Statement.{statement}
+use Rattle.entries.proofs.ends_open.Tie as tie
 
 nothing-open : (s : List ℕ) → length s ≡ 0 → false ≡ endsOpen s
-unfolding endsOpen
+unfolding endsOpen endsWith
 nothing-open [] e = refl
 nothing-open (b ∷ s) e = absurd (omega arith)
 
@@ -25,7 +26,7 @@ shared-slice-read-result : tie.Need-shared-slice-read-result
 shared-slice-read-result c = search needs
 
 returns-2 : tie.Need-returns-2
-unfolding endsOpen
+unfolding endsOpen endsWith
 returns-2 c = refl
 
 pub ends-open-spec : {M : Type 1} → statement M

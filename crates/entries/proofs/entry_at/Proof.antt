@@ -1,93 +1,103 @@
--- `header::entry_at` meets its contract: by what the card is, and by whether its text is open.
+-- `entries::entry_at` meets its contract: by what the card is, and by whether its text is open.
 use Prim.Native.Nat.{ℕ, _+_}
 use mathlib.Core.Path.{_≡_, refl, sym, ap, subst, _∙_}
-use mathlib.Core.Bool.{Bool, cond, _&&_}
+use mathlib.Core.Bool.{Bool, true, cond, _&&_}
 use mathlib.Core.List.{List, [], _∷_}
 use mathlib.Core.Option.{Option}
 use lib.ListN.{drop}
 use Rattle.text.specs.Text.{bytesOf}
 use Rattle.numbers.specs.declared.Value.{Value}
-use Rattle.card.specs.declared.CardRead.{CardRead}
 use Rattle.card.specs.Cards.{cardOf}
-use Rattle.joining.specs.Words.{Words, endsOpen, opens}
-use Rattle.joining.specs.Roles.{Held, Role, commentOf, hasDigits, heldOf}
+use Rattle.roles.specs.declared.Role.{Role as Told}
+use Rattle.roles.specs.declared.Role.the-variants.{Entry}
+use Rattle.roles.specs.declared.CardRole.{CardRole}
+use Rattle.roles.specs.Roles.{Words, Held, Role, hasText, commentOf, wordsIn, heldOf, seenOf, roleIn, roleSeen}
+use Rattle.roles.specs.Cards.{cardNo, roleNo, rolesOf}
+use Rattle.roles.proofs.Cards.{roles-from}
+use Rattle.roles.proofs.Counting.{card-here}
+use Rattle.joining.specs.Words.{endsOpen, opens}
 use Rattle.joining.specs.Lookup.{joinOn, whole}
-use Rattle.header.specs.declared.Kind.{Kind}
-use Rattle.header.specs.declared.Kind.the-variants.{Entry}
-use Rattle.header.specs.declared.Content.{Content}
-use Rattle.roles.specs.Cards.{rolesOf}
-use Rattle.header.specs.Answers.{given, entryHead}
-use Rattle.header.specs.Passes.{kindOf, wordsOf, roleNo, Wrote, WroteAt, leaves, answerBy}
-use Rattle.roles.proofs.Cards.{cardNo}
-use Rattle.header.proofs.Playing.{roleAs, role-kind}
-use Rattle.header.proofs.Telling.{gives-none}
-use Rattle.header.proofs.Looking.{head-kind}
-use Rattle.header.proofs.Writing.{wordsIn, joins-text, wrote, own-open, own-shut}
-use Rattle.header.specs.declared.Written.{Written}
-use Rattle.header.specs.declared.Looked.{Looked}
+use Rattle.entries.specs.declared.Written.{Written}
+use Rattle.entries.specs.declared.Looked.{Looked}
+use Rattle.entries.specs.Answers.{leftBy, given, entryHead}
+use Rattle.entries.specs.Passes.{wordsOf, Wrote, WroteAt, answerBy}
+use Rattle.entries.proofs.Telling.{gives-none}
+use Rattle.entries.proofs.Writing.{joins-text, wrote, own-open, own-shut}
 use borrow.Author.Needs.{needs}
-use Rattle.header.proofs.entry_at.Statement.{statement}
-use Rattle.header.proofs.entry_at.Tie as tie
+use Rattle.entries.proofs.entry_at.Statement.{statement}
+use Rattle.entries.proofs.entry_at.Tie as tie
 
-abbrev start : tie.After-content-at → tie.Start
+abbrev start : tie.After-role-at → tie.Start
 start c = c .before .before .before .before
 
-abbrev card : tie.After-content-at → CardRead
-card c = cardOf (cardNo (start c .args .header .now) (start c .args .i))
+-- the card as it is seen, and the cards behind it
+abbrev seen : tie.After-role-at → CardRole
+seen c = c .role-at .result
 
--- the cards behind it
-abbrev rest : tie.After-content-at → List Role
+seen-is : (c : tie.After-role-at) → seen c ≡ seenOf (cardOf (cardNo (start c .args .header .now) (start c .args .i)))
+seen-is c = c .role-at .ensures ∙ ap seenOf (card-here _ _ (start c .pre .0))
+
+abbrev rest : tie.After-role-at → List Role
 rest c = drop (start c .args .i + 1) (rolesOf (start c .args .header .now))
 
--- the kind that is known gives the entry
-kind-is : (c : tie.After-content-at) (k : Kind) → c .content-at .result .kind ≡ k → kindOf (card c .answer) ≡ k
-kind-is c k e = sym (ap (λ (p : Content). p .kind) (c .content-at .ensures)) ∙ e
+-- the role that is known is the card's, and gives the entry
+role-is : (c : tie.After-role-at) (t : Told) → seen c .role ≡ t → roleIn t (seen c) ≡ roleNo (start c .args .header .now) (start c .args .i)
+role-is c t e = ap (λ (x : Told). roleIn x (seen c)) (sym e) ∙ ap roleSeen (seen-is c)
 
-by : (c : tie.After-content-at) (k : Kind) → c .content-at .result .kind ≡ k
-    → let a = start c .args in given (entryHead (roleAs k (card c) ∷ rest c)) (a .text .now) (a .comment .now) ≡ given (entryHead (drop (a .i) (rolesOf (a .header .now)))) (a .text .now) (a .comment .now)
-by c k e =
+by : (c : tie.After-role-at) (t : Told) → seen c .role ≡ t → let a = start c .args in
+    given (entryHead (roleIn t (seen c) ∷ rest c)) (a .text .now) (a .comment .now)
+    ≡ given (entryHead (drop (a .i) (rolesOf (a .header .now)))) (a .text .now) (a .comment .now)
+by c t e =
     let a = start c .args in
-    ap (λ (v : Option Held). given v (a .text .now) (a .comment .now)) (head-kind (a .header .now) (a .i) (start c .pre .0) (card c) refl k (kind-is c k e))
+    ap (λ (l : List Role). given (entryHead l) (a .text .now) (a .comment .now))
+    (ap (λ (r : Role). r ∷ rest c) (role-is c t e) ∙ sym (roles-from (a .header .now) (a .i) (start c .pre .0)))
 
-abbrev value : tie.After-kind → Value
-value c = c .kind .given .0 .0
+abbrev value : tie.After-role → Value
+value c = c .role .given .0 .0
 
-abbrev joins : tie.After-kind → Bool
-joins c = c .kind .given .0 .1 .0
+abbrev joins : tie.After-role → Bool
+joins c = c .role .given .0 .1 .0
 
-entry-is : (c : tie.After-kind) → kindOf (card (c .before .before) .answer) ≡ Entry (value c) (joins c)
-entry-is c = kind-is (c .before .before) (Entry (value c) (joins c)) (c .kind .given .1)
-
-words-are : (c : tie.After-kind)
-    → let a = start (c .before .before) .args in wordsOf (roleNo (a .header .now) (a .i)) ≡ heldOf (value c) (joins c) (card (c .before .before)) .words
-words-are c = ap wordsOf (role-kind (card (c .before .before)) (Entry (value c) (joins c)) (entry-is c))
+abbrev read : tie.After-role → tie.After-role-at
+read c = c .before .before
 
 -- the words by what was read of the card
-own-words : (c : tie.After-kind) → let a = start (c .before .before) .args in wordsOf (roleNo (a .header .now) (a .i)) ≡ wordsIn (value c) (joins c) (c .before .before .content-at .result)
-own-words c = words-are c ∙ ap (wordsIn (value c) (joins c)) (sym (c .before .before .content-at .ensures))
+own-words : (c : tie.After-role) → let a = start (read c) .args in
+    wordsOf (roleNo (a .header .now) (a .i)) ≡ wordsIn (value c) (joins c) (seen (read c))
+own-words c = sym (ap wordsOf (role-is (read c) (Entry (value c) (joins c)) (c .role .given .1)))
 
-open-is : (c : tie.After-is-open) → (joins (c .before .before .before) && endsOpen (bytesOf (c .before .before .before .before .before .content-at .result .text))) ≡ c .is-open .result
+-- an entry that may be continued has a text
+has-words : (c : tie.After-role) → joins c ≡ true → hasText (value c) ≡ true
+has-words c =
+    let card = cardOf (cardNo (start (read c) .args .header .now) (start (read c) .args .i)) in
+    let is = sym (ap (λ (s : CardRole). s .role) (seen-is (read c))) ∙ c .role .given .1 in
+    joins-text (card .answer) (value c) (joins c) is
+
+open-is : (c : tie.After-is-open) → let role = c .before .before .before in
+    (joins role && endsOpen (bytesOf (seen (read role) .text))) ≡ c .is-open .result
 open-is c = sym (c .is-open .ensures)
 
 -- what was written gives the answer
-answered : (c : tie.After-kind) (r : Looked) (put : Written) {text₁ comment₁ : List ℕ}
-    → let part = c .before .before in let a = start part .args in
-    r ≡ answerBy (value c) (part .content-at .result .text) put → WroteAt (a .header .now) (a .i) put (a .text .now) (a .comment .now) text₁ comment₁
-    → leaves r text₁ comment₁ ≡ given (entryHead (drop (a .i) (rolesOf (a .header .now)))) (a .text .now) (a .comment .now)
+answered : (c : tie.After-role) (r : Looked) (put : Written) {text₁ comment₁ : List ℕ}
+    → let a = start (read c) .args in
+    r ≡ answerBy (value c) (seen (read c) .text) put
+    → WroteAt (a .header .now) (a .i) put (a .text .now) (a .comment .now) text₁ comment₁
+    → leftBy r text₁ comment₁ ≡ given (entryHead (drop (a .i) (rolesOf (a .header .now)))) (a .text .now) (a .comment .now)
 answered c r put {text₁} {comment₁} e W =
-    let part = c .before .before in
-    let a = start part .args in
-    (λ j. leaves (e j) text₁ comment₁)
-    ∙ wrote (whole (heldOf (value c) (joins c) (card part)) (rest part)) (part .content-at .result .text) put (a .text .now) (a .comment .now) text₁ comment₁
-    (ap (λ (p : Content). cond (hasDigits (value c)) (bytesOf (p .text)) []) (sym (part .content-at .ensures)))
-    (subst (λ (w : Words). Wrote (joinOn w (rest part) .text) (joinOn w (rest part) .comment) put (a .text .now) (a .comment .now) text₁ comment₁) (words-are c) W)
-    ∙ by part (Entry (value c) (joins c)) (c .kind .given .1)
+    let a = start (read c) .args in
+    let later = rest (read c) in
+    let Of : Words → Type 0 =
+    λ w. Wrote (joinOn w later .text) (joinOn w later .comment) put (a .text .now) (a .comment .now) text₁ comment₁ in
+    (λ j. leftBy (e j) text₁ comment₁)
+    ∙ wrote (whole (heldOf (value c) (joins c) (seen (read c))) later) (seen (read c) .text) put (a .text .now) (a .comment .now)
+    text₁ comment₁ refl (subst Of (own-words c) W)
+    ∙ by (read c) (Entry (value c) (joins c)) (c .role .given .1)
 
-content-at-requires : tie.Need-content-at-requires
-content-at-requires c κs = search needs
+role-at-requires : tie.Need-role-at-requires
+role-at-requires c κs = search needs
 
-enum-known-kind : tie.Need-enum-known-kind
-enum-known-kind c = search needs
+enum-known-role : tie.Need-enum-known-role
+enum-known-role c = search needs
 
 not-found-requires : tie.Need-not-found-requires
 not-found-requires c κs = search needs
@@ -96,10 +106,10 @@ returns : tie.Need-returns
 returns c =
     let part = c .before .before in
     let a = start part .args in
-    let kind = part .content-at .result .kind in
-    (λ j. leaves (c .not-found .ensures j) (a .text .now) (a .comment .now))
-    ∙ ap (λ (v : Option Held). given v (a .text .now) (a .comment .now)) (gives-none (card part) kind (c .before .match .keys2) (rest part))
-    ∙ by part kind refl
+    let role = seen part .role in
+    (λ j. leftBy (c .not-found .ensures j) (a .text .now) (a .comment .now))
+    ∙ ap (λ (v : Option Held). given v (a .text .now) (a .comment .now)) (gives-none (seen part) role (c .before .match .keys2) (rest part))
+    ∙ by part role refl
 
 is-open-requires : tie.Need-is-open-requires
 is-open-requires c κs = search needs
@@ -107,10 +117,10 @@ is-open-requires c κs = search needs
 write-joined-requires : tie.Need-write-joined-requires
 write-joined-requires c κs =
     let test = c .before .before in
-    let kind = test .before .before .before .before in
-    let part = kind .before .before in
-    let s = start part in
-    (s .pre .0, s .pre .1, ap opens (own-words kind) ∙ own-open (value kind) (joins kind) (part .content-at .result) (joins-text (card part .answer) (value kind) (joins kind) (entry-is kind)) (open-is (test .before) ∙ test .if1 .taken))
+    let role = test .before .before .before .before in
+    let s = start (read role) in
+    let opened = own-open (value role) (joins role) (seen (read role)) (has-words role) (open-is (test .before) ∙ test .if1 .taken) in
+    (s .pre .0, s .pre .1, ap opens (own-words role) ∙ opened)
 
 answer-of-requires : tie.Need-answer-of-requires
 answer-of-requires c κs = search needs
@@ -124,7 +134,8 @@ same-length-2 c = search needs
 returns-2 : tie.Need-returns-2
 returns-2 c =
     let put = c .before .before .before .before .before in
-    answered (put .before .before .before .before .before .before .before) (c .answer-of .result) (put .write-joined .result) (c .answer-of .ensures) (put .write-joined .ensures)
+    let role = put .before .before .before .before .before .before .before in
+    answered role (c .answer-of .result) (put .write-joined .result) (c .answer-of .ensures) (put .write-joined .ensures)
 
 has-text-requires : tie.Need-has-text-requires
 has-text-requires c κs = search needs
@@ -146,23 +157,26 @@ returns-3 c =
     let put = c .before .before .before .before .before in
     let shown = put .before .before .before in
     let test = shown .before in
-    let kind = test .before .before .before .before in
-    let part = kind .before .before in
-    let a = start part .args in
-    let p = part .content-at .result in
+    let role = test .before .before .before .before in
+    let a = start (read role) .args in
+    let p = seen (read role) in
     let text₁ = put .write-own .last .1 .1 .0 in
     let comment₁ = put .write-own .last .1 .1 .1 .0 in
-    answered kind (c .answer-of2 .result) (put .write-own .result) (c .answer-of2 .ensures)
-    (subst (λ (w : Words). Wrote (w .text) (w .comment) (put .write-own .result) (a .text .now) (a .comment .now) text₁ comment₁)
-    (sym (ap (λ (w : Words). joinOn w (rest part)) (own-words kind) ∙ own-shut (value kind) (joins kind) p (rest part) (open-is (test .before) ∙ test .if1 .left)))
-    (subst (λ (b : Bool). Wrote (cond b (bytesOf (p .text)) []) (commentOf (p .commented) (bytesOf (p .comment))) (put .write-own .result) (a .text .now) (a .comment .now) text₁ comment₁) (shown .has-text .ensures) (put .write-own .ensures)))
+    let r = put .write-own .result in
+    let said = commentOf (p .commented) (bytesOf (p .comment)) in
+    let shut = own-shut (value role) (joins role) p (rest (read role)) (open-is (test .before) ∙ test .if1 .left) in
+    answered role (c .answer-of2 .result) r (c .answer-of2 .ensures)
+    (subst (λ (w : Words). Wrote (w .text) (w .comment) r (a .text .now) (a .comment .now) text₁ comment₁)
+    (sym (ap (λ (w : Words). joinOn w (rest (read role))) (own-words role) ∙ shut))
+    (subst (λ (b : Bool). Wrote (cond b (bytesOf (p .text)) []) said r (a .text .now) (a .comment .now) text₁ comment₁)
+    (shown .has-text .ensures) (put .write-own .ensures)))
 
 pub entry-at-spec : {M : Type 1} → statement M
 entry-at-spec =
     tie.close
     (tie.spec
-    content-at-requires
-    enum-known-kind
+    role-at-requires
+    enum-known-role
     not-found-requires
     returns
     is-open-requires

@@ -1,9 +1,9 @@
--- `header::is_open` meets its contract.
+-- `entries::is_open` meets its contract.
 use mathlib.Core.Path.{ap, _∙_}
 use Rattle.joining.specs.Words.{endsOpen}
 use borrow.Author.Needs.{needs}
-use Rattle.header.proofs.is_open.Statement.{statement}
-use Rattle.header.proofs.is_open.Tie as tie
+use Rattle.entries.proofs.is_open.Statement.{statement}
+use Rattle.entries.proofs.is_open.Tie as tie
 
 slice-aggregate-first-of : tie.Need-slice-aggregate-first-of
 slice-aggregate-first-of c = search needs

@@ -1,44 +1,60 @@
--- `header::join_card` meets its contract: by what the card is.
-use Prim.Native.Nat.{_≤_}
+-- `entries::join_card` meets its contract: by what the card is.
+use Prim.Native.Nat.{ℕ, _≤_}
 use native.Mathlib.Omega.{arith}
 use mathlib.Core.Path.{_≡_, refl, sym, ap, subst, _∙_}
-use mathlib.Core.Bool.{true, cond}
-use lib.ListN.{length}
+use mathlib.Core.Bool.{Bool, true, cond}
+use mathlib.Core.List.{List}
+use lib.ListN.{length, take}
 use lib.Seq.{length-take-le}
 use Rattle.text.specs.Text.{size, bytesOf}
 use Rattle.text.proofs.Texts.{bytes-fit}
 use Rattle.card.specs.declared.CardRead.{CardRead}
 use Rattle.card.specs.Cards.{cardOf}
-use Rattle.joining.specs.Roles.{Role}
-use Rattle.header.specs.declared.Kind.{Kind}
-use Rattle.header.specs.declared.Kind.the-variants.{More, Neutral}
-use Rattle.header.specs.declared.Content.{Content}
-use Rattle.header.specs.Passes.{roleFrom, moreOf, Stepped}
-use Rattle.roles.proofs.Cards.{cardNo}
-use Rattle.header.proofs.Playing.{roleAs}
-use Rattle.header.proofs.Joining.{stopped, passed, ended, role-at, with-comment, with-none}
+use Rattle.roles.specs.declared.Role.{Role as Told}
+use Rattle.roles.specs.declared.Role.the-variants.{More, Neutral, Refused}
+use Rattle.roles.specs.declared.CardRole.{CardRole}
+use Rattle.roles.specs.Roles.{Words, Role, seenOf, roleIn}
+use Rattle.roles.specs.Cards.{cardNo}
+use Rattle.roles.proofs.Counting.{card-here}
+use Rattle.joining.specs.Words.{endsOpen}
+use Rattle.entries.specs.declared.Lengths.{Lengths}
+use Rattle.entries.specs.Passes.{roleFrom, moreOf, JoinedOne}
+use Rattle.entries.proofs.Joining.{stopped, passed, ended, role-at, TextJoined, with-comment, with-none}
 use borrow.Author.Needs.{needs}
-use Rattle.header.proofs.join_card.Statement.{statement}
-use Rattle.header.proofs.join_card.Tie as tie
+use Rattle.entries.proofs.join_card.Statement.{statement}
+use Rattle.entries.proofs.join_card.Tie as tie
 
-abbrev start : tie.After-kind-at → tie.Start
+abbrev start : tie.After-role-behind → tie.Start
 start c = c .before .before .before .before .before
 
-abbrev card : tie.After-kind-at → CardRead
-card c = cardOf (cardNo (start c .args .header .now) (start c .args .j))
+-- the card as it is seen
+abbrev seen : tie.After-role-behind → CardRole
+seen c = c .before .role-at .result
 
--- the role of the card, by its kind
-role-is : (c : tie.After-kind-at) (k : Kind) → c .kind-at .result ≡ k → roleAs k (card c) ≡ roleFrom (start c .args .first) (start c .args .header .now) (start c .args .j)
-role-is c k e =
-    ap (λ (x : Kind). roleAs x (card c)) (sym e ∙ c .kind-at .ensures ∙ ap (λ (p : Content). cond (start c .args .first) More (p .kind)) (c .before .content-at .ensures))
-    ∙ role-at (start c .args .first) (card c)
+seen-is : (c : tie.After-role-behind) → seen c ≡ seenOf (cardOf (cardNo (start c .args .header .now) (start c .args .j)))
+seen-is c = c .before .role-at .ensures ∙ ap seenOf (card-here _ _ (start c .pre .0))
 
-abbrev at : tie.After-join-text → tie.After-kind-at
+-- the role that it is joined as
+abbrev joined-as : tie.After-role-behind → Role
+joined-as c = roleFrom (start c .args .first) (start c .args .header .now) (start c .args .j)
+
+role-is : (c : tie.After-role-behind) (t : Told) → c .role-behind .result ≡ t → roleIn t (seen c) ≡ joined-as c
+role-is c t e =
+    ap (λ (x : Told). roleIn x (seen c)) (sym e ∙ c .role-behind .ensures)
+    ∙ role-at (start c .args .first) (seen c)
+    ∙ ap (λ (s : CardRole). cond (start c .args .first) (moreOf s) (roleIn (s .role) s)) (seen-is c)
+
+-- what a card leaves, by its role as the code has it
+left : (c : tie.After-role-behind) (t : Told) → c .role-behind .result ≡ t → (r : Lengths) (texts₁ comments₁ : List ℕ)
+    → let a = start c .args in
+    JoinedOne (roleIn t (seen c)) (a .held) r (a .texts .now) (a .comments .now) texts₁ comments₁
+    → JoinedOne (joined-as c) (a .held) r (a .texts .now) (a .comments .now) texts₁ comments₁
+left c t e r texts₁ comments₁ =
+    let a = start c .args in
+    subst (λ (x : Role). JoinedOne x (a .held) r (a .texts .now) (a .comments .now) texts₁ comments₁) (role-is c t e)
+
+abbrev at : tie.After-join-text → tie.After-role-behind
 at c = c .before .before .before .before .before
-
-more-is : (c : tie.After-join-text)
-    → let a = start (at c) .args in moreOf (at c .before .content-at .result) ≡ roleFrom (a .first) (a .header .now) (a .j)
-more-is c = ap moreOf (at c .before .content-at .ensures) ∙ role-is (at c) More (c .before .before .before .enum-told .given .1)
 
 within : (c : tie.After-join-text) → c .join-text .result ≤ length (c .join-text .last .0)
 within c =
@@ -46,14 +62,20 @@ within c =
     let same : length (c .join-text .last .0) ≡ length (s .args .texts .now) = search needs in
     omega (arith, c .join-text .ensures .1, s .pre .1 .text)
 
-array : (c : tie.After-content-at) → length (c .content-at .result .comment .bytes) ≡ size
+text-joined : (c : tie.After-join-text) (going : Bool) → let a = start (at c) .args in
+    going ≡ endsOpen (take (c .join-text .result) (c .join-text .last .0))
+    → TextJoined (bytesOf (seen (at c) .text)) (a .held) (a .texts .now) (c .join-text .last .0) (c .join-text .result) going
+text-joined c going goes =
+    record { joined = c .join-text .ensures .0; within = within c; short = c .join-text .ensures .1; goes = goes }
+
+array : (c : tie.After-role-at) → length (c .role-at .result .comment .bytes) ≡ size
 array c = search needs
 
-content-at-requires : tie.Need-content-at-requires
-content-at-requires c κs = search needs
+role-at-requires : tie.Need-role-at-requires
+role-at-requires c κs = search needs
 
-kind-at-requires : tie.Need-kind-at-requires
-kind-at-requires c κs = search needs
+role-behind-requires : tie.Need-role-behind-requires
+role-behind-requires c κs = search needs
 
 enum-told : tie.Need-enum-told
 enum-told c = search needs
@@ -61,20 +83,30 @@ enum-told c = search needs
 enum-told-2 : tie.Need-enum-told-2
 enum-told-2 c = search needs
 
+enum-told-3 : tie.Need-enum-told-3
+enum-told-3 c = search needs
+
 returns : tie.Need-returns
 returns c =
     let at = c .before .before in
     let a = start at .args in
-    subst (λ (x : Role). Stepped x (a .held) (a .held) (a .texts .now) (a .comments .now) (a .texts .now) (a .comments .now)) (role-is at Neutral (c .enum-told2 .given .1))
-    (passed (a .held) (a .texts .now) (a .comments .now) (start at .pre .1 .going))
+    left at Neutral (c .enum-told2 .given .1) (a .held) (a .texts .now) (a .comments .now)
+    (passed (a .held) (a .texts .now) (a .comments .now) _ (λ (w : Words). refl) (λ (s : List ℕ). refl) (start at .pre .1 .going))
 
 returns-2 : tie.Need-returns-2
 returns-2 c =
+    let at = c .before .before in
+    let a = start at .args in
+    left at (Refused (c .enum-told3 .given .0 .0)) (c .enum-told3 .given .1) (a .held) (a .texts .now) (a .comments .now)
+    (passed (a .held) (a .texts .now) (a .comments .now) _ (λ (w : Words). refl) (λ (s : List ℕ). refl) (start at .pre .1 .going))
+
+returns-3 : tie.Need-returns-3
+returns-3 c =
     let at = c .before in
     let a = start at .args in
-    let kind = at .kind-at .result in
-    subst (λ (x : Role). Stepped x (a .held) (stopped (a .held)) (a .texts .now) (a .comments .now) (a .texts .now) (a .comments .now)) (role-is at kind refl)
-    (ended kind (c .match .keys3) (card at) (a .held) (a .texts .now) (a .comments .now))
+    let role = at .role-behind .result in
+    left at role refl (stopped (a .held)) (a .texts .now) (a .comments .now)
+    (ended (a .held) (a .texts .now) (a .comments .now) role (c .match .keys4) (seen at))
 
 join-text-requires : tie.Need-join-text-requires
 join-text-requires c κs = search needs
@@ -99,40 +131,43 @@ same-length c = search needs
 same-length-2 : tie.Need-same-length-2
 same-length-2 c = search needs
 
-returns-3 : tie.Need-returns-3
-returns-3 c =
+returns-4 : tie.Need-returns-4
+returns-4 c =
     let m = c .before .before in
     let test = m .before .before .before in
     let o = test .before in
     let j = o .before .before .before .before in
     let a = start (at j) .args in
-    let part = at j .before .content-at .result in
-    subst (λ (x : Role). Stepped x (a .held) (record { text = j .join-text .result; comment = m .join-comment .result; commented = true; going = o .ends-open .result }) (a .texts .now) (a .comments .now) (j .join-text .last .0) (m .join-comment .last .0))
-    (more-is j)
-    (with-comment (bytesOf (part .text)) (bytesOf (part .comment)) (a .held) (j .join-text .ensures .0) (within j) (j .join-text .ensures .1) (o .ends-open .ensures) (test .if1 .taken) (bytes-fit (part .comment) (array (at j .before))) (m .join-comment .ensures .0) (m .join-comment .ensures .1))
+    let part = seen (at j) in
+    left (at j) More (j .before .before .before .enum-told .given .1) _ (j .join-text .last .0) (m .join-comment .last .0)
+    (with-comment (bytesOf (part .text)) (bytesOf (part .comment)) (a .held) (text-joined j (o .ends-open .result) (o .ends-open .ensures))
+    (test .if1 .taken) (bytes-fit (part .comment) (array (at j .before))) (m .join-comment .ensures .0) (m .join-comment .ensures .1))
 
 same-length-3 : tie.Need-same-length-3
 same-length-3 c = search needs
 
-returns-4 : tie.Need-returns-4
-returns-4 c =
+returns-5 : tie.Need-returns-5
+returns-5 c =
     let o = c .before in
     let j = o .before .before .before .before in
     let a = start (at j) .args in
-    let part = at j .before .content-at .result in
-    subst (λ (x : Role). Stepped x (a .held) (record { text = j .join-text .result; comment = a .held .comment; commented = a .held .commented; going = o .ends-open .result }) (a .texts .now) (a .comments .now) (j .join-text .last .0) (a .comments .now))
-    (more-is j) (with-none (bytesOf (part .text)) (bytesOf (part .comment)) (a .held) (j .join-text .ensures .0) (within j) (j .join-text .ensures .1) (o .ends-open .ensures) (c .if1 .left))
+    let part = seen (at j) in
+    left (at j) More (j .before .before .before .enum-told .given .1) _ (j .join-text .last .0) (a .comments .now)
+    (with-none (bytesOf (part .text)) (bytesOf (part .comment)) (a .held) (text-joined j (o .ends-open .result) (o .ends-open .ensures))
+    (c .if1 .left))
 
 pub join-card-spec : {M : Type 1} → statement M
 join-card-spec =
     tie.close
     (tie.spec
-    content-at-requires
-    kind-at-requires
+    role-at-requires
+    role-behind-requires
     enum-told
     enum-told-2
     returns
+    enum-told-3
     returns-2
+    returns-3
     join-text-requires
     slice-reshare-prefix-ends-open
     slice-aggregate-ends-open
@@ -140,6 +175,6 @@ join-card-spec =
     join-comment-requires
     same-length
     same-length-2
-    returns-3
+    returns-4
     same-length-3
-    returns-4)
+    returns-5)

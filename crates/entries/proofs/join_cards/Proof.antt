@@ -1,13 +1,13 @@
--- `header::join_cards` meets its contract: what is left of the cards is joined to the words as they stand.
+-- `entries::join_cards` meets its contract: what is left of the cards is joined to the words as they stand.
 use Prim.Native.Nat.{_-_, _/_}
 use mathlib.Core.Path.{_≡_, refl, _∙_}
 use borrow.Author.Tests.{not-true, not-false}
 use borrow.Author.Needs.{needs}
 use lib.ListN.{length, length-set}
-use Rattle.header.specs.Passes.{Room}
-use Rattle.header.proofs.Joining.{Going, begin, at-stop, at-end, space, on-card}
-use Rattle.header.proofs.join_cards.Statement.{statement}
-use Rattle.header.proofs.join_cards.Tie as tie
+use Rattle.entries.specs.Passes.{Room}
+use Rattle.entries.proofs.Joining.{Going, begin, at-stop, at-end, space, on-card}
+use Rattle.entries.proofs.join_cards.Statement.{statement}
+use Rattle.entries.proofs.join_cards.Tie as tie
 
 abbrev Inv-loop : tie.InvT-loop
 Inv-loop header i texts₀ comments₀ held₀ j₀ texts comments held j =

@@ -1,17 +1,17 @@
--- `header::join_comment` meets its contract: a line feed stands between two comments.
+-- `entries::join_comment` meets its contract: a line feed stands between two comments.
 use Prim.Native.Nat.{ℕ, _+_, _≤_}
 use native.Mathlib.Omega.{arith}
 use mathlib.Core.Path.{_≡_, sym, ap, _∙_}
 use mathlib.Core.Bool.{Bool}
 use mathlib.Core.List.{List}
 use lib.ListN.{length}
+use lib.Seq.{sets}
 use Rattle.text.specs.Text.{size, bytesOf}
 use Rattle.text.proofs.Texts.{bytes-fit}
-use Rattle.overlay.specs.Overlay.{overlaid}
-use Rattle.header.specs.Passes.{placeBehind, laidBehind}
+use Rattle.entries.specs.Passes.{placeBehind, laidBehind}
 use borrow.Author.Needs.{needs}
-use Rattle.header.proofs.join_comment.Statement.{statement}
-use Rattle.header.proofs.join_comment.Tie as tie
+use Rattle.entries.proofs.join_comment.Statement.{statement}
+use Rattle.entries.proofs.join_comment.Tie as tie
 
 array : (c : tie.Start) → length (c .args .c .bytes) ≡ size
 array c = search needs
@@ -50,9 +50,12 @@ returns c =
     let put = c .before .before .before in
     let line = put .before .before .before .before in
     let test = line .before .before .before in
-    let a = test .before .before .args in (
-      ap (λ (k : ℕ). a .n + 1 + k) (c .count-of .ensures) ∙ sym (ap (λ (b : Bool). placeBehind b (a .n) + length (bytesOf (a .c))) (test .if1 .taken)),
-      put .put-text .ensures ∙ ap (λ (l : List ℕ). overlaid l (a .n + 1) (bytesOf (a .c))) (line .put-at .ensures) ∙ sym (ap (λ (b : Bool). laidBehind b (a .n) (a .out .now) (bytesOf (a .c))) (test .if1 .taken)),
+    let a = test .before .before .args in
+    let long = length (bytesOf (a .c)) in (
+      ap (λ (k : ℕ). a .n + 1 + k) (c .count-of .ensures) ∙ sym (ap (λ (b : Bool). placeBehind b (a .n) + long) (test .if1 .taken)),
+      put .put-text .ensures
+          ∙ ap (λ (l : List ℕ). sets l (a .n + 1) (bytesOf (a .c))) (line .put-at .ensures)
+          ∙ sym (ap (λ (b : Bool). laidBehind b (a .n) (a .out .now) (bytesOf (a .c))) (test .if1 .taken)),
     )
 
 put-text-requires-2 : tie.Need-put-text-requires-2
@@ -73,8 +76,9 @@ returns-2 : tie.Need-returns-2
 returns-2 c =
     let put = c .before .before .before in
     let test = put .before .before in
-    let a = test .before .before .args in (
-      ap (λ (k : ℕ). a .n + k) (c .count-of2 .ensures) ∙ sym (ap (λ (b : Bool). placeBehind b (a .n) + length (bytesOf (a .c))) (test .if1 .left)),
+    let a = test .before .before .args in
+    let long = length (bytesOf (a .c)) in (
+      ap (λ (k : ℕ). a .n + k) (c .count-of2 .ensures) ∙ sym (ap (λ (b : Bool). placeBehind b (a .n) + long) (test .if1 .left)),
       put .put-text2 .ensures ∙ sym (ap (λ (b : Bool). laidBehind b (a .n) (a .out .now) (bytesOf (a .c))) (test .if1 .left)),
     )
 

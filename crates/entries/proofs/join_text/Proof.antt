@@ -1,4 +1,4 @@
--- `header::join_text` meets its contract: the & goes, and what is left is cut or the text is put on.
+-- `entries::join_text` meets its contract: the & goes, and what is left is cut or the text is put on.
 use Prim.Native.Nat.{ℕ, _+_, _-_, _≤_}
 use native.Mathlib.Omega.{arith}
 use mathlib.Core.Path.{_≡_, sym, ap, ap₂, _∙_}
@@ -10,11 +10,10 @@ use Rattle.text.specs.Text.{size, bytesOf}
 use Rattle.text.specs.Trim.{trimEnd}
 use Rattle.text.proofs.Texts.{bytes-fit}
 use Rattle.text.proofs.Trimming.{end-shorter}
-use Rattle.overlay.proofs.Laying.{fits}
-use Rattle.header.proofs.Buffers.{joined-cut, joined-put}
+use Rattle.entries.proofs.Buffers.{joined-cut, joined-put}
 use borrow.Author.Needs.{needs}
-use Rattle.header.proofs.join_text.Statement.{statement}
-use Rattle.header.proofs.join_text.Tie as tie
+use Rattle.entries.proofs.join_text.Statement.{statement}
+use Rattle.entries.proofs.join_text.Tie as tie
 
 array : (c : tie.Start) → length (c .args .t .bytes) ≡ size
 array c = search needs
@@ -50,9 +49,10 @@ returns c =
     let a = s .args in
     let d = a .held .now in
     let cut : c .trim-end .result .now ≡ trimEnd isSpace (take (a .n - 1) d) = c .trim-end .ensures in
-    let less : length (trimEnd isSpace (take (a .n - 1) d)) ≤ a .n - 1 = omega (arith, end-shorter isSpace (take (a .n - 1) d), length-take (a .n - 1) d) in (
-      ap (λ (l : List ℕ). take (length l) d) cut
-          ∙ joined-cut d (bytesOf (a .t)) (a .n) (s .pre .0) (omega (arith, s .pre .1)) (sym (test .adds-nothing .ensures) ∙ c .before .before .if1 .taken),
+    let front = take (a .n - 1) d in
+    let less : length (trimEnd isSpace front) ≤ a .n - 1 = omega (arith, end-shorter isSpace front, length-take (a .n - 1) d) in
+    let nothing = sym (test .adds-nothing .ensures) ∙ c .before .before .if1 .taken in (
+      ap (λ (l : List ℕ). take (length l) d) cut ∙ joined-cut d (bytesOf (a .t)) (a .n) (s .pre .0) (omega (arith, s .pre .1)) nothing,
       rw cut (omega arith),
     )
 
@@ -75,9 +75,11 @@ returns-2 c =
     let put = c .before .before .before in
     let test = put .before .before .before in
     let s = test .before .before in
-    let a = s .args in (
-      ap₂ take (ap (λ (k : ℕ). a .n - 1 + k) (c .count-of .ensures)) (put .put-text .ensures ∙ fits (a .held .now) (a .n - 1) (bytesOf (a .t)) (omega (arith, s .pre .0, s .pre .1, short s)))
-          ∙ joined-put (a .held .now) (bytesOf (a .t)) (a .n) (s .pre .0) (omega (arith, s .pre .1)) (sym (test .adds-nothing .ensures) ∙ put .before .before .if1 .left),
+    let a = s .args in
+    let something = sym (test .adds-nothing .ensures) ∙ put .before .before .if1 .left in (
+      ap₂ take (ap (λ (k : ℕ). a .n - 1 + k) (c .count-of .ensures)) (put .put-text .ensures)
+          ∙ joined-put (a .held .now) (bytesOf (a .t)) (a .n) (s .pre .0) (omega (arith, s .pre .1))
+          (omega (arith, s .pre .0, s .pre .1, short s)) something,
       omega (arith, c .count-of .ensures, short s, s .pre .0),
     )
 

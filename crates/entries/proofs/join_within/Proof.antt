@@ -1,12 +1,12 @@
--- `header::join_within` meets its contract: what is joined is measured, and written where it fits.
+-- `entries::join_within` meets its contract: what is joined is measured, and written where it fits.
 use native.Mathlib.Omega.{arith}
 use mathlib.Core.Path.{_≡_, sym}
 use lib.ListN.{length}
 use lib.Seq.{length-take-le}
-use Rattle.header.proofs.Writing.{joined-wrote, silent-wrote, nothing-wrote}
+use Rattle.entries.proofs.Writing.{joined-wrote, silent-wrote, nothing-wrote}
 use borrow.Author.Needs.{needs}
-use Rattle.header.proofs.join_within.Statement.{statement}
-use Rattle.header.proofs.join_within.Tie as tie
+use Rattle.entries.proofs.join_within.Statement.{statement}
+use Rattle.entries.proofs.join_within.Tie as tie
 
 slice-aggregate-join-cards : tie.Need-slice-aggregate-join-cards
 slice-aggregate-join-cards c = search needs

@@ -1,9 +1,9 @@
--- `header::put_text` meets its contract.
+-- `entries::put_text` meets its contract.
 use mathlib.Core.Path.{ap, _∙_}
-use Rattle.overlay.specs.Overlay.{overlaid}
+use lib.Seq.{sets}
 use borrow.Author.Needs.{needs}
-use Rattle.header.proofs.put_text.Statement.{statement}
-use Rattle.header.proofs.put_text.Tie as tie
+use Rattle.entries.proofs.put_text.Statement.{statement}
+use Rattle.entries.proofs.put_text.Tie as tie
 
 slice-aggregate-first-of : tie.Need-slice-aggregate-first-of
 slice-aggregate-first-of c = search needs
@@ -21,7 +21,7 @@ returns : tie.Need-returns
 returns c =
     let put = c .before .before in
     let a = put .before .before .before .before .before .before .args in
-    put .put-at .ensures ∙ ap (overlaid (a .out .now) (a .at)) (put .before .before .first-of .ensures)
+    put .put-at .ensures ∙ ap (sets (a .out .now) (a .at)) (put .before .before .first-of .ensures)
 
 pub put-text-spec : {M : Type 1} → statement M
 put-text-spec =

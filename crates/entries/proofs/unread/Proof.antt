@@ -1,8 +1,8 @@
--- `header::unread` meets its contract: there are no digits.
+-- `entries::unread` meets its contract: there are no digits.
 use mathlib.Core.Bool.{false}
 use borrow.Author.Needs.{needs}
-use Rattle.header.proofs.unread.Statement.{statement}
-use Rattle.header.proofs.unread.Tie as tie
+use Rattle.entries.proofs.unread.Statement.{statement}
+use Rattle.entries.proofs.unread.Tie as tie
 
 empty-text-requires : tie.Need-empty-text-requires
 empty-text-requires c κs = search needs

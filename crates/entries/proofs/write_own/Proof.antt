@@ -1,8 +1,8 @@
--- `header::write_own` meets its contract: what is there is measured, and written where it fits.
-use Rattle.header.proofs.Writing.{own-wrote, own-short}
+-- `entries::write_own` meets its contract: what is there is measured, and written where it fits.
+use Rattle.entries.proofs.Writing.{own-wrote, own-short}
 use borrow.Author.Needs.{needs}
-use Rattle.header.proofs.write_own.Statement.{statement}
-use Rattle.header.proofs.write_own.Tie as tie
+use Rattle.entries.proofs.write_own.Statement.{statement}
+use Rattle.entries.proofs.write_own.Tie as tie
 
 count-of-requires : tie.Need-count-of-requires
 count-of-requires c κs = search needs
@@ -32,13 +32,17 @@ returns c =
     let test = first .before .before in
     let fit = test .before in
     let a = fit .before .before .before .before .before .before .before .args in
-    own-wrote (a .shown) (a .part) (a .text .now) (a .comment .now) (fit .before .before .count-of .ensures) (fit .before .count-of2 .ensures) (fit .both-fit .ensures) (test .if1 .taken) (first .put-text .ensures) (second .put-text2 .ensures)
+    let count = fit .before .before .count-of .ensures in
+    own-wrote (a .shown) (a .part) (a .text .now) (a .comment .now) count (fit .before .count-of2 .ensures) (fit .both-fit .ensures)
+    (test .if1 .taken) (first .put-text .ensures) (second .put-text2 .ensures)
 
 returns-2 : tie.Need-returns-2
 returns-2 c =
     let fit = c .before in
     let a = fit .before .before .before .before .before .before .before .args in
-    own-short (a .shown) (a .part) (a .text .now) (a .comment .now) (fit .before .before .count-of .ensures) (fit .before .count-of2 .ensures) (fit .both-fit .ensures) (c .if1 .left)
+    let count = fit .before .before .count-of .ensures in
+    own-short (a .shown) (a .part) (a .text .now) (a .comment .now) count (fit .before .count-of2 .ensures) (fit .both-fit .ensures)
+    (c .if1 .left)
 
 pub write-own-spec : {M : Type 1} → statement M
 write-own-spec =

@@ -10,8 +10,7 @@ use Rattle.refusal.specs.declared.Fault.{Fault}
 use Rattle.card.specs.declared.CardRead.{CardRead}
 use Rattle.roles.specs.declared.CardRole.{CardRole}
 use Rattle.roles.specs.Roles.{seenOf, roleSeen}
-use Rattle.roles.specs.Cards.{isBadLength}
-use Rattle.roles.proofs.Cards.{roleNo}
+use Rattle.roles.specs.Cards.{roleNo, isBadLength}
 use Rattle.roles.proofs.Counting.{card-here}
 use Rattle.finding.specs.declared.Found.the-variants as F
 use Rattle.finding.specs.declared.Pass.the-variants.{On, Stops}
