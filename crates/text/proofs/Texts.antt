@@ -4,9 +4,9 @@ use native.Mathlib.Nat.{le-of-suc-le-suc, not-suc-le-zero, sub-zero}
 use native.Mathlib.Numerals.{add-one}
 use native.Mathlib.Omega.{arith}
 use mathlib.Core.Path.{_≡_, refl, sym, ap, _∙_}
-use mathlib.Core.List.{List, [], _∷_, _++_, append-assoc, map}
+use mathlib.Core.List.{List, [], _∷_, _++_, append-assoc, append-nil, map}
 use lib.ListN.{length, set, take, getD, replicate, length-append, length-map, length-take}
-use lib.Seq.{set-append-seam, length-take-le, take-suc, take-all, take-append-seam, getD-take, getD-append-add}
+use lib.Seq.{sets, set-append-seam, length-take-le, take-suc, take-all, take-append-seam, getD-take}
 use Rattle.text.specs.declared.Text.{Text}
 use Rattle.text.specs.Text.{size, filled, padded, textOf, bytesOf}
 
@@ -24,7 +24,8 @@ pub padded-none : (n : ℕ) → replicate n 0 ≡ padded n []
 padded-none n = filled-none 0 n
 
 -- a number put behind the others takes the place of the first mark
-pub filled-put : (mark n : ℕ) (v : List ℕ) (b : ℕ) → length v < n → set (filled mark n v) (length v) b ≡ filled mark n (v ++ b ∷ [])
+pub filled-put : (mark n : ℕ) (v : List ℕ) (b : ℕ) → length v < n
+    → set (filled mark n v) (length v) b ≡ filled mark n (v ++ b ∷ [])
 unfolding filled
 filled-put mark n v b h =
     let room : n - length v ≡ suc (n - (length v + 1)) = omega arith in
@@ -38,7 +39,8 @@ pub padded-put : (n : ℕ) (v : List ℕ) (b : ℕ) → length v < n → set (pa
 padded-put n v b h = filled-put 0 n v b h
 
 -- a list copied into an array, a byte at a time
-pub copy-step : (n : ℕ) (w : List ℕ) (i : ℕ) → i < length w → length w ≤ n → set (padded n (take i w)) i (getD w i 0) ≡ padded n (take (i + 1) w)
+pub copy-step : (n : ℕ) (w : List ℕ) (i : ℕ) → i < length w → length w ≤ n
+    → set (padded n (take i w)) i (getD w i 0) ≡ padded n (take (i + 1) w)
 copy-step n w i h small =
     let long : length (take i w) ≡ i = length-take-le i w (omega arith) in
     ap (λ (k : ℕ). set (padded n (take i w)) k (getD w i 0)) (sym long)
@@ -71,7 +73,8 @@ module _ (f : ℕ → ℕ) (s : List ℕ) where
   changed-step i h small =
       let long : length changedOf ≡ min size (length s) = changed-length in
       let part : length (take size s) ≡ min size (length s) = length-take size s in
-      let byte : getD changedOf i 0 ≡ f (getD s i 0) = getD-mapped f (take size s) i (omega arith) ∙ ap f (getD-take size s i 0 small) in
+      let inside : i < length (take size s) = omega arith in
+      let byte : getD changedOf i 0 ≡ f (getD s i 0) = getD-mapped f (take size s) i inside ∙ ap f (getD-take size s i 0 small) in
       ap (set (padded size (take i changedOf)) i) (sym byte) ∙ copy-step size changedOf i (omega arith) (omega arith)
 
   pub changed-done : (bytes : List ℕ) (i : ℕ) → i ≡ min size (length s) → bytes ≡ padded size (take i changedOf)
@@ -110,14 +113,30 @@ whole-changed f w h = ap (λ (l : List ℕ). textOf (map f l)) (take-all size w 
 pub bytes-fit : (t : Text) → length (t .bytes) ≡ size → length (bytesOf t) ≤ size
 bytes-fit t e = omega (arith, length-take (t .len) (t .bytes))
 
--- a list copied behind another that stands in the array already, a byte at a time
-pub behind-step : (n : ℕ) (a b : List ℕ) (i : ℕ) → i < length b → length a + length b ≤ n
-    → set (padded n (take (length a + i) (a ++ b))) (length a + i) (getD b i 0) ≡ padded n (take (length a + (i + 1)) (a ++ b))
-behind-step n a b i h small =
-    let long : length (a ++ b) ≡ length a + length b = length-append a b in
-    let next : length a + i + 1 ≡ length a + (i + 1) = omega arith in
-    rw (← getD-append-add a b i 0) (copy-step n (a ++ b) (length a + i) (omega arith) (omega arith))
-    ∙ ap (λ (k : ℕ). padded n (take k (a ++ b))) next
+-- a list stored behind another that stands in the array already
+pub padded-behind : (n : ℕ) (a b : List ℕ) → length a + length b ≤ n → sets (padded n a) (length a) b ≡ padded n (a ++ b)
+padded-behind n a [] h = ap (padded n) (sym (append-nil a))
+padded-behind n a (x ∷ b) h =
+    let long : length (a ++ x ∷ []) ≡ suc (length a) = length-append a (x ∷ []) ∙ add-one (length a) in
+    ap (λ (l : List ℕ). sets l (suc (length a)) b) (padded-put n a x (omega arith))
+    ∙ ap (λ (k : ℕ). sets (padded n (a ++ x ∷ [])) k b) (sym long)
+    ∙ padded-behind n (a ++ x ∷ []) b (omega arith)
+    ∙ ap (padded n) (append-assoc a (x ∷ []) b)
+
+pub text-behind : {t : Text} {bytes r : List ℕ} (u v : List ℕ) → t ≡ textOf u → r ≡ v → length u + length v ≤ size
+    → bytes ≡ sets (t .bytes) (t .len) r → _≡_ {A = Text} (record { bytes = bytes; len = t .len + length r }) (textOf (u ++ v))
+text-behind u v p q h e =
+    let array = e ∙ (λ j. sets (p j .bytes) (p j .len) (q j)) ∙ padded-behind size u v h in
+    let long = (λ j. p j .len + length (q j)) ∙ sym (length-append u v) in
+    λ j. record { bytes = array j; len = long j }
+
+-- as many bytes of the second list as there is room for behind the first
+pub take-both : (n : ℕ) (a b : List ℕ) → take n (a ++ b) ≡ take n a ++ take (n - length (take n a)) b
+take-both zero a b = refl
+take-both (suc n) [] b = sym (ap (λ (k : ℕ). take k b) (sub-zero (suc n)))
+take-both (suc n) (x ∷ a) b =
+    let same : n - length (take n a) ≡ suc n - suc (length (take n a)) = omega arith in
+    ap (λ (l : List ℕ). x ∷ l) (take-both n a b ∙ ap (λ (k : ℕ). take n a ++ take k b) same)
 
 -- a text that was made of v, read again: its bytes, its length, and that the length lies within the array
 module _ {t : Text} (v : List ℕ) (e : t ≡ textOf v) where

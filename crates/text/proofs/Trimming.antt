@@ -1,4 +1,5 @@
 -- Trimming, a byte at a time, at either end.
+use Prim.Native.Char.{code}
 use Prim.Native.Nat.{ℕ, zero, suc, _+_, _-_, _<_, _≤_}
 use native.Mathlib.Nat.{le-of-suc-le-suc, not-suc-le-zero}
 use native.Mathlib.Numerals.{add-one}
@@ -9,7 +10,7 @@ use mathlib.Core.List.{List, [], _∷_, _++_, map}
 use lib.ListN.{drop-of-length-le, length-append, length-drop, length, take, drop, getD}
 use lib.Seq.{drop-cons, drop-length, take-suc, take-length, take-at}
 use Rattle.text.specs.Trim.{leading, trimStart, trimEnd, trim, consTrimmed}
-use Rattle.text.specs.Bytes.{isSpace, isPrintable, shown}
+use Rattle.text.specs.Bytes.{isSpace, isPrintable, shown, delete}
 use lib.Dec.{eqb}
 use borrow.Author.Tests.{eqb-true}
 
@@ -32,7 +33,8 @@ module _ (p : ℕ → Bool) where
   start-done b s e = rw e
 
   -- so the byte at i goes, and the rest is trimmed
-  pub start-step : (s : List ℕ) (i : ℕ) → i < length s → p (getD s i 0) ≡ true → trimStart p (drop (i + 1) s) ≡ trimStart p (drop i s)
+  pub start-step : (s : List ℕ) (i : ℕ) → i < length s → p (getD s i 0) ≡ true
+      → trimStart p (drop (i + 1) s) ≡ trimStart p (drop i s)
   start-step s i h e = sym (ap (trimStart p) (at-next s i h) ∙ start-more _ _ e)
 
   -- or it stays, and all from it on
@@ -67,10 +69,12 @@ module _ (p : ℕ → Bool) where
       up : (n : ℕ) → 0 < n → n ≡ suc (n - 1)
       up n pos = omega arith
 
-  pub end-step : (s : List ℕ) (n : ℕ) → 0 < n → n ≤ length s → p (getD s (n - 1) 0) ≡ true → trimEnd p (take (n - 1) s) ≡ trimEnd p (take n s)
+  pub end-step : (s : List ℕ) (n : ℕ) → 0 < n → n ≤ length s → p (getD s (n - 1) 0) ≡ true
+      → trimEnd p (take (n - 1) s) ≡ trimEnd p (take n s)
   end-step s n pos h e = sym (ap (trimEnd p) (at-last s n pos h) ∙ end-more (take (n - 1) s) _ e)
 
-  pub end-stop : (s : List ℕ) (n : ℕ) → 0 < n → n ≤ length s → p (getD s (n - 1) 0) ≡ false → take n s ≡ trimEnd p (take n s)
+  pub end-stop : (s : List ℕ) (n : ℕ) → 0 < n → n ≤ length s → p (getD s (n - 1) 0) ≡ false
+      → take n s ≡ trimEnd p (take n s)
   end-stop s n pos h e = at-last s n pos h ∙ sym (ap (trimEnd p) (at-last s n pos h) ∙ end-done (take (n - 1) s) _ e)
 
   pub end-none : (s : List ℕ) (n : ℕ) → n ≤ 0 → take n s ≡ trimEnd p (take n s)
@@ -108,7 +112,8 @@ module _ (p : ℕ → Bool) where
   leading-and-rest [] = refl
   leading-and-rest (b ∷ s) = pick (p b) (leading-and-rest s)
     where
-      pick : (t : Bool) → leading p s ++ trimStart p s ≡ s → cond t (b ∷ leading p s) [] ++ cond t (trimStart p s) (b ∷ s) ≡ b ∷ s
+      pick : (t : Bool) → leading p s ++ trimStart p s ≡ s
+          → cond t (b ∷ leading p s) [] ++ cond t (trimStart p s) (b ∷ s) ≡ b ∷ s
       pick true h = ap (λ (r : List ℕ). b ∷ r) h
       pick false h = refl
 
@@ -121,7 +126,8 @@ module _ (p : ℕ → Bool) where
       ap₂ take n (sym (leading-and-rest s)) ∙ take-at (leading p s) (trimStart p s) _ refl
 
 -- where the test p of f's results is the test q, it is the same whether f or the trimming comes first
-pub end-mapped : (p q : ℕ → Bool) (f : ℕ → ℕ) → ((b : ℕ) → p (f b) ≡ q b) → (s : List ℕ) → trimEnd p (map f s) ≡ map f (trimEnd q s)
+pub end-mapped : (p q : ℕ → Bool) (f : ℕ → ℕ) → ((b : ℕ) → p (f b) ≡ q b) → (s : List ℕ)
+    → trimEnd p (map f s) ≡ map f (trimEnd q s)
 unfolding trimEnd consTrimmed
 end-mapped p q f same [] = refl
 end-mapped p q f same (b ∷ s) = rw (end-mapped p q f same s, same b) (pick (q b) (trimEnd q s))
@@ -134,9 +140,10 @@ end-mapped p q f same (b ∷ s) = rw (end-mapped p q f same s, same b) (pick (q 
 -- a replaced byte is no space, and was none
 pub space-shown : (b : ℕ) → isSpace (shown b) ≡ isSpace b
 unfolding shown isSpace isPrintable
-space-shown b = go (isPrintable b) refl (eqb b 32) refl
+space-shown b = go (isPrintable b) refl (eqb b (code " ")) refl
   where
-    go : (t : Bool) → isPrintable b ≡ t → (u : Bool) → eqb b 32 ≡ u → eqb (cond (isPrintable b) b 127) 32 ≡ eqb b 32
+    go : (t : Bool) → isPrintable b ≡ t → (u : Bool) → eqb b (code " ") ≡ u
+        → eqb (cond (isPrintable b) b delete) (code " ") ≡ eqb b (code " ")
     go true e u d = rw e
-    go false e true d = absurd (true≢false (rw (eqb-true b 32 d) at e))
+    go false e true d = absurd (true≢false (rw (eqb-true b _ d) at e))
     go false e false d = rw (e, d)

@@ -1,7 +1,7 @@
 // Bytes and texts: classes of bytes, trimming, comparing, laying bytes over lent memory, and texts held in arrays.
 ghost use mathlib.Core.Path.{_≡_};
 ghost use Prim.Native.Nat.{_+_, _≤_, _<_, min};
-ghost use mathlib.Core.List.{[], map};
+ghost use mathlib.Core.List.{[], _++_, map};
 ghost use lib.ListN.{length, take, drop};
 ghost use lib.Seq.{sets};
 ghost use Rattle.text.specs.Bytes.{isBlank, isPrintable, isDigit, shown, dToE};
@@ -265,6 +265,22 @@ pub fn text_of(s: &[u8]) -> Text
     ensures { λ r. ⌜ r ≡ textOf (take size (now (s .entry))) ⌝ }
 {
     changed_text(s, Change::Keep)
+}
+
+// The first 80 bytes of two slices, one behind the other, as a text.
+pub fn joined_text(a: &[u8], b: &[u8]) -> Text
+    ensures { λ r. ⌜ r ≡ textOf (take size (now (a .entry) ++ now (b .entry))) ⌝ }
+{
+    let first = text_of(a);
+    let mut bytes = first.bytes;
+    let n = first.len;
+    let rest = first_of(b, 80 - n);
+    put_at(rest, &mut bytes, n);
+    let len = n + rest.len();
+    Text {
+        bytes: bytes,
+        len: len,
+    }
 }
 
 // How many bytes a length takes of the array: all of them where it is larger.

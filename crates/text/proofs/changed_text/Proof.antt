@@ -10,7 +10,8 @@ use Rattle.text.proofs.changed_text.Statement.{statement}
 use Rattle.text.proofs.changed_text.Tie as tie
 
 abbrev Inv-loop : tie.InvT-loop
-Inv-loop s change bytes₀ i₀ bytes i = (i ≤ length s) × (i ≤ size) × (bytes ≡ padded size (take i (changedOf (changeOf change) s)))
+Inv-loop s change bytes₀ i₀ bytes i =
+    (i ≤ length s) × (i ≤ size) × (bytes ≡ padded size (take i (changedOf (changeOf change) s)))
 
 abbrev μ-loop : tie.MeasureT-loop
 μ-loop s change bytes₀ i₀ bytes i = length s - i
@@ -45,15 +46,15 @@ loop-again c =
 returns : tie.Need-returns Inv-loop μ-loop
 returns c =
     let at-loop = c .before .before in
-    let s = at-loop .before .before .args .s .now in
+    let a = at-loop .before .before .args in
     let large : size ≤ at-loop .loop .i = ltb-false _ _ (c .if1 .left) in
-    changed-done (changeOf (at-loop .before .before .args .change)) s (at-loop .loop .bytes) (at-loop .loop .i) (omega arith) (at-loop .loop .inv .2)
+    changed-done (changeOf (a .change)) (a .s .now) (at-loop .loop .bytes) (at-loop .loop .i) (omega arith) (at-loop .loop .inv .2)
 
 returns-2 : tie.Need-returns-2 Inv-loop μ-loop
 returns-2 c =
     let at-loop = c .before in
-    let s = at-loop .before .before .args .s .now in
-    changed-done (changeOf (at-loop .before .before .args .change)) s (at-loop .loop .bytes) (at-loop .loop .i) (omega arith) (at-loop .loop .inv .2)
+    let a = at-loop .before .before .args in
+    changed-done (changeOf (a .change)) (a .s .now) (at-loop .loop .bytes) (at-loop .loop .i) (omega arith) (at-loop .loop .inv .2)
 
 pub changed-text-spec : {M : Type 1} → statement M
 changed-text-spec =

@@ -46,7 +46,8 @@ loop-again c =
 returns-2 : tie.Need-returns-2 Inv-loop μ-loop
 returns-2 c =
     let at-loop = c .before in
-    sym (found-nowhere (at-loop .before .args .b) (at-loop .before .args .s .now) (at-loop .loop .i) (c .loop-test .left)) ∙ at-loop .loop .inv .1
+    let a = at-loop .before .args in
+    sym (found-nowhere (a .b) (a .s .now) (at-loop .loop .i) (c .loop-test .left)) ∙ at-loop .loop .inv .1
 
 pub find-byte-spec : {M : Type 1} → statement M
 find-byte-spec =

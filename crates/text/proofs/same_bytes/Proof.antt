@@ -29,7 +29,9 @@ shared-slice-read-if2-2 c = search needs
 returns-2 : tie.Need-returns-2 Inv-loop μ-loop
 returns-2 c =
     let at-loop = c .before .before .before .before in
-    sym (sym (at-loop .loop .inv .1) ∙ same-stop (at-loop .before .before .args .s .now) (at-loop .before .before .args .t .now) (at-loop .loop .i) (omega arith) (omega arith) (c .if2 .taken))
+    let a = at-loop .before .before .args in
+    let differ = same-stop (a .s .now) (a .t .now) (at-loop .loop .i) (omega arith) (omega arith) (c .if2 .taken) in
+    sym (sym (at-loop .loop .inv .1) ∙ differ)
 
 add-i : tie.Need-add-i Inv-loop μ-loop
 add-i c = search needs
@@ -40,12 +42,15 @@ loop-less c = search needs
 loop-again : tie.Need-loop-again Inv-loop μ-loop
 loop-again c =
     let at-loop = c .before .before .before .before in
-    (omega arith, same-step (at-loop .before .before .args .s .now) (at-loop .before .before .args .t .now) (at-loop .loop .i) (omega arith) (omega arith) (c .if2 .left) ∙ at-loop .loop .inv .1)
+    let a = at-loop .before .before .args in
+    let next = same-step (a .s .now) (a .t .now) (at-loop .loop .i) (omega arith) (omega arith) (c .if2 .left) in
+    (omega arith, next ∙ at-loop .loop .inv .1)
 
 returns-3 : tie.Need-returns-3 Inv-loop μ-loop
 returns-3 c =
     let at-loop = c .before in
-    sym (same-end (at-loop .before .before .args .s .now) (at-loop .before .before .args .t .now) (at-loop .loop .i) (omega arith) (omega arith)) ∙ at-loop .loop .inv .1
+    let a = at-loop .before .before .args in
+    sym (same-end (a .s .now) (a .t .now) (at-loop .loop .i) (omega arith) (omega arith)) ∙ at-loop .loop .inv .1
 
 pub same-bytes-spec : {M : Type 1} → statement M
 same-bytes-spec =
