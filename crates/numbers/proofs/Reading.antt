@@ -16,11 +16,12 @@ use Rattle.numbers.specs.declared.Exponent.{Exponent}
 use Rattle.numbers.specs.declared.Exponent.the-variants.{Ten, Nothing}
 use Rattle.numbers.specs.declared.Number.{Number}
 use Rattle.numbers.specs.Signs.{isNegative, unsigned, signedOf, fits64}
-use Rattle.numbers.specs.Digits.{isEmpty, isDigits, valueOf}
+use Rattle.numbers.specs.Digits.{isEmpty, isDigits, digitsValue}
 use Rattle.numbers.specs.Answers.{wholeOf, decimal, invalid, isRead}
 use Rattle.numbers.specs.Integers.{integerOf}
-use Rattle.numbers.specs.Decimals.{isWord, isMark, maxExponent, writtenOf, exponentOf, fractionOf, afterFraction, digitsOf, scaled, finiteOf, decimalOf}
-use Rattle.numbers.specs.Numbers.{numberOf}
+use Rattle.numbers.specs.Decimals.{isWord, isMark, maxExponent, writtenOf, exponentOf, fractionOf, afterFraction, digitsOf}
+use Rattle.numbers.specs.Decimals.{scaled, finiteOf, decimalOf}
+use Rattle.numbers.specs.Numbers.{readNumber}
 
 -- ---- sizes read up to a cap
 
@@ -48,22 +49,22 @@ module _ (s : List ℕ) where
 
   -- digits alone, and their size fits
   pub integer-fits : isDigits (unsigned s) ≡ true
-      → let n = min (valueOf (unsigned s)) beyond in
+      → let n = min (digitsValue (unsigned s)) beyond in
       fits64 (isNegative s) n ≡ true → wholeOf (signedOf (isNegative s) n) ≡ integerOf s
   unfolding integerOf
   integer-fits d h =
-      let n = valueOf (unsigned s) in
+      let n = digitsValue (unsigned s) in
       let same = uncapped (isNegative s) n h in
       ap (λ (m : ℕ). wholeOf (signedOf (isNegative s) m)) same ∙ rw (d, rw same at h)
 
   -- digits alone, and their size does not fit
-  pub integer-beyond : isDigits (unsigned s) ≡ true → fits64 (isNegative s) (min (valueOf (unsigned s)) beyond) ≡ false
+  pub integer-beyond : isDigits (unsigned s) ≡ true → fits64 (isNegative s) (min (digitsValue (unsigned s)) beyond) ≡ false
       → invalid s ≡ integerOf s
   unfolding integerOf
-  integer-beyond d h = rw (d, unfit (isNegative s) (valueOf (unsigned s)) h)
+  integer-beyond d h = rw (d, unfit (isNegative s) (digitsValue (unsigned s)) h)
 
   -- behind the letter stand digits, or something else
-  pub written-some : isDigits (unsigned s) ≡ true → Ten (isNegative s) (min (valueOf (unsigned s)) maxExponent) ≡ writtenOf s
+  pub written-some : isDigits (unsigned s) ≡ true → Ten (isNegative s) (min (digitsValue (unsigned s)) maxExponent) ≡ writtenOf s
   unfolding writtenOf
   written-some e = rw e
 
@@ -85,7 +86,7 @@ unfolding exponentOf writtenOf
 small-exponent [] = omega arith
 small-exponent (b ∷ s) =
     small-cond (isMark b) (writtenOf s)
-    (small-cond (isDigits (unsigned s)) (Ten (isNegative s) (min (valueOf (unsigned s)) maxExponent)) (omega arith))
+    (small-cond (isDigits (unsigned s)) (Ten (isNegative s) (min (digitsValue (unsigned s)) maxExponent)) (omega arith))
 
 pub exponent-small : (s : List ℕ) (negative : Bool) (e : ℕ) → exponentOf s ≡ Ten negative e → e ≤ maxExponent
 exponent-small s negative e h = subst Small h (small-exponent s)
@@ -159,15 +160,15 @@ module _ (s : List ℕ) where
     decimal-finite e = rw (no-inf, no-infinity, e)
 
   -- the first try that reads something, or the last
-  pub first-try : isRead (integerOf s .value) ≡ true → integerOf s ≡ numberOf s
-  unfolding numberOf
+  pub first-try : isRead (integerOf s .value) ≡ true → integerOf s ≡ readNumber s
+  unfolding readNumber
   first-try e = rw e
 
-  pub second-try : isRead (integerOf s .value) ≡ false → isRead (decimalOf s .value) ≡ true → decimalOf s ≡ numberOf s
-  unfolding numberOf
+  pub second-try : isRead (integerOf s .value) ≡ false → isRead (decimalOf s .value) ≡ true → decimalOf s ≡ readNumber s
+  unfolding readNumber
   second-try d e = rw (d, e)
 
   pub third-try : isRead (integerOf s .value) ≡ false → isRead (decimalOf s .value) ≡ false
-      → decimalOf (map dToE s) ≡ numberOf s
-  unfolding numberOf
+      → decimalOf (map dToE s) ≡ readNumber s
+  unfolding readNumber
   third-try d e = rw (d, e)

@@ -14,7 +14,7 @@ use Rattle.numbers.specs.declared.Exponent.{Exponent}
 use Rattle.numbers.specs.declared.Exponent.the-variants.{Ten, Nothing}
 use Rattle.numbers.specs.declared.Number.{Number}
 use Rattle.numbers.specs.Signs.{isNegative, unsigned, signedOf}
-use Rattle.numbers.specs.Digits.{isEmpty, isDigits, valueOf}
+use Rattle.numbers.specs.Digits.{isEmpty, isDigits, digitsValue}
 use Rattle.numbers.specs.Answers.{decimal, invalid}
 
 -- ---- digits with at most one point
@@ -45,7 +45,7 @@ maxExponent = 99999
 
 -- what stands behind the letter
 unfoldable pub writtenOf : List ℕ → Exponent
-writtenOf s = cond (isDigits (unsigned s)) (Ten (isNegative s) (min (valueOf (unsigned s)) maxExponent)) Nothing
+writtenOf s = cond (isDigits (unsigned s)) (Ten (isNegative s) (min (digitsValue (unsigned s)) maxExponent)) Nothing
 
 -- what follows the digits: no text is the exponent 0
 unfoldable pub exponentOf : List ℕ → Exponent

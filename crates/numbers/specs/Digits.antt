@@ -21,10 +21,10 @@ abbrev pub digitOf : ℕ → ℕ
 digitOf b = b - code "0"
 
 -- the number that digits write behind those of n
-unfoldable pub valueFrom : ℕ → List ℕ → ℕ
-valueFrom n [] = n
-valueFrom n (b ∷ s) = valueFrom (n * 10 + digitOf b) s
+unfoldable pub digitsValueFrom : ℕ → List ℕ → ℕ
+digitsValueFrom n [] = n
+digitsValueFrom n (b ∷ s) = digitsValueFrom (n * 10 + digitOf b) s
 
 -- the number that digits write
-abbrev pub valueOf : List ℕ → ℕ
-valueOf s = valueFrom 0 s
+abbrev pub digitsValue : List ℕ → ℕ
+digitsValue s = digitsValueFrom 0 s

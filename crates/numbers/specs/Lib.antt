@@ -1,4 +1,4 @@
--- What the contracts of `numbers` cite.
+-- What the contracts of `numbers` cite. The promise of `parse_number` rests on all of it.
 pub mod Signs
 pub mod Digits
 pub mod Answers

@@ -9,5 +9,5 @@ use Rattle.numbers.specs.Integers.{integerOf}
 use Rattle.numbers.specs.Decimals.{decimalOf}
 
 -- a value text as a number
-unfoldable pub numberOf : List ℕ → Number
-numberOf s = integerOf s orElse decimalOf s orElse decimalOf (map dToE s)
+unfoldable pub readNumber : List ℕ → Number
+readNumber s = integerOf s orElse decimalOf s orElse decimalOf (map dToE s)

@@ -1,18 +1,18 @@
 // Numbers: an integer that fits 64 signed bits, or a decimal by its digits and a power of ten (document 01, "Numbers").
 ghost use mathlib.Core.Path.{_≡_};
 ghost use mathlib.Core.Bool.{true};
-ghost use mathlib.Core.List.{[], _++_};
+ghost use mathlib.Core.List.{[]};
 ghost use Prim.Native.Nat.{_+_, _*_, _≤_, _<_, _^_, min};
 ghost use lib.IntN.{pos, _+ℤ_, _-ℤ_};
 ghost use lib.ListN.{length};
 ghost use Rattle.text.specs.Text.{size, textOf, bytesOf};
 ghost use Rattle.numbers.specs.Signs.{isSign, isNegative, unsigned, signedOf, fits64};
-ghost use Rattle.numbers.specs.Digits.{isDigits, digitOf, valueOf};
+ghost use Rattle.numbers.specs.Digits.{isDigits, digitOf, digitsValue};
 ghost use Rattle.numbers.specs.Answers.{wholeOf, decimal, invalid, isRead};
 ghost use Rattle.numbers.specs.Integers.{integerOf};
 ghost use Rattle.numbers.specs.Decimals.{fractionOf, afterFraction, isMark, maxExponent, writtenOf, exponentOf};
 ghost use Rattle.numbers.specs.Decimals.{scaled, finiteOf, lowered, isWord, decimalOf};
-ghost use Rattle.numbers.specs.Numbers.{numberOf};
+ghost use Rattle.numbers.specs.Numbers.{readNumber};
 use text::Change;
 use text::Cut;
 use text::Text;
@@ -28,7 +28,7 @@ pub enum Size {
 // Its digits, and the text of a string or of an invalid value, stand beside the value.
 pub enum Value {
     Integer(i64),
-    Float(bool, Size),
+    Float { minus: bool, size: Size },
     Logical(bool),
     String,
     Undefined,
@@ -44,7 +44,7 @@ pub struct Number {
 
 // What follows the digits of a decimal: an exponent, negative or not, by its size; or something else.
 enum Exponent {
-    Ten(bool, u64),
+    Ten { negative: bool, size: u64 },
     Nothing,
 }
 
@@ -62,7 +62,7 @@ const TO_SMALL: u8 = b'a' - b'A';
 
 // A value text as a number. A length beyond the array takes the whole array.
 pub fn parse_number(t: Text) -> Number
-    ensures { λ r. ⌜ r ≡ numberOf (bytesOf t) ⌝ }
+    ensures { λ r. ⌜ r ≡ readNumber (bytesOf t) ⌝ }
 {
     let n = text::at_most_all(t.len);
     let bytes = t.bytes;
@@ -170,7 +170,7 @@ fn extended(n: u64, d: u64, cap: u64) -> u64
 // The value of digits, or the cap where it is larger.
 fn value_up_to(s: &[u8], cap: u64) -> u64
     requires { ⌜ cap ≤ 2 ^ 63 + 1 ⌝ }
-    ensures { λ r. ⌜ r ≡ min (valueOf (now (s .entry))) cap ⌝ }
+    ensures { λ r. ⌜ r ≡ min (digitsValue (now (s .entry))) cap ⌝ }
 {
     let mut n: u64 = 0;
     let mut i = 0;
@@ -198,7 +198,10 @@ fn without_digits(negative: bool, size: Size) -> Number
     ensures { λ r. ⌜ r ≡ decimal negative size [] ⌝ }
 {
     Number {
-        value: Value::Float(negative, size),
+        value: Value::Float {
+            minus: negative,
+            size: size,
+        },
         text: text::empty_text(),
     }
 }
@@ -220,7 +223,7 @@ fn is_read(value: Value) -> bool
 {
     match value {
         Value::Integer(_) => true,
-        Value::Float(_, _) => true,
+        Value::Float { minus: _, size: _ } => true,
         Value::Logical(_) => true,
         Value::String => true,
         Value::Undefined => true,
@@ -332,7 +335,10 @@ fn written_exponent(s: &[u8]) -> Exponent
     let negative = is_negative(s);
     let digits = after_sign(s);
     if is_digits(digits) {
-        return Exponent::Ten(negative, value_up_to(digits, MAX_EXPONENT));
+        return Exponent::Ten {
+            negative: negative,
+            size: value_up_to(digits, MAX_EXPONENT),
+        };
     }
     Exponent::Nothing
 }
@@ -342,7 +348,10 @@ fn read_exponent(s: &[u8]) -> Exponent
     ensures { λ r. ⌜ r ≡ exponentOf (now (s .entry)) ⌝ }
 {
     if s.len() == 0 {
-        return Exponent::Ten(false, 0);
+        return Exponent::Ten {
+            negative: false,
+            size: 0,
+        };
     }
     if is_mark(s[0]) {
         return written_exponent(&s[1..]);
@@ -374,28 +383,11 @@ fn scaled_of(minus: bool, digits: &[u8], places: usize, negative: bool, e: u64) 
     let zeros = rest.len() - significant.len();
     let p = power(negative, e, places as u64, zeros as u64);
     Number {
-        value: Value::Float(minus, Size::Finite(p)),
+        value: Value::Float {
+            minus: minus,
+            size: Size::Finite(p),
+        },
         text: text::text_of(significant),
-    }
-}
-
-// Two slices, one behind the other, as a text.
-fn joined(a: &[u8], b: &[u8]) -> Text
-    requires { ⌜ length (now a) + length (now b) ≤ size ⌝ }
-    ensures { λ r. ⌜ r ≡ textOf (now (a .entry) ++ now (b .entry)) ⌝ }
-{
-    let first = text::text_of(a);
-    let mut bytes = first.bytes;
-    let n = a.len();
-    let mut i = 0;
-    while i < b.len() {
-        bytes[n + i] = b[i];
-        i += 1;
-    }
-    let len = n + i;
-    Text {
-        bytes: bytes,
-        len: len,
     }
 }
 
@@ -407,10 +399,14 @@ fn read_finite(minus: bool, s: &[u8], tried: &[u8]) -> Number
     let rest = text::trim_start(s, Cut::Digits);
     let fraction = fraction_digits(rest);
     let exponent = read_exponent(after_fraction(rest));
-    let Exponent::Ten(negative, e) = exponent else {
+    let Exponent::Ten {
+        negative: negative,
+        size: e,
+    } = exponent
+    else {
         return invalid_of(tried);
     };
-    let digits = joined(text::leading_of(s, Cut::Digits), fraction);
+    let digits = text::joined_text(text::leading_of(s, Cut::Digits), fraction);
     let n = digits.len;
     let bytes = digits.bytes;
     if n == 0 {
@@ -443,7 +439,7 @@ fn read_decimal(s: &[u8]) -> Number
 // An integer, else a decimal, else a decimal with every D made an E.
 fn read_number(s: &[u8]) -> Number
     requires { ⌜ length (now s) ≤ size ⌝ }
-    ensures { λ r. ⌜ r ≡ numberOf (now (s .entry)) ⌝ }
+    ensures { λ r. ⌜ r ≡ readNumber (now (s .entry)) ⌝ }
 {
     let first = read_integer(s);
     let value = first.value;

@@ -2,13 +2,14 @@
 use Prim.Native.Nat.{ℕ, zero, suc, _+_, _<_, _≤_}
 use native.Mathlib.Omega.{arith}
 use mathlib.Core.Path.{_≡_, refl, sym, ap, ap₂, _∙_}
-use mathlib.Core.Bool.{Bool, true, false, _&&_}
+use mathlib.Core.Bool.{true, false}
 use mathlib.Core.List.{List, [], _∷_}
 use borrow.Author.Tests.{eq-eqb, ne-eqb}
 use lib.Dec.{eqb}
 use lib.ListN.{length, drop, getD, drop-of-length-le}
 use Rattle.text.proofs.Trimming.{at-next}
 use Rattle.text.specs.Same.{same}
+use Rattle.laws.proofs.Truths.{and-false}
 
 module _ (s t : List ℕ) (i : ℕ) (in-s : i < length s) (in-t : i < length t) where
   pub same-step : getD s i 0 ≡ getD t i 0 → same (drop (i + 1) s) (drop (i + 1) t) ≡ same (drop i s) (drop i t)
@@ -22,10 +23,6 @@ module _ (s t : List ℕ) (i : ℕ) (in-s : i < length s) (in-t : i < length t) 
 pub same-end : (s t : List ℕ) (i : ℕ) → length s ≤ i → length t ≤ i → same (drop i s) (drop i t) ≡ true
 unfolding same
 same-end s t i p q = rw (drop-of-length-le s p, drop-of-length-le t q)
-
-and-false : (u v : Bool) → v ≡ false → (u && v) ≡ false
-and-false true v e = e
-and-false false v e = refl
 
 pub same-lengths : (s t : List ℕ) → (length s ≡ length t → ⊥) → same s t ≡ false
 unfolding same

@@ -6,7 +6,7 @@ use native.Mathlib.Omega.{arith}
 use mathlib.Core.Path.{_≡_, refl, sym, ap, _∙_}
 use mathlib.Core.List.{List, [], _∷_, _++_, append-assoc, append-nil, map}
 use lib.ListN.{length, set, take, getD, replicate, length-append, length-map, length-take}
-use lib.Seq.{sets, set-append-seam, length-take-le, take-suc, take-all, take-append-seam, getD-take}
+use lib.Seq.{sets, set-append-seam, length-take-le, take-suc, take-nil, take-all, take-append-seam, getD-take}
 use Rattle.text.specs.declared.Text.{Text}
 use Rattle.text.specs.Text.{size, filled, padded, textOf, bytesOf}
 
@@ -90,11 +90,7 @@ bytes-text v = take-append-seam v _
 
 -- a length beyond the end takes all
 pub take-min : (n m : ℕ) (s : List ℕ) → length s ≡ m → take (min n m) s ≡ take n s
-take-min n m [] e = nothing (min n m) ∙ sym (nothing n)
-  where
-    nothing : (k : ℕ) → take {A = ℕ} k [] ≡ []
-    nothing zero = refl
-    nothing (suc k) = refl
+take-min n m [] e = take-nil (min n m) ∙ sym (take-nil n)
 take-min zero m (b ∷ s) e = ap (λ (k : ℕ). take k (b ∷ s)) (let z : min 0 m ≡ 0 = omega arith in z)
 take-min (suc n) m (b ∷ s) e =
     let rest : length s ≡ m - 1 = omega arith in

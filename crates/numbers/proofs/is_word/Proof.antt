@@ -73,7 +73,8 @@ loop-again c =
     let at-loop = c .before .before .before .before .before in
     let a = at-loop .before .before .before .before .args in
     let low = c .before .before .lower .ensures in
-    (omega arith, goes-on (a .s .now) (a .word .now) (at-loop .loop .i) (omega arith) (omega arith) low (c .if2 .left) ∙ at-loop .loop .inv .1)
+    let next = goes-on (a .s .now) (a .word .now) (at-loop .loop .i) (omega arith) (omega arith) low (c .if2 .left) in
+    (omega arith, next ∙ at-loop .loop .inv .1)
 
 returns-3 : tie.Need-returns-3 Inv-loop μ-loop
 returns-3 c =

@@ -1,4 +1,4 @@
--- The two tests of the definition are the two branches; a capital letter plus 32 stays a byte.
+-- The two tests of the definition are the two branches; a capital letter made small stays a byte.
 use borrow.Author.Tests.{le-leb, lt-leb}
 use borrow.Author.Needs.{needs}
 use Rattle.numbers.specs.Decimals.{lowered}

@@ -7,7 +7,7 @@ use lib.ListN.{length, take}
 use lib.Seq.{length-take-le}
 use Rattle.text.specs.Text.{size}
 use Rattle.text.proofs.Texts.{take-min}
-use Rattle.numbers.specs.Numbers.{numberOf}
+use Rattle.numbers.specs.Numbers.{readNumber}
 use Rattle.numbers.proofs.parse_number.Statement.{statement}
 use Rattle.numbers.proofs.parse_number.Tie as tie
 
@@ -36,8 +36,8 @@ returns c =
     let t = c .before .before .before .before .args .t in
     let long : length (t .bytes) ≡ size = search needs in
     c .read-number .ensures
-    ∙ ap (λ (n : ℕ). numberOf (take n (t .bytes))) (c .before .before .before .at-most-all .ensures)
-    ∙ ap numberOf (take-min (t .len) size (t .bytes) long)
+    ∙ ap (λ (n : ℕ). readNumber (take n (t .bytes))) (c .before .before .before .at-most-all .ensures)
+    ∙ ap readNumber (take-min (t .len) size (t .bytes) long)
 
 pub parse-number-spec : {M : Type 1} → statement M
 parse-number-spec =

@@ -40,7 +40,8 @@ returns-2 c =
 returns-3 : tie.Need-returns-3
 returns-3 c =
     let m = c .before in
-    exponent-none (m .before .before .before .before .args .s .now) (m .before .before .if1 .left) (sym (m .is-mark .ensures) ∙ c .if2 .left)
+    let tested = m .before .before in
+    exponent-none (tested .before .before .args .s .now) (tested .if1 .left) (sym (m .is-mark .ensures) ∙ c .if2 .left)
 
 pub read-exponent-spec : {M : Type 1} → statement M
 read-exponent-spec =

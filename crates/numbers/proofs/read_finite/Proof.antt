@@ -6,12 +6,12 @@ use mathlib.Core.Bool.{Bool}
 use mathlib.Core.List.{List, _++_}
 use mathlib.Core.Path.{_≡_, sym, ap, ap₂, _∙_}
 use borrow.Author.Needs.{needs}
-use lib.ListN.{length}
-use Rattle.text.specs.Text.{textOf}
+use lib.ListN.{length, take}
+use Rattle.text.specs.Text.{size, textOf}
 use Rattle.text.specs.declared.Text.{Text}
 use Rattle.text.specs.Trim.{trimStart}
 use Rattle.text.specs.Bytes.{isDigit}
-use Rattle.text.proofs.Texts.{text-bytes, text-length, text-within}
+use Rattle.text.proofs.Texts.{whole-text, text-bytes, text-length, text-within}
 use Rattle.numbers.specs.Decimals.{fractionOf, afterFraction, digitsOf, exponentOf, scaled}
 use Rattle.numbers.specs.Answers.{invalid}
 use Rattle.numbers.specs.Signs.{signedOf}
@@ -40,25 +40,26 @@ exponent-told c =
     ∙ ap exponentOf (c .before .after-fraction .ensures ∙ ap afterFraction (c .before .before .before .trim-start .ensures))
 
 -- where the exponent was read, and the digits in their array
-abbrev read : tie.After-joined → tie.After-read-exponent
+abbrev read : tie.After-joined-text → tie.After-read-exponent
 read c = c .before .before .before .before .before
 
-held : (c : tie.After-joined) → c .joined .result ≡ textOf (digitsOf (text (read c)))
+held : (c : tie.After-joined-text) → c .joined-text .result ≡ textOf (digitsOf (text (read c)))
 held c =
-    c .joined .ensures
-    ∙ ap₂ (λ (a b : List ℕ). textOf (a ++ b)) (c .before .leading-of .ensures) (fraction-told (read c))
+    c .joined-text .ensures
+    ∙ ap₂ (λ (a b : List ℕ). textOf (take size (a ++ b))) (c .before .leading-of .ensures) (fraction-told (read c))
+    ∙ whole-text (digitsOf (text (read c))) (omega (arith, digits-short (text (read c)), start (read c) .pre))
 
-long : (c : tie.After-joined) → c .joined .result .len ≡ length (digitsOf (text (read c)))
+long : (c : tie.After-joined-text) → c .joined-text .result .len ≡ length (digitsOf (text (read c)))
 long c = ap (λ (t : Text). t .len) (held c)
 
 -- the exponent's sign and size, as they were taken out of the answer
-abbrev minus : tie.After-joined → Bool
+abbrev minus : tie.After-joined-text → Bool
 minus c = c .before .before .before .exponent .given .0 .0
 
-abbrev count : tie.After-joined → ℕ
+abbrev count : tie.After-joined-text → ℕ
 count c = c .before .before .before .exponent .given .0 .1 .0
 
-told : (c : tie.After-joined) → exponentOf (afterFraction (rest (read c))) ≡ Ten (minus c) (count c)
+told : (c : tie.After-joined-text) → exponentOf (afterFraction (rest (read c))) ≡ Ten (minus c) (count c)
 told c = sym (exponent-told (read c)) ∙ c .before .before .before .exponent .given .1
 
 trim-start-requires : tie.Need-trim-start-requires
@@ -92,10 +93,8 @@ returns c =
 leading-of-requires : tie.Need-leading-of-requires
 leading-of-requires c κs = search needs
 
-joined-requires : tie.Need-joined-requires
-joined-requires c κs =
-    let x = c .before .before .before .before in
-    omega (arith, digits-fit (text x), ap length (c .leading-of .ensures), ap length (fraction-told x), start x .pre)
+joined-text-requires : tie.Need-joined-text-requires
+joined-text-requires c κs = search needs
 
 invalid-of-requires-2 : tie.Need-invalid-of-requires-2
 invalid-of-requires-2 c κs = search needs
@@ -145,7 +144,7 @@ read-finite-spec =
     invalid-of-requires
     returns
     leading-of-requires
-    joined-requires
+    joined-text-requires
     invalid-of-requires-2
     returns-2
     array-share-prefix-bytes

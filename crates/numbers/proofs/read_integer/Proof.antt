@@ -6,7 +6,7 @@ use borrow.Author.Tests.{not-true, not-false}
 use borrow.Author.Needs.{needs}
 use mir.Facts.{toZ-ofZ}
 use Rattle.numbers.specs.Answers.{wholeOf}
-use Rattle.numbers.specs.Digits.{isDigits, valueOf}
+use Rattle.numbers.specs.Digits.{isDigits, digitsValue}
 use Rattle.numbers.specs.Signs.{isNegative, unsigned, signedOf, fits64}
 use Rattle.numbers.proofs.Reading.{beyond, integer-none, integer-fits, integer-beyond}
 use Rattle.numbers.proofs.read_integer.Statement.{statement}
@@ -18,14 +18,14 @@ text c = c .before .before .before .before .args .s .now
 digits-told : (c : tie.After-is-digits) → c .is-digits .result ≡ isDigits (unsigned (text c))
 digits-told c = c .is-digits .ensures ∙ ap isDigits (c .before .after-sign .ensures)
 
-size-told : (c : tie.After-value-up-to) → c .value-up-to .result ≡ min (valueOf (unsigned (text (c .before .before)))) beyond
+size-told : (c : tie.After-value-up-to) → c .value-up-to .result ≡ min (digitsValue (unsigned (text (c .before .before)))) beyond
 size-told c =
     c .value-up-to .ensures
-    ∙ ap (λ (t : List ℕ). min (valueOf t) beyond) (c .before .before .before .after-sign .ensures)
+    ∙ ap (λ (t : List ℕ). min (digitsValue t) beyond) (c .before .before .before .after-sign .ensures)
 
 fits-told : (c : tie.After-fits2)
     → let s = text (c .before .before .before) in
-    c .fits2 .result ≡ fits64 (isNegative s) (min (valueOf (unsigned s)) beyond)
+    c .fits2 .result ≡ fits64 (isNegative s) (min (digitsValue (unsigned s)) beyond)
 fits-told c =
     c .fits2 .ensures
     ∙ ap₂ fits64 (c .before .before .before .before .before .is-negative .ensures) (size-told (c .before))

@@ -5,13 +5,13 @@ use native.Mathlib.Omega.{arith}
 use mathlib.Core.Path.{_≡_, ap, _∙_}
 use borrow.Author.Needs.{needs}
 use lib.ListN.{length, drop, getD}
-use Rattle.numbers.specs.Digits.{digitOf, valueFrom, valueOf}
+use Rattle.numbers.specs.Digits.{digitOf, digitsValueFrom, digitsValue}
 use Rattle.numbers.proofs.Valuing.{value-step, value-end}
 use Rattle.numbers.proofs.value_up_to.Statement.{statement}
 use Rattle.numbers.proofs.value_up_to.Tie as tie
 
 abbrev Inv-loop : tie.InvT-loop
-Inv-loop s cap n₀ i₀ n i = (i ≤ length s) × (n ≤ cap) × (min (valueFrom n (drop i s)) cap ≡ min (valueOf s) cap)
+Inv-loop s cap n₀ i₀ n i = (i ≤ length s) × (n ≤ cap) × (min (digitsValueFrom n (drop i s)) cap ≡ min (digitsValue s) cap)
 
 abbrev μ-loop : tie.MeasureT-loop
 μ-loop s cap n₀ i₀ n i = length s - i
@@ -45,7 +45,7 @@ loop-again c =
     c .extended .ensures ∙ ap (λ (d : ℕ). min (n * 10 + d) (args .cap)) (c .before .digit-value .ensures) in (
       omega arith,
       omega arith,
-      ap (λ (m : ℕ). min (valueFrom m (drop (i + 1) s)) (args .cap)) next
+      ap (λ (m : ℕ). min (digitsValueFrom m (drop (i + 1) s)) (args .cap)) next
           ∙ value-step s i (args .cap) n (c .before .before .before .loop-test .taken)
           ∙ at-loop .loop .inv .2,
     )

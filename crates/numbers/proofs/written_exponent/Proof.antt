@@ -3,7 +3,7 @@ use Prim.Native.Nat.{ℕ, min}
 use mathlib.Core.List.{List}
 use mathlib.Core.Path.{_≡_, sym, ap, ap₂, _∙_}
 use borrow.Author.Needs.{needs}
-use Rattle.numbers.specs.Digits.{isDigits, valueOf}
+use Rattle.numbers.specs.Digits.{isDigits, digitsValue}
 use Rattle.numbers.specs.Signs.{unsigned}
 use Rattle.numbers.specs.declared.Exponent.the-variants.{Ten}
 use Rattle.numbers.specs.Decimals.{maxExponent}
@@ -32,7 +32,7 @@ value-up-to-requires c κs = search needs
 returns : tie.Need-returns
 returns c =
     let d = c .before .before in
-    let count = c .value-up-to .ensures ∙ ap (λ (t : List ℕ). min (valueOf t) maxExponent) (d .before .after-sign .ensures) in
+    let count = c .value-up-to .ensures ∙ ap (λ (t : List ℕ). min (digitsValue t) maxExponent) (d .before .after-sign .ensures) in
     ap₂ Ten (d .before .before .is-negative .ensures) count
     ∙ written-some (text d) (sym (digits-told d) ∙ c .before .if1 .taken)
 
