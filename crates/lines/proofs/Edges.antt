@@ -1,37 +1,16 @@
--- The definitions at their edges: the digits of a number write it, and the lines of document 01's words, in one table.
-use Prim.Native.Nat.{ℕ, zero, suc, _+_, _-_, _*_, _/_, _%_, _<_}
+-- The lines of document 01's words, in one table.
+use Prim.Native.Nat.{ℕ}
 use Prim.Native.String.{String as Quoted}
-use native.Mathlib.Omega.{arith}
-use mathlib.Core.Path.{_≡_, refl, ap, _∙_}
-use mathlib.Core.Bool.{Bool, true, false, cond}
+use mathlib.Core.Path.{_≡_, refl}
+use mathlib.Core.Bool.{true, false}
 use mathlib.Core.List.{List, [], _∷_, _++_, map}
-use borrow.Author.Tests.{ltb-true, ltb-false}
-use lib.Dec.{ltb}
 use lib.IntN.{pos, negsuc}
-use Rattle.text.specs.Bytes.{ascii}
-use Rattle.refusal.specs.Numbers.{refusal}
+use Rattle.text.specs.Bytes.{ascii, lineFeed}
+use Rattle.refusal.specs.declared.Refusal.the-variants as R
 use Rattle.numbers.specs.declared.Size.the-variants.{Finite, Infinite, Nan}
 use Rattle.numbers.specs.declared.Value.the-variants.{Integer, Float, Logical, String, Undefined, Invalid}
-use Rattle.numbers.specs.Digits.{valueFrom, valueOf}
-use Rattle.lines.specs.Lines.{lineFeed, digitsBefore, decimalDigits, entryLine, countLine, refusedLine}
-
-write-before : (more n : ℕ) (v : List ℕ) → n < more → valueFrom 0 (digitsBefore more n v) ≡ valueFrom n v
-unfolding digitsBefore valueFrom
-write-before zero n v h = absurd (omega arith)
-write-before (suc more) n v h = go (ltb n 10) refl (write-before more (n / 10) ((48 + n % 10) ∷ v))
-  where
-    go : (t : Bool) → ltb n 10 ≡ t
-        → (n / 10 < more → valueFrom 0 (digitsBefore more (n / 10) ((48 + n % 10) ∷ v)) ≡ valueFrom (n / 10) ((48 + n % 10) ∷ v))
-        → valueFrom 0 (cond t ((48 + n) ∷ v) (digitsBefore more (n / 10) ((48 + n % 10) ∷ v))) ≡ valueFrom n v
-    go true e later = ap (λ (k : ℕ). valueFrom k v) (omega arith)
-    go false e later =
-        let big = ltb-false n 10 e in
-        later (omega arith) ∙ ap (λ (k : ℕ). valueFrom k v) (omega arith)
-
--- the digits of a number write that number
-pub digits-write : (n : ℕ) → valueOf (decimalDigits n) ≡ n
-unfolding decimalDigits valueFrom
-digits-write n = write-before (suc n) n [] (omega arith)
+use Rattle.numerals.specs.Numerals.{digitsBefore, decimalDigits}
+use Rattle.lines.specs.Lines.{entryLine, countLine, refusedLine}
 
 abbrev pub ended : Quoted → List ℕ
 ended s = ascii s ++ lineFeed ∷ []
@@ -53,7 +32,7 @@ pub edges :
     ∷ entryLine (ascii "A") String [] (ascii " ")
     ∷ entryLine (ascii "A") Undefined [] []
     ∷ entryLine (ascii "A") Invalid [] (ascii "1E")
-    ∷ refusedLine (refusal 10) 720
+    ∷ refusedLine R.NoEnd 720
     ∷ []
     ≡ map ended
     ("SIZE I 12" ∷ "KIT S FKM-75" ∷ "2 keywords" ∷ "1 keywords" ∷ "A I -12" ∷ "A I 0" ∷ "A D -15e-3" ∷ "A D 1e20" ∷ "A D -0e0"

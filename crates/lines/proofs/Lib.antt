@@ -1,6 +1,3 @@
--- Laws of numbers in decimal, of parts laid behind one another, and of an entry's line by its parts.
-pub mod Decimals
-pub mod Signs
-pub mod Laying
-pub mod Parting
+-- Laws of an entry's line by its segments, and the lines of document 01's words.
+pub mod Segmenting
 pub mod Edges

@@ -1,3 +1,4 @@
--- What the contracts of `lines` cite.
+-- What public promises cite
 pub mod Lines
-pub mod Parts
+-- What private contracts cite alone
+pub mod Segments

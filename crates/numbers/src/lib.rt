@@ -399,11 +399,7 @@ fn read_finite(minus: bool, s: &[u8], tried: &[u8]) -> Number
     let rest = text::trim_start(s, Cut::Digits);
     let fraction = fraction_digits(rest);
     let exponent = read_exponent(after_fraction(rest));
-    let Exponent::Ten {
-        negative: negative,
-        size: e,
-    } = exponent
-    else {
+    let Exponent::Ten { negative, size: e } = exponent else {
         return invalid_of(tried);
     };
     let digits = text::joined_text(text::leading_of(s, Cut::Digits), fraction);

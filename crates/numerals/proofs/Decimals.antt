@@ -29,11 +29,11 @@ room-less (suc (suc a)) left some h room =
 -- ---- how many digits there are
 
 -- a number has a digit
-pub Some : List ℕ → Type 0
+abbrev pub Some : List ℕ → Type 0
 Some l = (b : ℕ) × (rest : List ℕ) × (l ≡ b ∷ rest)
 
 some-before : (more n b : ℕ) (v : List ℕ) → Some (digitsBefore more n (b ∷ v))
-unfolding digitsBefore Some
+unfolding digitsBefore
 some-before zero n b v = (b, v, refl)
 some-before (suc more) n b v = go (ltb n 10) (some-before more (n / 10) (digitByte (n % 10)) (b ∷ v))
   where
@@ -43,7 +43,7 @@ some-before (suc more) n b v = go (ltb n 10) (some-before more (n / 10) (digitBy
     go false e = e
 
 pub some-digits : (n : ℕ) → Some (decimalDigits n)
-unfolding digitsBefore decimalDigits Some
+unfolding digitsBefore decimalDigits
 some-digits n = go (ltb n 10) (some-before n (n / 10) (digitByte (n % 10)) [])
   where
     go : (t : Bool) → Some (digitsBefore n (n / 10) (digitByte (n % 10) ∷ []))

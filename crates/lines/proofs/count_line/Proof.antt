@@ -1,15 +1,15 @@
--- `lines::count_line` meets its contract: its parts make up the line.
-use mathlib.Core.Path.{ap, _∙_}
+-- `lines::count_line` meets its contract: its segments make up the line.
 use Prim.Native.Nat.{ℕ}
+use mathlib.Core.Path.{ap, _∙_}
 use mathlib.Core.List.{List}
-use Rattle.lines.specs.Lines.{laid}
-use Rattle.lines.proofs.Parting.{count-parts}
 use borrow.Author.Needs.{needs}
+use Rattle.lines.specs.Lines.{laid}
+use Rattle.lines.proofs.Segmenting.{count-segments}
 use Rattle.lines.proofs.count_line.Statement.{statement}
 use Rattle.lines.proofs.count_line.Tie as tie
 
-number-text-requires : tie.Need-number-text-requires
-number-text-requires c κs = search needs
+natural-text-requires : tie.Need-natural-text-requires
+natural-text-requires c κs = search needs
 
 empty-text-requires : tie.Need-empty-text-requires
 empty-text-requires c κs = search needs
@@ -25,17 +25,17 @@ same-length c = search needs
 
 returns : tie.Need-returns
 returns c =
-    let a = c .before .before .before .before .before .before .before .before .args in
-    let out = a .out .now in
-    let p = c .before .before .put-line .ensures in
-    let e = count-parts (a .n) (c .before .before .before .before .before .before .number-text .ensures) (c .before .before .before .before .before .empty-text .ensures) in
-    (p .0 ∙ ap (λ (l : List ℕ). laid l out .answer) e, p .1 ∙ ap (λ (l : List ℕ). laid l out .content) e)
+    let put = c .before .before in
+    let texts = put .before .before .before in
+    let a = texts .before .before .before .args in
+    let e = count-segments (a .n) (texts .before .natural-text .ensures) (texts .empty-text .ensures) in
+    put .put-line .ensures ∙ ap (λ (l : List ℕ). laid l (a .out .now)) e
 
 pub count-line-spec : {M : Type 1} → statement M
 count-line-spec =
     tie.close
     (tie.spec
-    number-text-requires
+    natural-text-requires
     empty-text-requires
     slice-aggregate-put-line
     put-line-requires

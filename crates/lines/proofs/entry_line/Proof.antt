@@ -1,42 +1,44 @@
--- `lines::entry_line` meets its contract: its parts make up the line, whatever stands in its middle.
-use mathlib.Core.Path.{_≡_, sym, ap, _∙_}
+-- `lines::entry_line` meets its contract: its segments make up the line, whatever stands in its middle.
 use Prim.Native.Nat.{ℕ}
+use mathlib.Core.Path.{_≡_, refl, sym, ap, _∙_}
 use mathlib.Core.Bool.{Bool}
 use mathlib.Core.List.{List, [], _∷_, _++_}
+use borrow.Author.Needs.{needs}
+use Rattle.text.specs.Bytes.{lineFeed}
 use Rattle.text.specs.Text.{textOf, bytesOf}
+use Rattle.numbers.specs.Digits.{isEmpty}
 use Rattle.lines.specs.declared.Middle.{Middle}
 use Rattle.lines.specs.Lines.{laid, entryLine}
-use Rattle.lines.specs.Parts.{isSome, headOf, middleOf, bytesAt, jointOf, tailOf}
-use Rattle.lines.proofs.Parting.{entry-parts}
-use borrow.Author.Needs.{needs}
+use Rattle.lines.specs.Segments.{lineHead, middleOf, middleBytes, readingTail}
+use Rattle.lines.proofs.Segmenting.{entry-segments}
 use Rattle.lines.proofs.entry_line.Statement.{statement}
 use Rattle.lines.proofs.entry_line.Tie as tie
 
+abbrev tails : tie.After-middle-of → tie.After-tail-of
+tails m = m .before
+
+abbrev heads : tie.After-middle-of → tie.After-head-of
+heads m = m .before .before .before
+
 abbrev start : tie.After-middle-of → tie.Start
-start m = m .before .before .before .before .before .before .before .before .before .before .before .before
+start m = heads m .before .before .before .before .before .before .before
 
--- the case of the middle that an arm knows
-middle-told : (m : tie.After-middle-of) (k : Middle) → m .middle-of .result ≡ k
-    → bytesAt k (bytesOf (start m .args .digits)) (start m .args .text .now)
-    ≡ bytesAt (middleOf (start m .args .value)) (bytesOf (start m .args .digits)) (start m .args .text .now)
-middle-told m k e =
-    ap (λ (x : Middle). bytesAt x (bytesOf (start m .args .digits)) (start m .args .text .now)) (sym e ∙ m .middle-of .ensures)
+-- the middle of the line, by the case of it that an arm knows
+abbrev middle : tie.After-middle-of → Middle → List ℕ
+middle m k = middleBytes k (bytesOf (start m .args .digits)) (start m .args .text .now)
 
-line-told : (m : tie.After-middle-of) (x : List ℕ)
-    → x ≡ bytesAt (middleOf (start m .args .value)) (bytesOf (start m .args .digits)) (start m .args .text .now)
-    → bytesOf (start m .args .name) ++ bytesOf (m .before .before .before .before .before .head-of .result) ++ x
-    ++ bytesOf (m .before .before .before .joint-of .result) ++ bytesOf (m .before .tail-of .result)
-    ≡ entryLine (bytesOf (start m .args .name)) (start m .args .value) (bytesOf (start m .args .digits)) (start m .args .text .now)
-line-told m x e =
+line-told : (m : tie.After-middle-of) (k : Middle) (x : List ℕ) → m .middle-of .result ≡ k → x ≡ middle m k
+    → let a = start m .args in
+    bytesOf (a .name) ++ bytesOf (heads m .head-of .result) ++ x ++ bytesOf (tails m .tail-of .result) ++ lineFeed ∷ []
+    ≡ entryLine (bytesOf (a .name)) (a .value) (bytesOf (a .digits)) (a .text .now)
+line-told m k x e f =
     let a = start m .args in
-    let joints = m .before .before .before in
-    let heads = m .before .before .before .before .before in
-    let shown = heads .before .before .first-of .ensures in
-    entry-parts (bytesOf (a .name)) (a .value) (bytesOf (a .digits)) (a .text .now) x
-    (heads .head-of .ensures ∙ ap (λ (t : Bool). textOf (headOf (a .value) t)) (heads .before .is-some .ensures))
-    e
-    (joints .joint-of .ensures ∙ ap (λ (t : Bool). textOf (jointOf (a .value) t)) (joints .before .is-some2 .ensures ∙ ap isSome shown))
-    (m .before .tail-of .ensures ∙ ap (λ (t : Bool). textOf (tailOf (a .value) t)) (m .before .before .is-some3 .ensures ∙ ap isSome shown))
+    let shown = heads m .before .before .first-of .ensures in
+    entry-segments (bytesOf (a .name)) (a .value) (bytesOf (a .digits)) (a .text .now) x
+    (heads m .head-of .ensures ∙ ap (λ (t : Bool). textOf (lineHead (a .value) t)) (heads m .before .is-empty .ensures))
+    (f ∙ ap (middle m) (sym e ∙ m .middle-of .ensures))
+    (tails m .tail-of .ensures
+    ∙ ap (λ (t : Bool). textOf (readingTail (a .value) t)) (tails m .before .is-empty2 .ensures ∙ ap isEmpty shown))
 
 slice-aggregate-first-of : tie.Need-slice-aggregate-first-of
 slice-aggregate-first-of c = search needs
@@ -44,20 +46,14 @@ slice-aggregate-first-of c = search needs
 first-of-requires : tie.Need-first-of-requires
 first-of-requires c κs = search needs
 
-is-some-requires : tie.Need-is-some-requires
-is-some-requires c κs = search needs
+is-empty-requires : tie.Need-is-empty-requires
+is-empty-requires c κs = search needs
 
 head-of-requires : tie.Need-head-of-requires
 head-of-requires c κs = search needs
 
-is-some-requires-2 : tie.Need-is-some-requires-2
-is-some-requires-2 c κs = search needs
-
-joint-of-requires : tie.Need-joint-of-requires
-joint-of-requires c κs = search needs
-
-is-some-requires-3 : tie.Need-is-some-requires-3
-is-some-requires-3 c κs = search needs
+is-empty-requires-2 : tie.Need-is-empty-requires-2
+is-empty-requires-2 c κs = search needs
 
 tail-of-requires : tie.Need-tail-of-requires
 tail-of-requires c κs = search needs
@@ -91,33 +87,33 @@ same-length c = search needs
 
 returns : tie.Need-returns
 returns c =
-    let m = c .before .before .before .before .before .before in
-    let out = start m .args .out .now in
-    let p = c .before .before .put-line .ensures in
-    let e = line-told m _ (m .before .before .before .before .before .before .before .first-of .ensures ∙ middle-told m _ (c .before .before .before .before .enum-told .given .1)) in
-    (p .0 ∙ ap (λ (l : List ℕ). laid l out .answer) e, p .1 ∙ ap (λ (l : List ℕ). laid l out .content) e)
+    let put = c .before .before in
+    let told = put .before .before in
+    let m = told .before .before in
+    let e = line-told m _ _ (told .enum-told .given .1) (heads m .before .before .first-of .ensures) in
+    put .put-line .ensures ∙ ap (λ (l : List ℕ). laid l (start m .args .out .now)) e
 
 same-length-2 : tie.Need-same-length-2
 same-length-2 c = search needs
 
 returns-2 : tie.Need-returns-2
 returns-2 c =
-    let m = c .before .before .before .before .before .before in
-    let out = start m .args .out .now in
-    let p = c .before .before .put-line2 .ensures in
-    let e = line-told m _ (middle-told m _ (c .before .before .before .before .enum-told2 .given .1)) in
-    (p .0 ∙ ap (λ (l : List ℕ). laid l out .answer) e, p .1 ∙ ap (λ (l : List ℕ). laid l out .content) e)
+    let put = c .before .before in
+    let told = put .before .before in
+    let m = told .before .before in
+    let e = line-told m _ _ (told .enum-told2 .given .1) refl in
+    put .put-line2 .ensures ∙ ap (λ (l : List ℕ). laid l (start m .args .out .now)) e
 
 same-length-3 : tie.Need-same-length-3
 same-length-3 c = search needs
 
 returns-3 : tie.Need-returns-3
 returns-3 c =
-    let m = c .before .before .before .before .before .before .before in
-    let out = start m .args .out .now in
-    let p = c .before .before .put-line3 .ensures in
-    let e = line-told m _ (middle-told m _ (c .before .before .before .before .before .enum-told3 .given .1)) in
-    (p .0 ∙ ap (λ (l : List ℕ). laid l out .answer) e, p .1 ∙ ap (λ (l : List ℕ). laid l out .content) e)
+    let put = c .before .before in
+    let told = put .before .before .before in
+    let m = told .before .before in
+    let e = line-told m _ _ (told .enum-told3 .given .1) refl in
+    put .put-line3 .ensures ∙ ap (λ (l : List ℕ). laid l (start m .args .out .now)) e
 
 pub entry-line-spec : {M : Type 1} → statement M
 entry-line-spec =
@@ -125,11 +121,9 @@ entry-line-spec =
     (tie.spec
     slice-aggregate-first-of
     first-of-requires
-    is-some-requires
+    is-empty-requires
     head-of-requires
-    is-some-requires-2
-    joint-of-requires
-    is-some-requires-3
+    is-empty-requires-2
     tail-of-requires
     middle-of-requires
     enum-told

@@ -1,31 +1,33 @@
--- `lines::put_line` meets its contract: each part is laid behind those before it, where all of them fit.
+-- `lines::put_line` meets its contract: each segment is stored behind those before it, where all of them fit.
 use Prim.Native.Nat.{ℕ, _+_, _≤_, _<_}
 use native.Mathlib.Omega.{arith}
-use mathlib.Core.Path.{_≡_, sym, ap, _∙_}
-use mathlib.Core.List.{List, _++_}
-use lib.ListN.{length}
+use mathlib.Core.Path.{_≡_, ap, _∙_}
+use mathlib.Core.List.{List, [], _∷_, _++_}
+use borrow.Author.Needs.{needs}
+use lib.ListN.{length, length-append}
+use lib.Seq.{sets}
+use Rattle.text.specs.Bytes.{lineFeed}
 use Rattle.text.specs.Text.{bytesOf}
 use Rattle.lines.specs.declared.Line.the-variants.{Written}
-use Rattle.lines.specs.Lines.{Outcome, laid}
-use Rattle.lines.proofs.Laying.{put-none, put-next, laid-short, laid-fits, length-five}
-use borrow.Author.Needs.{needs}
+use Rattle.lines.specs.Lines.{lineOutcome}
+use Rattle.lines.proofs.Segmenting.{stored-behind, laid-short, laid-fits, length-segments}
 use Rattle.lines.proofs.put_line.Statement.{statement}
 use Rattle.lines.proofs.put_line.Tie as tie
 
 abbrev line : tie.Start → List ℕ
-line s = bytesOf (s .args .a) ++ bytesOf (s .args .b) ++ s .args .middle .now ++ bytesOf (s .args .d) ++ bytesOf (s .args .e)
+line s = bytesOf (s .args .a) ++ bytesOf (s .args .b) ++ s .args .middle .now ++ bytesOf (s .args .d) ++ lineFeed ∷ []
 
-lengths : (s : tie.Start)
+line-length : (s : tie.Start)
     → length (line s)
-    ≡ length (bytesOf (s .args .a)) + length (bytesOf (s .args .b)) + length (s .args .middle .now)
-    + length (bytesOf (s .args .d)) + length (bytesOf (s .args .e))
-lengths s = length-five (bytesOf (s .args .a)) (bytesOf (s .args .b)) (s .args .middle .now) (bytesOf (s .args .d)) (bytesOf (s .args .e))
+    ≡ length (bytesOf (s .args .a)) + length (bytesOf (s .args .b)) + length (s .args .middle .now) + length (bytesOf (s .args .d)) + 1
+line-length s = length-segments (bytesOf (s .args .a)) (bytesOf (s .args .b)) (s .args .middle .now) (bytesOf (s .args .d)) (lineFeed ∷ [])
 
-abbrev start : tie.Else2 → tie.Start
-start c = c .before .before .before .before .before .before .before .before
+abbrev start : tie.After-held3 → tie.Start
+start c = c .before .before .before .before .before
 
-room : (c : tie.Else2) → length (line (start c)) ≤ length (start c .args .out .now)
-room c = omega (arith, lengths (start c))
+-- the place of the line feed
+abbrev end : tie.After-held3 → ℕ
+end c = c .before .before .held .result + c .before .held2 .result + c .held3 .result + length (start c .args .middle .now)
 
 held-requires : tie.Need-held-requires
 held-requires c κs = search needs
@@ -33,35 +35,33 @@ held-requires c κs = search needs
 held-requires-2 : tie.Need-held-requires-2
 held-requires-2 c κs = search needs
 
-add-short : tie.Need-add-short
-add-short c = search needs
+add-to-middle : tie.Need-add-to-middle
+add-to-middle c = search needs
 
 held-requires-3 : tie.Need-held-requires-3
 held-requires-3 c κs = search needs
 
-add-short-2 : tie.Need-add-short-2
-add-short-2 c = search needs
-
-held-requires-4 : tie.Need-held-requires-4
-held-requires-4 c κs = search needs
-
-add-short-3 : tie.Need-add-short-3
-add-short-3 c = search needs
+add-short : tie.Need-add-short
+add-short c = search needs
 
 returns : tie.Need-returns
 returns c =
-    let s = c .before .before .before .before .before .before .before in
-    let e = laid-short (line s) (s .args .out .now) (omega (arith, lengths s)) in
-    (sym (ap (λ (o : Outcome). o .answer) e), sym (ap (λ (o : Outcome). o .content) e))
+    let s = start (c .before) in
+    laid-short (line s) (s .args .out .now) (omega (arith, line-length s))
 
 sub-if2 : tie.Need-sub-if2
 sub-if2 c = search needs
 
 returns-2 : tie.Need-returns-2
 returns-2 c =
-    let s = c .before .before .before .before .before .before .before .before in
-    let e = laid-short (line s) (s .args .out .now) (omega (arith, lengths s)) in
-    (sym (ap (λ (o : Outcome). o .answer) e), sym (ap (λ (o : Outcome). o .content) e))
+    let s = start (c .before .before) in
+    laid-short (line s) (s .args .out .now) (omega (arith, line-length s))
+
+add-to-d : tie.Need-add-to-d
+add-to-d c = search needs
+
+add-end : tie.Need-add-end
+add-end c = search needs
 
 put-text-requires : tie.Need-put-text-requires
 put-text-requires c κs = search needs
@@ -69,34 +69,48 @@ put-text-requires c κs = search needs
 put-text-requires-2 : tie.Need-put-text-requires-2
 put-text-requires-2 c κs = search needs
 
-put-requires : tie.Need-put-requires
-put-requires c κs = search needs
+put-at-requires : tie.Need-put-at-requires
+put-at-requires c κs = search needs
 
 put-text-requires-3 : tie.Need-put-text-requires-3
 put-text-requires-3 c κs = search needs
 
-put-text-requires-4 : tie.Need-put-text-requires-4
-put-text-requires-4 c κs = search needs
+slice-aggregate-put-at : tie.Need-slice-aggregate-put-at
+slice-aggregate-put-at c = search needs
+
+put-at-requires-2 : tie.Need-put-at-requires-2
+put-at-requires-2 c κs = search needs
+
+add-n : tie.Need-add-n
+add-n c = search needs
 
 same-length : tie.Need-same-length
 same-length c = search needs
 
 returns-3 : tie.Need-returns-3
 returns-3 c =
-    let at-e = c .before .before in
-    let at-d = at-e .before .before .before .before in
-    let at-middle = at-d .before .before .before .before in
-    let at-b = at-middle .before .before .before .before in
+    let at-f = c .before .before in
+    let at-d = at-f .before .before .before .before .before in
+    let at-m = at-d .before .before .before .before in
+    let at-b = at-m .before .before .before .before in
     let at-a = at-b .before .before .before .before in
-    let fits = at-a .before .before in
-    let a = start fits .args in
-    let p₁ = put-next (put-none (a .out .now)) (bytesOf (a .a)) (at-a .put-text .ensures .0) (at-a .put-text .ensures .1) in
-    let p₂ = put-next p₁ (bytesOf (a .b)) (at-b .put-text2 .ensures .0) (at-b .put-text2 .ensures .1) in
-    let p₃ = put-next p₂ (a .middle .now) (at-middle .put .ensures .0) (at-middle .put .ensures .1) in
-    let p₄ = put-next p₃ (bytesOf (a .d)) (at-d .put-text3 .ensures .0) (at-d .put-text3 .ensures .1) in
-    let p₅ = put-next p₄ (bytesOf (a .e)) (at-e .put-text4 .ensures .0) (at-e .put-text4 .ensures .1) in
-    let e = laid-fits (line (start fits)) (a .out .now) (room fits) in
-    (ap Written (p₅ .end) ∙ sym (ap (λ (o : Outcome). o .answer) e), p₅ .content ∙ sym (ap (λ (o : Outcome). o .content) e))
+    let h = at-a .before .before .before .before in
+    let s = start h in
+    let d = s .args .out .now in
+    let x = bytesOf (s .args .a) in
+    let y = bytesOf (s .args .b) in
+    let m = s .args .middle .now in
+    let z = bytesOf (s .args .d) in
+    let l₂ = length-append x y in
+    let l₃ = length-append (x ++ y) m in
+    let l₄ = length-append (x ++ y ++ m) z in
+    let l₅ = length-append (x ++ y ++ m ++ z) (lineFeed ∷ []) in
+    let p₂ = stored-behind d x y (at-a .put-text .ensures) (omega arith) (at-b .put-text2 .ensures) in
+    let p₃ = stored-behind d (x ++ y) m p₂ (omega arith) (at-m .put-at .ensures) in
+    let p₄ = stored-behind d (x ++ y ++ m) z p₃ (omega arith) (at-d .put-text3 .ensures) in
+    let p₅ = stored-behind d (x ++ y ++ m ++ z) (lineFeed ∷ []) p₄ (omega arith) (at-f .put-at2 .ensures) in
+    let n : end h + 1 ≡ length (line s) = omega (arith, line-length s) in
+    (λ j. lineOutcome (Written (n j)) (p₅ j)) ∙ laid-fits (line s) d (omega (arith, line-length s))
 
 pub put-line-spec : {M : Type 1} → statement M
 put-line-spec =
@@ -104,18 +118,20 @@ put-line-spec =
     (tie.spec
     held-requires
     held-requires-2
-    add-short
+    add-to-middle
     held-requires-3
-    add-short-2
-    held-requires-4
-    add-short-3
+    add-short
     returns
     sub-if2
     returns-2
+    add-to-d
+    add-end
     put-text-requires
     put-text-requires-2
-    put-requires
+    put-at-requires
     put-text-requires-3
-    put-text-requires-4
+    slice-aggregate-put-at
+    put-at-requires-2
+    add-n
     same-length
     returns-3)

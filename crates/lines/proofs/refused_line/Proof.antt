@@ -1,11 +1,12 @@
--- `lines::refused_line` meets its contract: its parts make up the line.
-use mathlib.Core.Path.{ap, _∙_}
+-- `lines::refused_line` meets its contract: its segments make up the line.
 use Prim.Native.Nat.{ℕ}
-use mathlib.Core.List.{List, [], _∷_, _++_}
-use Rattle.text.specs.Text.{textOf}
-use Rattle.lines.specs.Lines.{laid, decimalDigits}
-use Rattle.lines.proofs.Parting.{refused-parts}
+use mathlib.Core.Path.{ap, _∙_}
+use mathlib.Core.List.{List}
 use borrow.Author.Needs.{needs}
+use Rattle.text.specs.Text.{textOf}
+use Rattle.numerals.specs.Numerals.{decimalDigits}
+use Rattle.lines.specs.Lines.{laid}
+use Rattle.lines.proofs.Segmenting.{refused-segments}
 use Rattle.lines.proofs.refused_line.Statement.{statement}
 use Rattle.lines.proofs.refused_line.Tie as tie
 
@@ -18,17 +19,14 @@ text-of-requires c κs = search needs
 number-requires : tie.Need-number-requires
 number-requires c κs = search needs
 
-cast-number-text : tie.Need-cast-number-text
-cast-number-text c = search needs
+cast-natural-text : tie.Need-cast-natural-text
+cast-natural-text c = search needs
 
-number-text-requires : tie.Need-number-text-requires
-number-text-requires c κs = search needs
+natural-text-requires : tie.Need-natural-text-requires
+natural-text-requires c κs = search needs
 
-number-text-requires-2 : tie.Need-number-text-requires-2
-number-text-requires-2 c κs = search needs
-
-empty-text-requires : tie.Need-empty-text-requires
-empty-text-requires c κs = search needs
+natural-text-requires-2 : tie.Need-natural-text-requires-2
+natural-text-requires-2 c κs = search needs
 
 slice-aggregate-put-line : tie.Need-slice-aggregate-put-line
 slice-aggregate-put-line c = search needs
@@ -41,17 +39,14 @@ same-length c = search needs
 
 returns : tie.Need-returns
 returns c =
-    let last = c .before .before .before .before .before in
-    let texts = last .before .before in
+    let put = c .before .before in
+    let last = put .before .before .before in
+    let texts = last .before in
     let a = texts .before .before .before .before .before .args in
-    let out = a .out .now in
-    let p = c .before .before .put-line .ensures in
-    let number =
-    texts .number-text .ensures ∙ ap (λ (n : ℕ). textOf (decimalDigits n ++ 32 ∷ [])) (texts .before .number .ensures) in
-    let e =
-    refused-parts (a .why) (a .card) (texts .before .before .text-of .ensures) number
-    (last .empty-text .ensures) (last .before .number-text2 .ensures) in
-    (p .0 ∙ ap (λ (l : List ℕ). laid l out .answer) e, p .1 ∙ ap (λ (l : List ℕ). laid l out .content) e)
+    let number = texts .natural-text .ensures ∙ ap (λ (n : ℕ). textOf (decimalDigits n)) (texts .before .number .ensures) in
+    let word = texts .before .before .text-of .ensures in
+    let e = refused-segments (a .fault .why) (a .card) word number (last .natural-text2 .ensures) in
+    put .put-line .ensures ∙ ap (λ (l : List ℕ). laid l (a .out .now)) e
 
 pub refused-line-spec : {M : Type 1} → statement M
 refused-line-spec =
@@ -60,10 +55,9 @@ refused-line-spec =
     slice-aggregate-text-of
     text-of-requires
     number-requires
-    cast-number-text
-    number-text-requires
-    number-text-requires-2
-    empty-text-requires
+    cast-natural-text
+    natural-text-requires
+    natural-text-requires-2
     slice-aggregate-put-line
     put-line-requires
     same-length

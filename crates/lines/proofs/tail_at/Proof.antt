@@ -1,48 +1,40 @@
--- `lines::tail_at` meets its contract, by the sizes of a decimal.
+-- `lines::tail_at` meets its contract, by the sizes of a float.
+use Prim.Native.Char.{code}
 use mathlib.Core.Path.{_≡_, sym, ap, ap₂, _∙_}
 use mathlib.Core.Bool.{Bool}
+use borrow.Author.Needs.{needs}
+use lib.IntN.{ℤ}
 use mir.Syntax.{w64}
 use mir.Facts.{toZ-ofZ}
 use Rattle.text.specs.Text.{textOf}
 use Rattle.numbers.specs.declared.Size.{Size}
-use Prim.Native.Nat.{ℕ}
-use mathlib.Core.List.{[], _∷_, _++_}
-use lib.IntN.{natAbs}
-use Rattle.lines.specs.Lines.{lineFeed, decimalDigits}
-use Rattle.lines.specs.Parts.{tailAt}
-use borrow.Author.Needs.{needs}
+use Rattle.numerals.specs.Numerals.{powerText}
+use Rattle.lines.specs.Segments.{sizeTail}
 use Rattle.lines.proofs.tail_at.Statement.{statement}
 use Rattle.lines.proofs.tail_at.Tie as tie
 
--- the size that an arm knows is the decimal's, and so with the digits that are there or not
-by-size : (s : tie.Start) {v : Size} → s .args .size ≡ v → textOf (tailAt v (s .args .some)) ≡ textOf (tailAt (s .args .size) (s .args .some))
-by-size s e = sym (ap (λ (v : Size). textOf (tailAt v (s .args .some))) e)
+-- the size that an arm knows is the float's, and so with the digits that are there or not
+by-size : (s : tie.Start) {v : Size} → s .args .size ≡ v
+    → textOf (sizeTail v (s .args .empty)) ≡ textOf (sizeTail (s .args .size) (s .args .empty))
+by-size s e = sym (ap (λ (v : Size). textOf (sizeTail v (s .args .empty))) e)
 
-by-both : {u v : Size} {t some : Bool} → u ≡ v → t ≡ some → textOf (tailAt v some) ≡ textOf (tailAt u t)
-by-both e f = sym (ap₂ (λ (v : Size) (t : Bool). textOf (tailAt v t)) e f)
+by-both : {u v : Size} {t empty : Bool} → u ≡ v → t ≡ empty → textOf (sizeTail v empty) ≡ textOf (sizeTail u t)
+by-both e f = sym (ap₂ (λ (v : Size) (t : Bool). textOf (sizeTail v t)) e f)
 
 enum-known-size : tie.Need-enum-known-size
 enum-known-size c = search needs
-
-size-of-requires : tie.Need-size-of-requires
-size-of-requires c κs = search needs
-
-number-text-requires : tie.Need-number-text-requires
-number-text-requires c κs = search needs
-
-returns : tie.Need-returns
-returns c =
-    let told = c .before .before .before in
-    let same = toZ-ofZ {w = w64} {z = told .before .size .given .0 .0} (record { sfits = told .known-told .given .0 .1 }) in
-    c .number-text .ensures
-    ∙ ap (λ (n : ℕ). textOf (decimalDigits n ++ lineFeed ∷ [])) (c .before .size-of .ensures ∙ ap natAbs same)
-    ∙ by-both (c .before .before .before .before .size .given .1) (c .before .before .if1 .taken)
 
 slice-aggregate-text-of : tie.Need-slice-aggregate-text-of
 slice-aggregate-text-of c = search needs
 
 text-of-requires : tie.Need-text-of-requires
 text-of-requires c κs = search needs
+
+returns : tie.Need-returns
+returns c = c .text-of .ensures ∙ by-both (c .before .before .before .before .size .given .1) (c .before .before .if1 .taken)
+
+power-text-requires : tie.Need-power-text-requires
+power-text-requires c κs = search needs
 
 enum-told : tie.Need-enum-told
 enum-told c = search needs
@@ -63,7 +55,11 @@ text-of-requires-3 : tie.Need-text-of-requires-3
 text-of-requires-3 c κs = search needs
 
 returns-2 : tie.Need-returns-2
-returns-2 c = c .text-of .ensures ∙ by-both (c .before .before .before .before .size .given .1) (c .before .before .if1 .left)
+returns-2 c =
+    let told = c .before .before in
+    let same = toZ-ofZ {w = w64} {z = told .before .size .given .0 .0} (record { sfits = told .known-told .given .0 .1 }) in
+    c .power-text .ensures ∙ ap (λ (z : ℤ). textOf (powerText (code "e") z)) same
+    ∙ by-both (told .before .size .given .1) (c .before .if1 .left)
 
 returns-3 : tie.Need-returns-3
 returns-3 c = c .text-of2 .ensures ∙ by-size (c .before .before .before .before) (c .before .before .enum-told .given .1)
@@ -76,11 +72,10 @@ tail-at-spec =
     tie.close
     (tie.spec
     enum-known-size
-    size-of-requires
-    number-text-requires
-    returns
     slice-aggregate-text-of
     text-of-requires
+    returns
+    power-text-requires
     enum-told
     slice-aggregate-text-of-2
     text-of-requires-2
