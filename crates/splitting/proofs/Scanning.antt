@@ -1,5 +1,6 @@
 -- The scan, a byte at a time.
 use Prim.Native.Nat.{ℕ, zero, suc, _+_, _-_, _<_, _≤_}
+use Prim.Native.Char.{code}
 use native.Mathlib.Numerals.{add-one}
 use native.Mathlib.Omega.{arith}
 use mathlib.Core.Path.{_≡_, refl, sym, ap, _∙_}
@@ -16,38 +17,40 @@ use Rattle.splitting.specs.declared.Slash.the-variants.{At, Nowhere, Bad
 use Rattle.splitting.specs.declared.Scanned.{Scanned}
 use Rattle.text.specs.Bytes.{isPrintable, shown}
 use Rattle.text.specs.Text.{size, padded, textOf}
-use Rattle.splitting.specs.Scan.{Class, quote, slash, plain, odd, classOf, Move, ends, refused, puts, passes, move, Scan, putBefore, after, scanFrom, scanOf, answered}
+use Rattle.splitting.specs.Scan.{ByteClass, quote, slash, plain, odd, byteClass, Move, ends, refused, puts, passes, move}
+use Rattle.splitting.specs.Scan.{Scan, putBefore, after, scanFrom}
+use Rattle.splitting.specs.Scanned.{answered, scannedOf}
 use Rattle.text.proofs.Texts.{padded-put, length-put}
 
 -- ---- a byte's class, by the tests of the code
 module _ {b : ℕ} where
-  pub class-quote : b ≡ 39 → classOf b ≡ quote
-  unfolding classOf
-  class-quote e = rw (eq-eqb b 39 e)
+  pub class-quote : b ≡ code "'" → byteClass b ≡ quote
+  unfolding byteClass
+  class-quote e = rw (eq-eqb b (code "'") e)
 
-  module _ (unquote : b ≡ 39 → ⊥) where
-    pub class-slash : b ≡ 47 → classOf b ≡ slash
-    unfolding classOf
-    class-slash e = rw (ne-eqb b 39 unquote, eq-eqb b 47 e)
+  module _ (unquote : b ≡ code "'" → ⊥) where
+    pub class-slash : b ≡ code "/" → byteClass b ≡ slash
+    unfolding byteClass
+    class-slash e = rw (ne-eqb b (code "'") unquote, eq-eqb b (code "/") e)
 
     -- inside a string every other byte is put
-    pub inside-other : (q : Quoting) → q ≡ Inside → move q (classOf b) ≡ puts Inside
-    unfolding classOf
-    inside-other q e = rw (e, ne-eqb b 39 unquote) (any (eqb b 47) (isPrintable b))
+    pub inside-other : (q : Quoting) → q ≡ Inside → move q (byteClass b) ≡ puts Inside
+    unfolding byteClass
+    inside-other q e = rw (e, ne-eqb b (code "'") unquote) (any (eqb b (code "/")) (isPrintable b))
       where
         any : (t u : Bool) → move Inside (cond t slash (cond u plain odd)) ≡ puts Inside
         any true u = refl
         any false true = refl
         any false false = refl
 
-    module _ (unslash : b ≡ 47 → ⊥) where
-      pub class-plain : isPrintable b ≡ true → classOf b ≡ plain
-      unfolding classOf
-      class-plain e = rw (ne-eqb b 39 unquote, ne-eqb b 47 unslash, e)
+    module _ (unslash : b ≡ code "/" → ⊥) where
+      pub class-plain : isPrintable b ≡ true → byteClass b ≡ plain
+      unfolding byteClass
+      class-plain e = rw (ne-eqb b (code "'") unquote, ne-eqb b (code "/") unslash, e)
 
-      pub class-odd : isPrintable b ≡ false → classOf b ≡ odd
-      unfolding classOf
-      class-odd e = rw (ne-eqb b 39 unquote, ne-eqb b 47 unslash, e)
+      pub class-odd : isPrintable b ≡ false → byteClass b ≡ odd
+      unfolding byteClass
+      class-odd e = rw (ne-eqb b (code "'") unquote, ne-eqb b (code "/") unslash, e)
 
 -- ---- where the loop stands: v was put, and what is left is scanned from the state on
 pub record Reached (s : List ℕ) (place : Slash) (q : Quoting) (bytes : List ℕ) (n i : ℕ) : Type 0 where
@@ -67,33 +70,38 @@ abbrev pub handed : Slash → List ℕ → ℕ → Scanned
 handed p bytes n = record { slash = p; value = record { bytes = bytes; len = n } }
 
 module _ {s : List ℕ} {place : Slash} {q : Quoting} {bytes : List ℕ} {n i : ℕ} (R : Reached s place q bytes n i) where
-  stopped : (p : Slash) → scanFrom q (drop i s) i ≡ record { place = p; value = [] } → handed p bytes n ≡ scanOf s
-  unfolding scanOf
+  stopped : (p : Slash) → scanFrom q (drop i s) i ≡ record { place = p; value = [] } → handed p bytes n ≡ scannedOf s
+  unfolding scannedOf
   stopped p e =
       (λ j. handed p (R .held j) (R .count j))
       ∙ ap (λ (v : List ℕ). answered (record { place = p; value = v })) (sym (append-nil (R .v)))
       ∙ ap (λ (r : Scan). answered (putBefore (R .v) r)) (sym e)
       ∙ ap answered (R .left)
 
-  pub at-end : length s ≤ i → handed place bytes n ≡ scanOf s
+  pub at-end : length s ≤ i → handed place bytes n ≡ scannedOf s
   unfolding scanFrom
   at-end h = rw (R .none) (stopped Nowhere (rw (drop-of-length-le s h)))
 
   module _ (more : i < length s) where
+    -- the scan of what stands behind i
+    abbrev onward : Quoting → Scan
+    onward r = scanFrom r (drop (i + 1) s) (i + 1)
+
     -- the byte at i makes its move
-    moved : (m : Move) → move q (classOf (getD s i 0)) ≡ m → scanFrom q (drop i s) i ≡ after m (getD s i 0) i (λ (r : Quoting). scanFrom r (drop (i + 1) s) (i + 1))
+    moved : (m : Move) → move q (byteClass (getD s i 0)) ≡ m
+        → scanFrom q (drop i s) i ≡ after m (getD s i 0) i (λ (r : Quoting). scanFrom r (drop (i + 1) s) (i + 1))
     unfolding scanFrom
     moved m e = rw (drop-cons s i 0 more, add-one i, e)
 
-    pub on-ends : move q (classOf (getD s i 0)) ≡ ends → handed (At i) bytes n ≡ scanOf s
+    pub on-ends : move q (byteClass (getD s i 0)) ≡ ends → handed (At i) bytes n ≡ scannedOf s
     unfolding after
     on-ends e = stopped (At i) (moved ends e)
 
-    pub on-refused : move q (classOf (getD s i 0)) ≡ refused → handed (Bad i) bytes n ≡ scanOf s
+    pub on-refused : move q (byteClass (getD s i 0)) ≡ refused → handed (Bad i) bytes n ≡ scannedOf s
     unfolding after
     on-refused e = stopped (Bad i) (moved refused e)
 
-    pub on-passes : (r : Quoting) → move q (classOf (getD s i 0)) ≡ passes r → Reached s place r bytes n (i + 1)
+    pub on-passes : (r : Quoting) → move q (byteClass (getD s i 0)) ≡ passes r → Reached s place r bytes n (i + 1)
     unfolding after
     on-passes r e =
         record {
@@ -106,7 +114,8 @@ module _ {s : List ℕ} {place : Slash} {q : Quoting} {bytes : List ℕ} {n i : 
           left = ap (putBefore (R .v)) (sym (moved (passes r) e)) ∙ R .left;
         }
 
-    pub on-puts : (r : Quoting) (b : ℕ) → length s ≤ size → move q (classOf (getD s i 0)) ≡ puts r → b ≡ shown (getD s i 0) → Reached s place r (set bytes n b) (n + 1) (i + 1)
+    pub on-puts : (r : Quoting) (b : ℕ) → length s ≤ size → move q (byteClass (getD s i 0)) ≡ puts r → b ≡ shown (getD s i 0)
+        → Reached s place r (set bytes n b) (n + 1) (i + 1)
     unfolding after
     on-puts r b small e is-shown =
         record {
@@ -117,8 +126,8 @@ module _ {s : List ℕ} {place : Slash} {q : Quoting} {bytes : List ℕ} {n i : 
           held = rw (R .held, R .count) (padded-put size (R .v) b (omega (arith, R .fewer)));
           count = rw (length-put, R .count);
           left =
-              ap (λ (v : List ℕ). record { place = (scanFrom r (drop (i + 1) s) (i + 1)) .place; value = v }) (append-assoc (R .v) (b ∷ []) ((scanFrom r (drop (i + 1) s) (i + 1)) .value))
-              ∙ ap (λ (x : ℕ). putBefore (R .v) (putBefore (x ∷ []) (scanFrom r (drop (i + 1) s) (i + 1)))) is-shown
+              ap (λ (v : List ℕ). record { place = onward r .place; value = v }) (append-assoc (R .v) (b ∷ []) (onward r .value))
+              ∙ ap (λ (x : ℕ). putBefore (R .v) (putBefore (x ∷ []) (onward r))) is-shown
               ∙ ap (putBefore (R .v)) (sym (moved (puts r) e))
               ∙ R .left;
         }

@@ -14,7 +14,8 @@ use Rattle.splitting.specs.declared.Halves.{Halves}
 use Rattle.text.specs.Bytes.{isBlank, isSpace}
 use Rattle.text.specs.Trim.{trim}
 use Rattle.text.specs.Text.{size, textOf, bytesOf}
-use Rattle.splitting.specs.Scan.{Move, ends, refused, puts, passes, move, classOf, Scan, after, scanFrom, scanOf}
+use Rattle.splitting.specs.Scan.{Move, ends, refused, puts, passes, move, byteClass, Scan, after, scanFrom}
+use Rattle.splitting.specs.Scanned.{scannedOf}
 use Rattle.splitting.specs.Split.{partsAt, splitOf}
 use Rattle.text.proofs.Trimming.{shorter}
 use Rattle.text.proofs.Texts.{bytes-text}
@@ -32,7 +33,7 @@ Within i n r = (length (r .value) ≤ n) × Below (i + n) (r .place)
 pub scan-within : (q : Quoting) (s : List ℕ) (i : ℕ) → Within i (length s) (scanFrom q s i)
 unfolding scanFrom after
 scan-within q [] i = (omega arith, tt)
-scan-within q (b ∷ s) i = turn (move q (classOf b)) (λ (r : Quoting). scan-within r s (suc i))
+scan-within q (b ∷ s) i = turn (move q (byteClass b)) (λ (r : Quoting). scan-within r s (suc i))
   where
     later : (p : Slash) → Below (suc i + length s) p → Below (i + suc (length s)) p
     later (At k) h = omega arith
@@ -46,15 +47,16 @@ scan-within q (b ∷ s) i = turn (move q (classOf b)) (λ (r : Quoting). scan-wi
     turn (puts r) h = (omega (arith, h r .0), later ((scanFrom r s (suc i)) .place) (h r .1))
     turn (passes r) h = (omega (arith, h r .0), later ((scanFrom r s (suc i)) .place) (h r .1))
 
-pub scanned-within : (s : List ℕ) (f : Scanned) → f ≡ scanOf s → (f .value .len ≤ length s) × Below (length s) (f .slash)
-unfolding scanOf
+pub scanned-within : (s : List ℕ) (f : Scanned) → f ≡ scannedOf s → (f .value .len ≤ length s) × Below (length s) (f .slash)
+unfolding scannedOf
 scanned-within s f e =
     let w = scan-within Outside s 0 in
     rw e (w .0, rw (zero-add (length s)) at (w .1))
 
 -- the parts by what a scan of the trimmed text found
-pub split-found : (t s : List ℕ) (f : Scanned) → s ≡ trim isBlank t → f ≡ scanOf s → partsAt (f .slash) s (bytesOf (f .value)) ≡ splitOf t
-unfolding splitOf scanOf
+pub split-found : (t s : List ℕ) (f : Scanned) → s ≡ trim isBlank t → f ≡ scannedOf s
+    → partsAt (f .slash) s (bytesOf (f .value)) ≡ splitOf t
+unfolding splitOf scannedOf
 split-found t s f trims scans = rw (scans, bytes-text, trims)
 
 -- the value text fits where the text does

@@ -1,4 +1,8 @@
 -- What the contracts of `splitting` cite.
+
+-- What public promises cite
 pub mod Scan
 pub mod Split
 pub mod Strings
+-- What private contracts cite alone
+pub mod Scanned

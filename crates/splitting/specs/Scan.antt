@@ -1,5 +1,6 @@
 -- The scan of a trimmed text for the slash (document 01, "Splitting"; the standard, 4.2.1).
 use Prim.Native.Nat.{ℕ, suc}
+use Prim.Native.Char.{code}
 use mathlib.Core.Bool.{Bool, true, false, cond}
 use mathlib.Core.List.{List, [], _∷_, _++_}
 use lib.Dec.{eqb}
@@ -7,24 +8,23 @@ use Rattle.splitting.specs.declared.Quoting.{Quoting}
 use Rattle.splitting.specs.declared.Quoting.the-variants.{Outside, Inside, Closed}
 use Rattle.splitting.specs.declared.Slash.{Slash}
 use Rattle.splitting.specs.declared.Slash.the-variants.{At, Nowhere, Bad}
-use Rattle.splitting.specs.declared.Scanned.{Scanned}
 use Rattle.text.specs.Bytes.{isPrintable, shown}
-use Rattle.text.specs.Text.{textOf}
 
 -- the classes of bytes that the scan tells apart
-pub data Class : Type 0 where
-  quote slash plain odd : Class
+pub data ByteClass : Type 0 where
+  quote slash plain odd : ByteClass
 
-unfoldable pub classOf : ℕ → Class
-classOf b = cond (eqb b 39) quote (cond (eqb b 47) slash (cond (isPrintable b) plain odd))
+unfoldable pub byteClass : ℕ → ByteClass
+byteClass b = cond (eqb b (code "'")) quote (cond (eqb b (code "/")) slash (cond (isPrintable b) plain odd))
 
--- What one byte before the slash does: it ends the value, it is refused, it is put into the value text, or it is the second quote of two and is passed over.
+-- What one byte before the slash does: it ends the value, it is refused, it is put into the value text, or it is passed over,
+-- being the second quote of two.
 pub data Move : Type 0 where
   ends refused : Move
   puts passes : Quoting → Move
 
 -- in each state, by the byte's class
-abbrev pub move : Quoting → Class → Move
+abbrev pub move : Quoting → ByteClass → Move
 move Outside quote = puts Inside
 move Outside slash = ends
 move Outside plain = puts Outside
@@ -57,11 +57,4 @@ after (passes q) b i rest = rest q
 unfoldable pub scanFrom : Quoting → List ℕ → ℕ → Scan
 unfolding after
 scanFrom q [] i = record { place = Nowhere; value = [] }
-scanFrom q (b ∷ s) i = after (move q (classOf b)) b i (λ (r : Quoting). scanFrom r s (suc i))
-
--- as the code hands it over
-abbrev pub answered : Scan → Scanned
-answered r = record { slash = r .place; value = textOf (r .value) }
-
-unfoldable pub scanOf : List ℕ → Scanned
-scanOf s = answered (scanFrom Outside s 0)
+scanFrom q (b ∷ s) i = after (move q (byteClass b)) b i (λ (r : Quoting). scanFrom r s (suc i))

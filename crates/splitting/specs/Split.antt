@@ -16,7 +16,12 @@ use Rattle.splitting.specs.Scan.{Scan, scanFrom}
 
 -- by where the slash stands in the trimmed text s, whose value text is v
 abbrev pub partsAt : Slash → List ℕ → List ℕ → Halves
-partsAt (At i) s v = record { answer = Commented; value = textOf (trim isSpace v); comment = textOf (trimEnd isSpace (map shown (drop (suc i) s))) }
+partsAt (At i) s v =
+    record {
+      answer = Commented;
+      value = textOf (trim isSpace v);
+      comment = textOf (trimEnd isSpace (map shown (drop (suc i) s)));
+    }
 partsAt Nowhere s v = record { answer = Bare; value = textOf (trim isSpace v); comment = textOf [] }
 partsAt (Bad i) s v = record { answer = Refused (faultOf R.OddByte); value = textOf []; comment = textOf [] }
 

@@ -6,9 +6,9 @@ ghost use lib.ListN.{length, take, drop};
 ghost use Rattle.text.specs.Bytes.{isSpace, shown};
 ghost use Rattle.text.specs.Trim.{trim, trimEnd};
 ghost use Rattle.text.specs.Text.{size, textOf, bytesOf};
-ghost use Rattle.splitting.specs.Scan.{scanOf};
 ghost use Rattle.splitting.specs.Split.{splitOf};
 ghost use Rattle.splitting.specs.Strings.{settledOf, stringRefused, stringOf};
+ghost use Rattle.splitting.specs.Scanned.{scannedOf};
 use refusal::Fault;
 use refusal::Refusal;
 use text::Change;
@@ -108,7 +108,7 @@ pub fn parse_string(t: Text) -> StringRead
 // The scan of a trimmed text: it ends at the first slash outside a string.
 fn scan(s: &[u8]) -> Scanned
     requires { ⌜ length (now s) ≤ size ⌝ }
-    ensures { λ r. ⌜ r ≡ scanOf (now (s .entry)) ⌝ }
+    ensures { λ r. ⌜ r ≡ scannedOf (now (s .entry)) ⌝ }
 {
     let mut slash = Slash::Nowhere;
     let mut state = Quoting::Outside;

@@ -1,5 +1,6 @@
 -- Values with their texts, by what a test says, and the unit of a comment.
 use Prim.Native.Nat.{ℕ}
+use Prim.Native.Char.{code}
 use native.Mathlib.Omega.{arith}
 use mathlib.Core.Path.{_≡_, refl, ap, _∙_}
 use mathlib.Core.Bool.{Bool, true, false, cond}
@@ -18,10 +19,14 @@ use Rattle.value.specs.Units.{closedAt, unitOf}
 
 -- ---- comments
 module _ (v : Value) (text : Text) (commented : Bool) (comment : Text) where
-  pub comment-kept : keepsComment v ≡ true → _≡_ {A = ValueRead} (record { answer = Read v; text = text; commented = commented; comment = comment }) (valueAs v text commented comment)
+  -- the value with a comment
+  abbrev with : Bool → Text → ValueRead
+  with b t = record { answer = Read v; text = text; commented = b; comment = t }
+
+  pub comment-kept : keepsComment v ≡ true → with commented comment ≡ valueAs v text commented comment
   comment-kept e = rw e
 
-  pub comment-dropped : keepsComment v ≡ false → _≡_ {A = ValueRead} (record { answer = Read v; text = text; commented = false; comment = textOf [] }) (valueAs v text commented comment)
+  pub comment-dropped : keepsComment v ≡ false → with false (textOf []) ≡ valueAs v text commented comment
   comment-dropped e = rw e
 
 -- ---- units
@@ -35,10 +40,10 @@ by-first [] h = absurd (h refl)
 by-first (b ∷ s) h = refl
 
 module _ (s : List ℕ) (some : length s ≡ 0 → ⊥) where
-  pub unit-none : (getD s 0 0 ≡ 91 → ⊥) → unitOf s ≡ Nowhere
+  pub unit-none : (getD s 0 0 ≡ code "[" → ⊥) → unitOf s ≡ Nowhere
   unfolding unitOf
-  unit-none e = ap unitOf (by-first s some) ∙ rw (ne-eqb _ 91 e)
+  unit-none e = ap unitOf (by-first s some) ∙ rw (ne-eqb _ (code "[") e)
 
-  pub unit-some : getD s 0 0 ≡ 91 → unitOf s ≡ closedAt (placeOf 93 (drop 1 s))
+  pub unit-some : getD s 0 0 ≡ code "[" → unitOf s ≡ closedAt (placeOf (code "]") (drop 1 s))
   unfolding unitOf
-  unit-some e = ap unitOf (by-first s some) ∙ rw (eq-eqb _ 91 e)
+  unit-some e = ap unitOf (by-first s some) ∙ rw (eq-eqb _ (code "[") e)

@@ -1,5 +1,6 @@
 -- The unit that a comment names (document 01, "One card"; the standard, 4.3.2).
 use Prim.Native.Nat.{ℕ, _+_}
+use Prim.Native.Char.{code}
 use mathlib.Core.Bool.{Bool, cond}
 use mathlib.Core.List.{List, [], _∷_}
 use lib.Dec.{eqb}
@@ -17,4 +18,4 @@ closedAt P.Nowhere = Nowhere
 -- the first byte is [ and a ] follows
 unfoldable pub unitOf : List ℕ → UnitPlace
 unitOf [] = Nowhere
-unitOf (b ∷ s) = cond (eqb b 91) (closedAt (placeOf 93 s)) Nowhere
+unitOf (b ∷ s) = cond (eqb b (code "[")) (closedAt (placeOf (code "]") s)) Nowhere

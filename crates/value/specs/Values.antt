@@ -1,5 +1,6 @@
 -- The six kinds of value (document 01, "One card"; the standard, 4.2).
 use Prim.Native.Nat.{ℕ}
+use Prim.Native.Char.{code}
 use mathlib.Core.Bool.{Bool, true, false, cond, _&&_, _||_}
 use mathlib.Core.List.{List, [], _∷_}
 use lib.Dec.{eqb}
@@ -25,15 +26,15 @@ use Rattle.value.specs.declared.Start.the-variants.{Quote, Truth, Number
 
 -- a sign, a point or a digit
 unfoldable pub startsNumber : ℕ → Bool
-startsNumber b = eqb b 43 || (eqb b 45 || (eqb b 46 || isDigit b))
+startsNumber b = eqb b (code "+") || (eqb b (code "-") || (eqb b (code ".") || isDigit b))
 
 -- what the first byte says: a quote, T, F, ( or the start of a number
 unfoldable pub startOf : ℕ → Start
 startOf b =
-    cond (eqb b 39) Quote
-    (cond (eqb b 84) (Truth true)
-    (cond (eqb b 70) (Truth false)
-    (cond (eqb b 40) Complex
+    cond (eqb b (code "'")) Quote
+    (cond (eqb b (code "T")) (Truth true)
+    (cond (eqb b (code "F")) (Truth false)
+    (cond (eqb b (code "(")) Complex
     (cond (startsNumber b) Number
     Else))))
 
@@ -49,7 +50,12 @@ keepsComment Invalid = false
 -- a value with its text, and its comment where it keeps one
 abbrev pub valueAs : Value → Text → Bool → Text → ValueRead
 valueAs v text commented comment =
-    record { answer = Read v; text = text; commented = cond (keepsComment v) commented false; comment = cond (keepsComment v) comment (textOf []) }
+    record {
+      answer = Read v;
+      text = text;
+      commented = cond (keepsComment v) commented false;
+      comment = cond (keepsComment v) comment (textOf []);
+    }
 
 abbrev pub valueRefused : Fault → ValueRead
 valueRefused fault = record { answer = Refused fault; text = textOf []; commented = false; comment = textOf [] }
@@ -82,6 +88,7 @@ byBytes (b ∷ s) v raw commented comment = byStart (startOf b) v raw commented 
 unfoldable pub valueWith : Text → List ℕ → Bool → Text → ValueRead
 valueWith v raw commented comment = byBytes (bytesOf v) v raw commented comment
 
+-- by how the raw text splits: a refused split is handed up
 abbrev pub byParts : SplitAnswer → Text → List ℕ → Text → ValueRead
 byParts Bare v raw comment = valueWith v raw false comment
 byParts Commented v raw comment = valueWith v raw true comment

@@ -23,7 +23,9 @@ returns c =
     let s = c .before .before .before .args .s .now in
     let left = c .before .trim-end .result .now in
     let short : length left ≤ size = rw (c .before .trim-end .ensures) (omega (arith, end-shorter isSpace s)) in
-    c .changed-text .ensures ∙ whole-changed shown left short ∙ ap textOf (ap (map shown) (c .before .trim-end .ensures) ∙ sym (end-mapped isSpace isSpace shown space-shown s))
+    c .changed-text .ensures
+    ∙ whole-changed shown left short
+    ∙ ap textOf (ap (map shown) (c .before .trim-end .ensures) ∙ sym (end-mapped isSpace isSpace shown space-shown s))
 
 pub comment-of-spec : {M : Type 1} → statement M
 comment-of-spec = tie.close (tie.spec trim-end-requires changed-text-requires returns)

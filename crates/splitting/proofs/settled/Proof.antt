@@ -14,16 +14,22 @@ use borrow.Author.Needs.{needs}
 use Rattle.splitting.proofs.settled.Statement.{statement}
 use Rattle.splitting.proofs.settled.Tie as tie
 
+-- the text that a test of its length lets pass
+abbrev text : tie.After-trim-end → List ℕ
+text c = c .before .before .before .args .s .now
+
 -- after the cut, the answer is what is left, or a space
-all-of : (c : tie.After-trim-end) → settledOf (c .before .before .before .args .s .now) ≡ orSpace (c .trim-end .result .now)
-all-of c = settled-some (c .before .before .before .args .s .now) (c .before .if1 .left) ∙ ap orSpace (sym (c .trim-end .ensures))
+all-of : (c : tie.After-trim-end) → settledOf (text c) ≡ orSpace (c .trim-end .result .now)
+all-of c = settled-some (text c) (c .before .if1 .left) ∙ ap orSpace (sym (c .trim-end .ensures))
 
 empty-text-requires : tie.Need-empty-text-requires
 empty-text-requires c κs = search needs
 
 returns : tie.Need-returns
 unfolding settledOf
-returns c = c .empty-text .ensures ∙ ap (λ (l : List ℕ). textOf (settledOf l)) (sym (empty (c .before .before .before .args .s .now) (c .before .if1 .taken)))
+returns c =
+    let s = c .before .before .before .args .s .now in
+    c .empty-text .ensures ∙ ap (λ (l : List ℕ). textOf (settledOf l)) (sym (empty s (c .before .if1 .taken)))
 
 trim-end-requires : tie.Need-trim-end-requires
 trim-end-requires c κs = search needs
@@ -37,7 +43,8 @@ text-of-requires c κs = search needs
 returns-2 : tie.Need-returns-2
 returns-2 c =
     let cut = c .before .before .before in
-    c .text-of .ensures ∙ ap textOf (sym (all-of cut ∙ ap orSpace (empty (cut .trim-end .result .now) (c .before .before .if2 .taken))))
+    let none = empty (cut .trim-end .result .now) (c .before .before .if2 .taken) in
+    c .text-of .ensures ∙ ap textOf (sym (all-of cut ∙ ap orSpace none))
 
 text-of-requires-2 : tie.Need-text-of-requires-2
 text-of-requires-2 c κs = search needs
@@ -46,7 +53,7 @@ returns-3 : tie.Need-returns-3
 returns-3 c =
     let cut = c .before .before in
     let left = cut .trim-end .result .now in
-    let short : length left ≤ size = rw (cut .trim-end .ensures) (omega (arith, end-shorter isSpace (cut .before .before .before .args .s .now))) in
+    let short : length left ≤ size = rw (cut .trim-end .ensures) (omega (arith, end-shorter isSpace (text cut))) in
     c .text-of2 .ensures ∙ whole-text left short ∙ ap textOf (sym (all-of cut ∙ kept left (c .before .if2 .left)))
 
 pub settled-spec : {M : Type 1} → statement M

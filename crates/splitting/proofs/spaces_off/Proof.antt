@@ -29,8 +29,11 @@ returns c =
     let at-first = c .before .before in
     let t = at-first .before .before .before .args .t in
     let long : length (t .bytes) ≡ size = search needs in
-    let is : c .before .trimmed .result .now ≡ trim isSpace (bytesOf t) = c .before .trimmed .ensures ∙ ap (trim isSpace) (at-first .first-of .ensures) in
-    c .text-of .ensures ∙ ap (λ l. textOf (take size l)) is ∙ whole-text (trim isSpace (bytesOf t)) (omega (arith, shorter isSpace (bytesOf t), bytes-fit t long))
+    let cut = c .before .trimmed in
+    let is : cut .result .now ≡ trim isSpace (bytesOf t) = cut .ensures ∙ ap (trim isSpace) (at-first .first-of .ensures) in
+    c .text-of .ensures
+    ∙ ap (λ l. textOf (take size l)) is
+    ∙ whole-text (trim isSpace (bytesOf t)) (omega (arith, shorter isSpace (bytesOf t), bytes-fit t long))
 
 pub spaces-off-spec : {M : Type 1} → statement M
 spaces-off-spec =

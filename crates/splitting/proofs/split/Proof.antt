@@ -11,6 +11,7 @@ use Rattle.text.specs.Text.{size, textOf, bytesOf}
 use Rattle.text.proofs.Trimming.{take-rest, shorter}
 use Rattle.splitting.specs.declared.Slash.{Slash}
 use Rattle.splitting.specs.declared.Slash.the-variants.{At, Nowhere, Bad}
+use Rattle.splitting.specs.declared.Scanned.{Scanned}
 use Rattle.splitting.specs.declared.SplitAnswer.the-variants.{Bare, Commented, Refused}
 use Rattle.splitting.specs.Split.{partsAt, splitOf}
 use Rattle.splitting.proofs.Splitting.{Below, scanned-within, split-found}
@@ -25,6 +26,13 @@ given c = drop (c .before .before .before .args .from) (c .before .before .befor
 trims : (c : tie.After-trimmed) → c .trimmed .result .now ≡ trim isBlank (given c)
 trims c = c .trimmed .ensures ∙ ap (trim isBlank) (c .before .rest-of .ensures)
 
+-- the trimmed text, and what its scan gave
+abbrev text : tie.After-scan → List ℕ
+text c = c .before .trimmed .result .now
+
+abbrev scanned : tie.After-scan → Scanned
+scanned c = c .scan .result
+
 -- the trimmed text is short enough
 small : (c : tie.After-trimmed) → length (c .trimmed .result .now) ≤ size
 small c =
@@ -33,21 +41,22 @@ small c =
     rw (trims c) (omega (arith, shorter isBlank (given c), length-drop (c .before .before .before .args .from) card))
 
 -- what was found lies within it
-found : (c : tie.After-scan) → (c .scan .result .value .len ≤ length (c .before .trimmed .result .now)) × Below (length (c .before .trimmed .result .now)) (c .scan .result .slash)
-found c = scanned-within (c .before .trimmed .result .now) (c .scan .result) (c .scan .ensures)
+found : (c : tie.After-scan) → (scanned c .value .len ≤ length (text c)) × Below (length (text c)) (scanned c .slash)
+found c = scanned-within (text c) (scanned c) (c .scan .ensures)
 
 -- the place after the scan that led to an arm
 abbrev scan-at : tie.After-place → tie.After-scan
 scan-at c = c .before .before .before .before .before
 
-below : (c : tie.After-place) → c .place .given .0 .0 < length (scan-at c .before .trimmed .result .now)
+below : (c : tie.After-place) → c .place .given .0 .0 < length (text (scan-at c))
 below c = subst (Below _) (c .place .given .1) (found (scan-at c) .1)
 
 -- the parts at the place that an arm knows are those of the text
-by : (c : tie.After-scan) (p : Slash) → c .scan .result .slash ≡ p → partsAt p (c .before .trimmed .result .now) (bytesOf (c .scan .result .value)) ≡ splitOf (given (c .before))
+by : (c : tie.After-scan) (p : Slash) → scanned c .slash ≡ p
+    → partsAt p (text c) (bytesOf (scanned c .value)) ≡ splitOf (given (c .before))
 by c p e =
-    ap (λ (x : Slash). partsAt x (c .before .trimmed .result .now) (bytesOf (c .scan .result .value))) (sym e)
-    ∙ split-found (given (c .before)) (c .before .trimmed .result .now) (c .scan .result) (trims (c .before)) (c .scan .ensures)
+    ap (λ (x : Slash). partsAt x (text c) (bytesOf (scanned c .value))) (sym e)
+    ∙ split-found (given (c .before)) (text c) (scanned c) (trims (c .before)) (c .scan .ensures)
 
 rest-of-requires : tie.Need-rest-of-requires
 rest-of-requires c κs = search needs
@@ -81,7 +90,7 @@ part-comment-of-end c = search needs
 
 comment-of-requires : tie.Need-comment-of-requires
 comment-of-requires c κs =
-    let s = scan-at (c .before .before) .before .trimmed .result .now in
+    let s = text (scan-at (c .before .before)) in
     let i = c .before .before .place .given .0 .0 in
     rw (take-rest s (i + 1)) (omega (arith, length-drop (i + 1) s, small (scan-at (c .before .before) .before)))
 
@@ -97,24 +106,24 @@ fault-of-requires c κs = search needs
 returns : tie.Need-returns
 returns c =
     let place = c .before .before .before in
-    let s = scan-at place .before .trimmed .result .now in
+    let s = text (scan-at place) in
     let i = place .place .given .0 .0 in
-    (λ j. record {
-      answer = Commented;
-      value = place .before .before .before .spaces-off .ensures j;
-      comment = (c .comment-of .ensures ∙ ap (λ (l : List ℕ). textOf (trimEnd isSpace (map shown l))) (take-rest s (i + 1) ∙ ap (λ (k : ℕ). drop k s) (add-one i))) j;
-    })
+    let behind = take-rest s (i + 1) ∙ ap (λ (k : ℕ). drop k s) (add-one i) in
+    let comment = c .comment-of .ensures ∙ ap (λ (l : List ℕ). textOf (trimEnd isSpace (map shown l))) behind in
+    (λ j. record { answer = Commented; value = place .before .before .before .spaces-off .ensures j; comment = comment j })
     ∙ by (scan-at place) (At i) (place .place .given .1)
 
 returns-2 : tie.Need-returns-2
 returns-2 c =
     let empty = c .before .before in
-    (λ j. record { answer = Bare; value = empty .before .spaces-off .ensures j; comment = empty .empty-text .ensures j }) ∙ by (empty .before .before .before) Nowhere (c .enum-told .given .1)
+    (λ j. record { answer = Bare; value = empty .before .spaces-off .ensures j; comment = empty .empty-text .ensures j })
+    ∙ by (empty .before .before .before) Nowhere (c .enum-told .given .1)
 
 returns-3 : tie.Need-returns-3
 returns-3 c =
     let empty = c .before .before .before in
-    (λ j. record { answer = Refused (c .fault-of .ensures j); value = empty .empty-text .ensures j; comment = empty .empty-text .ensures j })
+    let none = empty .empty-text .ensures in
+    (λ j. record { answer = Refused (c .fault-of .ensures j); value = none j; comment = none j })
     ∙ by (empty .before .before .before) (Bad (c .before .enum-told2 .given .0 .0)) (c .before .enum-told2 .given .1)
 
 pub split-spec : {M : Type 1} → statement M

@@ -20,7 +20,9 @@ empty-text-requires c κs = search needs
 
 returns : tie.Need-returns
 unfolding stringOf settledOf
-returns c = ap a-string (c .empty-text .ensures) ∙ ap stringOf (sym (empty (c .before .before .before .args .s .now) (c .before .if1 .taken)))
+returns c =
+    let s = c .before .before .before .args .s .now in
+    ap a-string (c .empty-text .ensures) ∙ ap stringOf (sym (empty s (c .before .if1 .taken)))
 
 shared-slice-read-if2 : tie.Need-shared-slice-read-if2
 shared-slice-read-if2 c = search needs
@@ -35,7 +37,9 @@ returns-2 : tie.Need-returns-2
 returns-2 c =
     let quote = c .before .before .before in
     let s = quote .before .before .before .before .args .s .now in
-    c .refused .ensures ∙ ap stringRefused (c .before .fault-of .ensures) ∙ sym (lone s (c .before .before .if3 .taken) (quote .if2 .taken))
+    c .refused .ensures
+    ∙ ap stringRefused (c .before .fault-of .ensures)
+    ∙ sym (lone s (c .before .before .if3 .taken) (quote .if2 .taken))
 
 sub-if4 : tie.Need-sub-if4
 sub-if4 c = search needs
@@ -63,7 +67,8 @@ returns-3 c =
     let last = c .before .before in
     let quote = last .before .before .before in
     let s = quote .before .before .before .before .args .s .now in
-    ap a-string (c .settled .ensures) ∙ sym (quoted s (quote .before .before .if1 .left) (last .before .before .if3 .left) (quote .if2 .taken) (last .if4 .taken))
+    ap a-string (c .settled .ensures)
+    ∙ sym (quoted s (quote .before .before .if1 .left) (last .before .before .if3 .left) (quote .if2 .taken) (last .if4 .taken))
 
 fault-of-requires-2 : tie.Need-fault-of-requires-2
 fault-of-requires-2 c κs = search needs
@@ -76,7 +81,9 @@ returns-4 c =
     let last = c .before .before in
     let quote = last .before .before .before in
     let s = quote .before .before .before .before .args .s .now in
-    c .refused2 .ensures ∙ ap stringRefused (c .before .fault-of2 .ensures) ∙ sym (unclosed s (quote .before .before .if1 .left) (last .before .before .if3 .left) (quote .if2 .taken) (last .if4 .left))
+    c .refused2 .ensures
+    ∙ ap stringRefused (c .before .fault-of2 .ensures)
+    ∙ sym (unclosed s (quote .before .before .if1 .left) (last .before .before .if3 .left) (quote .if2 .taken) (last .if4 .left))
 
 sub-if5 : tie.Need-sub-if5
 sub-if5 c = search needs
@@ -94,7 +101,9 @@ returns-5 : tie.Need-returns-5
 returns-5 c =
     let bare = c .before .before .before .before in
     let s = bare .before .before .before .before .args .s .now in
-    c .refused3 .ensures ∙ ap stringRefused (c .before .fault-of3 .ensures) ∙ sym (unopened-quote s (bare .before .before .if1 .left) (bare .if2 .left) (c .before .before .if5 .taken))
+    c .refused3 .ensures
+    ∙ ap stringRefused (c .before .fault-of3 .ensures)
+    ∙ sym (unopened-quote s (bare .before .before .if1 .left) (bare .if2 .left) (c .before .before .if5 .taken))
 
 settled-requires-2 : tie.Need-settled-requires-2
 settled-requires-2 c κs = search needs
@@ -103,7 +112,8 @@ returns-6 : tie.Need-returns-6
 returns-6 c =
     let bare = c .before .before .before in
     let s = bare .before .before .before .before .args .s .now in
-    ap a-string (c .settled2 .ensures) ∙ sym (plain-text s (bare .before .before .if1 .left) (bare .if2 .left) (c .before .if5 .left))
+    ap a-string (c .settled2 .ensures)
+    ∙ sym (plain-text s (bare .before .before .if1 .left) (bare .if2 .left) (c .before .if5 .left))
 
 pub unquoted-spec : {M : Type 1} → statement M
 unquoted-spec =

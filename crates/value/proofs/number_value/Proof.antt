@@ -17,7 +17,8 @@ unfolding ofNumber
 returns c =
     let at-number = c .before .before in
     let a = at-number .before .args in
-    c .read-as .ensures ∙ ap (λ (r : Number). valueAs (r .value) (r .text) (a .commented) (a .comment)) (at-number .parse-number .ensures)
+    c .read-as .ensures
+    ∙ ap (λ (r : Number). valueAs (r .value) (r .text) (a .commented) (a .comment)) (at-number .parse-number .ensures)
 
 pub number-value-spec : {M : Type 1} → statement M
 number-value-spec = tie.close (tie.spec parse-number-requires read-as-requires returns)

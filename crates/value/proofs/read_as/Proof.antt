@@ -20,9 +20,10 @@ empty-text-requires c κs = search needs
 
 returns-2 : tie.Need-returns-2
 returns-2 c =
-    let a = c .before .before .before .args in
+    let test = c .before .before in
+    let a = test .before .args in
     (λ j. record { answer = Read (a .value); text = a .text; commented = false; comment = c .empty-text .ensures j })
-    ∙ comment-dropped (a .value) (a .text) (a .commented) (a .comment) (sym (c .before .before .keeps-comment .ensures) ∙ c .before .if1 .left)
+    ∙ comment-dropped (a .value) (a .text) (a .commented) (a .comment) (sym (test .keeps-comment .ensures) ∙ c .before .if1 .left)
 
 pub read-as-spec : {M : Type 1} → statement M
 read-as-spec = tie.close (tie.spec keeps-comment-requires returns empty-text-requires returns-2)

@@ -29,11 +29,14 @@ fits c =
     let short : length (raw c) ≤ size = omega (arith, length-drop (a .from) (a .card .now)) in
     (rw (c .before .before .before .before .split .ensures) (value-fits (raw c) short), rw (c .rest-of .ensures) short)
 
-raw-is : (c : tie.After-rest-of) (commented : Bool) → valueWith (halves c .value) (c .rest-of .result .now) commented (halves c .comment) ≡ valueWith (halves c .value) (raw c) commented (halves c .comment)
+raw-is : (c : tie.After-rest-of) (commented : Bool)
+    → let h = halves c in
+    valueWith (h .value) (c .rest-of .result .now) commented (h .comment) ≡ valueWith (h .value) (raw c) commented (h .comment)
 raw-is c commented = ap (λ (l : List ℕ). valueWith (halves c .value) l commented (halves c .comment)) (c .rest-of .ensures)
 
 -- the case that an arm knows is the whole
-by : (c : tie.After-rest-of) (p : SplitAnswer) → halves c .answer ≡ p → byParts p (halves c .value) (raw c) (halves c .comment) ≡ valueOf (raw c)
+by : (c : tie.After-rest-of) (p : SplitAnswer) → halves c .answer ≡ p
+    → byParts p (halves c .value) (raw c) (halves c .comment) ≡ valueOf (raw c)
 unfolding valueOf
 by c p e =
     ap (λ (x : SplitAnswer). byParts x (halves c .value) (raw c) (halves c .comment)) (sym e)
@@ -64,10 +67,16 @@ refused-requires : tie.Need-refused-requires
 refused-requires c κs = search needs
 
 returns : tie.Need-returns
-returns c = c .value-with .ensures ∙ raw-is (c .before .before .before) false ∙ by (c .before .before .before) Bare (c .before .enum-told .given .1)
+returns c =
+    let told = c .before in
+    let split = told .before .before in
+    c .value-with .ensures ∙ raw-is split false ∙ by split Bare (told .enum-told .given .1)
 
 returns-2 : tie.Need-returns-2
-returns-2 c = c .value-with2 .ensures ∙ raw-is (c .before .before .before) true ∙ by (c .before .before .before) Commented (c .before .enum-told2 .given .1)
+returns-2 c =
+    let told = c .before in
+    let split = told .before .before in
+    c .value-with2 .ensures ∙ raw-is split true ∙ by split Commented (told .enum-told2 .given .1)
 
 returns-3 : tie.Need-returns-3
 returns-3 c =

@@ -12,7 +12,13 @@ empty-text-requires-2 : tie.Need-empty-text-requires-2
 empty-text-requires-2 c κs = search needs
 
 returns : tie.Need-returns
-returns c = λ j. record { answer = Refused (c .before .before .args .fault); text = c .before .empty-text .ensures j; commented = false; comment = c .empty-text2 .ensures j }
+returns c =
+    λ j. record {
+      answer = Refused (c .before .before .args .fault);
+      text = c .before .empty-text .ensures j;
+      commented = false;
+      comment = c .empty-text2 .ensures j;
+    }
 
 pub refused-spec : {M : Type 1} → statement M
 refused-spec = tie.close (tie.spec empty-text-requires empty-text-requires-2 returns)

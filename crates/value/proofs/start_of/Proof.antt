@@ -15,7 +15,9 @@ returns-3 : tie.Need-returns-3
 returns-3 c = start-false (c .before .before .if1 .left) (c .before .if2 .left) (c .if3 .taken)
 
 returns-4 : tie.Need-returns-4
-returns-4 c = start-complex (c .before .before .before .if1 .left) (c .before .before .if2 .left) (c .before .if3 .left) (c .if4 .taken)
+returns-4 c =
+    let second = c .before .before in
+    start-complex (second .before .if1 .left) (second .if2 .left) (c .before .if3 .left) (c .if4 .taken)
 
 starts-number-requires : tie.Need-starts-number-requires
 starts-number-requires c κs = search needs
@@ -23,12 +25,16 @@ starts-number-requires c κs = search needs
 returns-5 : tie.Need-returns-5
 returns-5 c =
     let last = c .before .before in
-    start-number (last .before .before .before .if1 .left) (last .before .before .if2 .left) (last .before .if3 .left) (last .if4 .left) (sym (c .before .starts-number .ensures) ∙ c .if5 .taken)
+    let second = last .before .before in
+    start-number (second .before .if1 .left) (second .if2 .left) (last .before .if3 .left) (last .if4 .left)
+    (sym (c .before .starts-number .ensures) ∙ c .if5 .taken)
 
 returns-6 : tie.Need-returns-6
 returns-6 c =
     let last = c .before .before in
-    start-else (last .before .before .before .if1 .left) (last .before .before .if2 .left) (last .before .if3 .left) (last .if4 .left) (sym (c .before .starts-number .ensures) ∙ c .if5 .left)
+    let second = last .before .before in
+    start-else (second .before .if1 .left) (second .if2 .left) (last .before .if3 .left) (last .if4 .left)
+    (sym (c .before .starts-number .ensures) ∙ c .if5 .left)
 
 pub start-of-spec : {M : Type 1} → statement M
 start-of-spec =

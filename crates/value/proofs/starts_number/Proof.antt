@@ -18,7 +18,9 @@ is-digit-requires : tie.Need-is-digit-requires
 is-digit-requires c κs = search needs
 
 returns-4 : tie.Need-returns-4
-returns-4 c = c .is-digit .ensures ∙ digit-starts (c .before .before .before .if1 .left) (c .before .before .if2 .left) (c .before .if3 .left)
+returns-4 c =
+    let third = c .before in
+    c .is-digit .ensures ∙ digit-starts (third .before .before .if1 .left) (third .before .if2 .left) (third .if3 .left)
 
 pub starts-number-spec : {M : Type 1} → statement M
 starts-number-spec = tie.close (tie.spec returns returns-2 returns-3 is-digit-requires returns-4)

@@ -10,7 +10,8 @@ use Rattle.value.proofs.string_value.Tie as tie
 
 -- the case that an arm knows is the whole
 by : (c : tie.After-parse-string) (q : Quoted) → c .parse-string .result .answer ≡ q
-    → byQuotes q (c .parse-string .result .text) (c .before .args .commented) (c .before .args .comment) ≡ ofString (c .before .args .v) (c .before .args .commented) (c .before .args .comment)
+    → let a = c .before .args in
+    byQuotes q (c .parse-string .result .text) (a .commented) (a .comment) ≡ ofString (a .v) (a .commented) (a .comment)
 unfolding ofString
 by c q e =
     let a = c .before .args in

@@ -1,5 +1,6 @@
 -- `value::unit` meets its contract: by the first byte, and by where the closing bracket stands.
 use Prim.Native.Nat.{ℕ}
+use Prim.Native.Char.{code}
 use native.Mathlib.Omega.{arith}
 use mathlib.Core.Path.{_≡_, sym, ap, _∙_}
 use mathlib.Core.List.{List}
@@ -18,8 +19,8 @@ use Rattle.value.proofs.unit.Tie as tie
 abbrev comment : tie.After-find-byte → List ℕ
 comment c = c .before .before .before .before .before .before .args .comment .now
 
-found : (c : tie.After-find-byte) → c .find-byte .result ≡ placeOf 93 (drop 1 (comment c))
-found c = c .find-byte .ensures ∙ ap (placeOf 93) (take-rest (comment c) 1)
+found : (c : tie.After-find-byte) → c .find-byte .result ≡ placeOf (code "]") (drop 1 (comment c))
+found c = c .find-byte .ensures ∙ ap (placeOf (code "]")) (take-rest (comment c) 1)
 
 -- the place that an arm knows gives the unit
 by : (c : tie.After-find-byte) (p : Place) → c .find-byte .result ≡ p → unitOf (comment c) ≡ closedAt p
@@ -63,7 +64,8 @@ add-t3 : tie.Need-add-t3
 add-t3 c =
     let find = c .before .before .before in
     let s = comment find in
-    omega (arith, found-within 93 (drop 1 s) (c .before .i .given .0 .0) (sym (found find) ∙ c .before .i .given .1), length-drop 1 s)
+    let place = c .before .i .given in
+    omega (arith, found-within (code "]") (drop 1 s) (place .0 .0) (sym (found find) ∙ place .1), length-drop 1 s)
 
 returns-4 : tie.Need-returns-4
 returns-4 c = sym (by (c .before .before .before) (At (c .before .i .given .0 .0)) (c .before .i .given .1))

@@ -15,12 +15,16 @@ use borrow.Author.Needs.{needs}
 use Rattle.value.proofs.value_with.Statement.{statement}
 use Rattle.value.proofs.value_with.Tie as tie
 
+-- the arguments, at the place after the test of the first byte
+abbrev began : tie.After-start-of → tie.Start
+began c = c .before .before .before .before .before
+
 -- the reading by the first byte that an arm knows is that of the whole
 chosen : (c : tie.After-start-of) (k : Start) → c .start-of .result ≡ k
-    → let a = c .before .before .before .before .before .args in
+    → let a = began c .args in
     byStart k (a .v) (a .raw .now) (a .commented) (a .comment) ≡ valueWith (a .v) (a .raw .now) (a .commented) (a .comment)
 chosen c k e =
-    let a = c .before .before .before .before .before .args in
+    let a = began c .args in
     let long : length (a .v .bytes) ≡ size = search needs in
     ap (λ (x : Start). byStart x (a .v) (a .raw .now) (a .commented) (a .comment)) (sym e ∙ c .start-of .ensures)
     ∙ with-some (a .v) (a .raw .now) (a .commented) (a .comment) (c .before .if1 .left) (omega arith)
@@ -35,7 +39,9 @@ returns : tie.Need-returns
 returns c =
     let empty = c .before .before in
     let a = empty .before .before .before .args in
-    c .read-as .ensures ∙ ap (λ (t : Text). valueAs Undefined t (a .commented) (a .comment)) (empty .empty-text .ensures) ∙ with-none (a .v) (a .raw .now) (a .commented) (a .comment) (c .before .if1 .taken)
+    c .read-as .ensures
+    ∙ ap (λ (t : Text). valueAs Undefined t (a .commented) (a .comment)) (empty .empty-text .ensures)
+    ∙ with-none (a .v) (a .raw .now) (a .commented) (a .comment) (c .before .if1 .taken)
 
 array-read-start-of : tie.Need-array-read-start-of
 array-read-start-of c = search needs
@@ -86,8 +92,11 @@ returns-3 : tie.Need-returns-3
 returns-3 c =
     let at-t = c .before .before in
     let start = at-t .before .before in
-    let a = start .before .before .before .before .before .args in
-    c .read-as2 .ensures ∙ ap (λ (t : Text). valueAs (Logical (at-t .t .given .0 .0)) t (a .commented) (a .comment)) (start .before .before .empty-text .ensures) ∙ chosen start (Truth (at-t .t .given .0 .0)) (at-t .t .given .1)
+    let a = began start .args in
+    let truth = at-t .t .given .0 .0 in
+    c .read-as2 .ensures
+    ∙ ap (λ (t : Text). valueAs (Logical truth) t (a .commented) (a .comment)) (start .before .before .empty-text .ensures)
+    ∙ chosen start (Truth truth) (at-t .t .given .1)
 
 returns-4 : tie.Need-returns-4
 returns-4 c = c .number-value .ensures ∙ chosen (c .before .before .before) Number (c .before .enum-told2 .given .1)
@@ -95,15 +104,18 @@ returns-4 c = c .number-value .ensures ∙ chosen (c .before .before .before) Nu
 returns-5 : tie.Need-returns-5
 returns-5 c =
     let told = c .before .before in
-    c .refused .ensures ∙ ap valueRefused (c .before .fault-of .ensures) ∙ chosen (told .before .before) Complex (told .enum-told3 .given .1)
+    c .refused .ensures
+    ∙ ap valueRefused (c .before .fault-of .ensures)
+    ∙ chosen (told .before .before) Complex (told .enum-told3 .given .1)
 
 returns-6 : tie.Need-returns-6
 returns-6 c =
     let told = c .before .before in
     let start = told .before .before in
-    let a = start .before .before .before .before .before .args in
+    let a = began start .args in
+    let raw = c .before .text-of .ensures ∙ whole-text (a .raw .now) (began start .pre .1) in
     c .read-as3 .ensures
-    ∙ ap (λ (t : Text). valueAs Invalid t (a .commented) (a .comment)) (c .before .text-of .ensures ∙ whole-text (a .raw .now) (start .before .before .before .before .before .pre .1))
+    ∙ ap (λ (t : Text). valueAs Invalid t (a .commented) (a .comment)) raw
     ∙ chosen start Else (told .enum-told4 .given .1)
 
 pub value-with-spec : {M : Type 1} → statement M
