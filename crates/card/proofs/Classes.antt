@@ -1,5 +1,6 @@
 -- What a keyword says, by the tests of the code, and texts of cards.
 use Prim.Native.Nat.{ℕ, zero, suc, _-_, _<_, _≤_}
+use Prim.Native.Char.{code}
 use native.Mathlib.Omega.{arith}
 use mathlib.Core.Path.{_≡_, refl, sym, ap, _∙_}
 use mathlib.Core.Bool.{Bool, true, false, cond, true≢false, _&&_}
@@ -7,73 +8,70 @@ use mathlib.Core.List.{List, [], _∷_, map}
 use borrow.Author.Tests.{eq-eqb, ne-eqb, le-leb, lt-leb, eqb-true, leb-true}
 use lib.Dec.{eqb, leb}
 use lib.ListN.{length, getD, take, drop}
+use Rattle.laws.proofs.Truths.{and-both}
 use Rattle.text.specs.Bytes.{ascii, isSpace, isBlank, isPrintable, shown}
 use Rattle.text.specs.Same.{same}
+use Rattle.text.specs.Ends.{endsWith}
+use Rattle.splitting.proofs.Stringing.{Opens, Closes}
 use Rattle.card.specs.declared.Class.{Class}
 use Rattle.card.specs.declared.Class.the-variants.{Empty, Comment, History, Continue, Xtension, Hierarch, End, Other}
 use Rattle.card.specs.Keywords.{classOf}
 use Rattle.card.specs.Cards.{isWithinQuotes}
 
-same-none : (k : List ℕ) → (length k ≡ 0 → ⊥) → same k [] ≡ false
-unfolding same
-same-none [] h = absurd (h refl)
-same-none (b ∷ k) h = refl
+-- ---- keywords: a class is the first whose word the keyword is
 
--- ---- keywords
+-- the classes from a word on
+abbrev pub fromEnd : List ℕ → Class
+fromEnd k = cond (same k (ascii "END")) End Other
+
+abbrev pub fromHierarch : List ℕ → Class
+fromHierarch k = cond (same k (ascii "HIERARCH")) Hierarch (fromEnd k)
+
+abbrev pub fromXtension : List ℕ → Class
+fromXtension k = cond (same k (ascii "XTENSION")) Xtension (fromHierarch k)
+
+abbrev pub fromContinue : List ℕ → Class
+fromContinue k = cond (same k (ascii "CONTINUE")) Continue (fromXtension k)
+
+abbrev pub fromHistory : List ℕ → Class
+fromHistory k = cond (same k (ascii "HISTORY")) History (fromContinue k)
+
+abbrev pub fromComment : List ℕ → Class
+fromComment k = cond (same k (ascii "COMMENT")) Comment (fromHistory k)
+
 pub class-empty : (k : List ℕ) → length k ≡ 0 → Empty ≡ classOf k
 unfolding classOf same
 class-empty [] h = refl
 class-empty (b ∷ k) h = absurd (omega arith)
 
-module _ (k : List ℕ) (some : length k ≡ 0 → ⊥) where
-  pub class-comment : same k (ascii "COMMENT") ≡ true → Comment ≡ classOf k
-  unfolding classOf
-  class-comment e = rw (same-none k some, e)
+pub class-some : (k : List ℕ) → (length k ≡ 0 → ⊥) → fromComment k ≡ classOf k
+unfolding classOf same
+class-some [] h = absurd (h refl)
+class-some (b ∷ k) h = refl
 
-  module _ (c : same k (ascii "COMMENT") ≡ false) where
-    pub class-history : same k (ascii "HISTORY") ≡ true → History ≡ classOf k
-    unfolding classOf
-    class-history e = rw (same-none k some, c, e)
+-- the keyword is a class's word, or it is another
+module _ (x y : Class) {t : Bool} where
+  pub is-word : t ≡ true → x ≡ cond t x y
+  is-word e = rw e
 
-    module _ (h : same k (ascii "HISTORY") ≡ false) where
-      pub class-continue : same k (ascii "CONTINUE") ≡ true → Continue ≡ classOf k
-      unfolding classOf
-      class-continue e = rw (same-none k some, c, h, e)
-
-      module _ (m : same k (ascii "CONTINUE") ≡ false) where
-        pub class-extension : same k (ascii "XTENSION") ≡ true → Xtension ≡ classOf k
-        unfolding classOf
-        class-extension e = rw (same-none k some, c, h, m, e)
-
-        module _ (x : same k (ascii "XTENSION") ≡ false) where
-          pub class-hierarch : same k (ascii "HIERARCH") ≡ true → Hierarch ≡ classOf k
-          unfolding classOf
-          class-hierarch e = rw (same-none k some, c, h, m, x, e)
-
-          module _ (r : same k (ascii "HIERARCH") ≡ false) where
-            pub class-end : same k (ascii "END") ≡ true → End ≡ classOf k
-            unfolding classOf
-            class-end e = rw (same-none k some, c, h, m, x, r, e)
-
-            pub class-other : same k (ascii "END") ≡ false → Other ≡ classOf k
-            unfolding classOf
-            class-other e = rw (same-none k some, c, h, m, x, r, e)
+  pub is-other : t ≡ false → y ≡ cond t x y
+  is-other e = rw e
 
 -- ---- after the replacing only spaces are blank
 pub blank-shown : (b : ℕ) → isBlank (shown b) ≡ isSpace b
 unfolding shown isSpace isBlank isPrintable
-blank-shown b = go (isPrintable b) refl (eqb b 32) refl
+blank-shown b = go (isPrintable b) refl (eqb b (code " ")) refl
   where
-    and-left : (u v : Bool) → (u && v) ≡ true → u ≡ true
-    and-left true v e = refl
-    and-left false v e = absurd (true≢false (sym e))
+    -- a control byte is below the space
+    control : (m : ℕ) → m < 32 → 32 ≤ b → eqb b m ≡ false
+    control m h least = ne-eqb b m (λ x. let y : b ≡ m = x in omega arith)
 
-    go : (t : Bool) → isPrintable b ≡ t → (u : Bool) → eqb b 32 ≡ u → isBlank (cond (isPrintable b) b 127) ≡ eqb b 32
+    go : (t : Bool) → isPrintable b ≡ t → (u : Bool) → eqb b (code " ") ≡ u → isBlank (cond (isPrintable b) b 127) ≡ eqb b (code " ")
     go true e true d = rw (e, d)
     go true e false d =
-        let least : 32 ≤ b = leb-true 32 b (and-left (leb 32 b) (leb b 126) e) in
-        rw (e, d, ne-eqb b 9 (λ x. let y : b ≡ 9 = x in omega arith), ne-eqb b 10 (λ x. let y : b ≡ 10 = x in omega arith), ne-eqb b 12 (λ x. let y : b ≡ 12 = x in omega arith), ne-eqb b 13 (λ x. let y : b ≡ 13 = x in omega arith))
-    go false e true d = absurd (true≢false (rw (eqb-true b 32 d) at e))
+        let least : 32 ≤ b = leb-true 32 b (and-both (leb 32 b) (leb b 126) e .0) in
+        rw (e, d, control 9 (omega arith) least, control 10 (omega arith) least, control 12 (omega arith) least, control 13 (omega arith) least)
+    go false e true d = absurd (true≢false (rw (eqb-true b (code " ") d) at e))
     go false e false d = rw (e, d)
 
 -- ---- within quotes
@@ -83,14 +81,14 @@ module _ (s : List ℕ) where
   too-short h = rw (lt-leb 2 (length s) h)
 
   module _ (long : 2 ≤ length s) where
-    pub unopened : (getD s 0 0 ≡ 39 → ⊥) → isWithinQuotes s ≡ false
+    pub unopened : (Opens s → ⊥) → isWithinQuotes s ≡ false
     unfolding isWithinQuotes
-    unopened e = rw (le-leb 2 (length s) long, ne-eqb _ 39 e)
+    unopened e = rw (le-leb 2 (length s) long, ne-eqb _ (code "'") e)
 
-    pub unclosed : getD s 0 0 ≡ 39 → (getD s (length s - 1) 0 ≡ 39 → ⊥) → isWithinQuotes s ≡ false
-    unfolding isWithinQuotes
-    unclosed e d = rw (le-leb 2 (length s) long, eq-eqb _ 39 e, ne-eqb _ 39 d)
+    pub unclosed : Opens s → (Closes s → ⊥) → isWithinQuotes s ≡ false
+    unfolding isWithinQuotes endsWith
+    unclosed e d = rw (le-leb 2 (length s) long, eq-eqb _ (code "'") e, ne-eqb _ (code "'") d)
 
-    pub quoted : getD s 0 0 ≡ 39 → getD s (length s - 1) 0 ≡ 39 → isWithinQuotes s ≡ true
-    unfolding isWithinQuotes
-    quoted e d = rw (le-leb 2 (length s) long, eq-eqb _ 39 e, eq-eqb _ 39 d)
+    pub quoted : Opens s → Closes s → isWithinQuotes s ≡ true
+    unfolding isWithinQuotes endsWith
+    quoted e d = rw (le-leb 2 (length s) long, eq-eqb _ (code "'") e, eq-eqb _ (code "'") d)

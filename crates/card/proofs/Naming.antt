@@ -1,5 +1,6 @@
 -- The name of a HIERARCH card, a byte at a time.
 use Prim.Native.Nat.{ℕ, zero, suc, _+_, _<_, _≤_}
+use Prim.Native.Char.{code}
 use native.Mathlib.Omega.{arith}
 use mathlib.Core.Path.{_≡_, refl, sym, ap, subst, _∙_}
 use mathlib.Core.Bool.{Bool, true, false, cond, true≢false}
@@ -12,7 +13,7 @@ use Rattle.text.specs.Bytes.{isBlank}
 use Rattle.text.specs.Text.{size, padded, textOf}
 use Rattle.text.proofs.Trimming.{at-next}
 use Rattle.text.proofs.Texts.{padded-put, length-put}
-use Rattle.card.specs.Keywords.{onto, pieces, stopAnd, joinPieces, dottedName}
+use Rattle.card.specs.Keywords.{onto, namePieces, stopAnd, joinPieces, dottedName}
 
 -- what follows within a piece: the rest of it, and the pieces after it
 abbrev onward : List (List ℕ) → List ℕ
@@ -21,9 +22,9 @@ onward (p ∷ ps) = p ++ stopAnd (joinPieces ps)
 
 -- what is still to be put, where n bytes were put and a gap follows them or not
 abbrev rest : Bool → ℕ → List ℕ → List ℕ
-rest true n s = stopAnd (joinPieces (pieces s))
-rest false zero s = joinPieces (pieces s)
-rest false (suc n) s = onward (pieces s)
+rest true n s = stopAnd (joinPieces (namePieces s))
+rest false zero s = joinPieces (namePieces s)
+rest false (suc n) s = onward (namePieces s)
 
 -- ---- one byte
 join-onto : (b : ℕ) (ps : List (List ℕ)) → joinPieces (onto b ps) ≡ b ∷ onward ps
@@ -39,21 +40,21 @@ onward-onto b (p ∷ ps) = refl
 module _ (b : ℕ) (s : List ℕ) where
   -- a blank opens a gap behind what was put
   blank-next : (gap : Bool) (n : ℕ) → (gap ≡ true → 0 < n) → isBlank b ≡ true → rest (ltb 0 n) n s ≡ rest gap n (b ∷ s)
-  unfolding pieces joinPieces
+  unfolding namePieces joinPieces
   blank-next true zero some e = absurd (let h : 0 < 0 = some refl in omega arith)
   blank-next true (suc n) some e = rw (lt-ltb 0 (suc n) (omega arith), e)
   blank-next false zero some e = rw e
   blank-next false (suc n) some e = rw (lt-ltb 0 (suc n) (omega arith), e)
 
   -- any other byte is put, behind a full stop where there is a gap
-  stop-next : (n : ℕ) → isBlank b ≡ false → rest true n (b ∷ s) ≡ 46 ∷ b ∷ onward (pieces s)
-  unfolding pieces
-  stop-next n e = rw (e, join-onto b (pieces s))
+  stop-next : (n : ℕ) → isBlank b ≡ false → rest true n (b ∷ s) ≡ code "." ∷ b ∷ onward (namePieces s)
+  unfolding namePieces
+  stop-next n e = rw (e, join-onto b (namePieces s))
 
-  plain-next : (n : ℕ) → isBlank b ≡ false → rest false n (b ∷ s) ≡ b ∷ onward (pieces s)
-  unfolding pieces
-  plain-next zero e = rw (e, join-onto b (pieces s))
-  plain-next (suc n) e = rw (e, onward-onto b (pieces s))
+  plain-next : (n : ℕ) → isBlank b ≡ false → rest false n (b ∷ s) ≡ b ∷ onward (namePieces s)
+  unfolding namePieces
+  plain-next zero e = rw (e, join-onto b (namePieces s))
+  plain-next (suc n) e = rw (e, onward-onto b (namePieces s))
 
 abbrev spare : Bool → ℕ
 spare true = 1
@@ -71,13 +72,15 @@ pub record Named (s bytes : List ℕ) (n : ℕ) (gap : Bool) (i : ℕ) : Type 0 
 
 pub start : (s bytes : List ℕ) → bytes ≡ padded size [] → Named s bytes 0 false 0
 start s bytes e =
-    record { v = []; within = omega arith; fewer = omega arith; some = λ u. absurd (true≢false (sym u)); held = e; count = refl; left = refl }
+    let none : false ≡ true → 0 < 0 = λ u. absurd (true≢false (sym u)) in
+    record { v = []; within = omega arith; fewer = omega arith; some = none; held = e; count = refl; left = refl }
 
 module _ {s bytes : List ℕ} {n : ℕ} {gap : Bool} {i : ℕ} (N : Named s bytes n gap i) where
   pub at-end : length s ≤ i → _≡_ {A = Text} (record { bytes = bytes; len = n }) (textOf (dottedName s))
-  unfolding pieces joinPieces
+  unfolding namePieces joinPieces
   at-end h =
-      let all : N .v ≡ dottedName s = sym (nothing gap n) ∙ ap (λ (t : List ℕ). N .v ++ rest gap n t) (sym (drop-of-length-le s h)) ∙ N .left in
+      let ends = sym (drop-of-length-le s h) in
+      let all : N .v ≡ dottedName s = sym (nothing gap n) ∙ ap (λ (t : List ℕ). N .v ++ rest gap n t) ends ∙ N .left in
       (λ j. record { bytes = N .held j; len = N .count j }) ∙ ap textOf all
     where
       nothing : (gap : Bool) (n : ℕ) → N .v ++ rest gap n [] ≡ N .v
@@ -93,6 +96,14 @@ module _ {s bytes : List ℕ} {n : ℕ} {gap : Bool} {i : ℕ} (N : Named s byte
   room-one = omega (arith, N .count, N .fewer)
 
   module _ (more : i < length s) where
+    -- what follows the byte at i within its piece
+    abbrev later : List ℕ
+    later = onward (namePieces (drop (i + 1) s))
+
+    -- what is still to be put at i, by whether a gap stands there
+    abbrev behind : Bool → List ℕ
+    behind x = rest x n (getD s i 0 ∷ drop (i + 1) s)
+
     next : rest gap n (drop i s) ≡ rest gap n (getD s i 0 ∷ drop (i + 1) s)
     next = ap (rest gap n) (at-next s i more)
 
@@ -112,32 +123,36 @@ module _ {s bytes : List ℕ} {n : ℕ} {gap : Bool} {i : ℕ} (N : Named s byte
         spared true = omega (arith, N .fewer)
         spared false = omega (arith, N .fewer)
 
-    pub on-stop : gap ≡ true → isBlank (getD s i 0) ≡ false → length s ≤ size → Named s (set (set bytes n 46) (n + 1) (getD s i 0)) (n + 2) false (i + 1)
+    pub on-stop : gap ≡ true → isBlank (getD s i 0) ≡ false → length s ≤ size
+        → Named s (set (set bytes n (code ".")) (n + 1) (getD s i 0)) (n + 2) false (i + 1)
     on-stop g e small =
         let b = getD s i 0 in
-        let w = N .v ++ 46 ∷ [] in
+        let w = N .v ++ code "." ∷ [] in
         let here : length (N .v) + 1 ≤ i = subst (λ (x : Bool). length (N .v) + spare x ≤ i) g (N .fewer) in
-        let long : length w ≡ length (N .v) + 1 = length-put (N .v) 46 in
+        let long : length w ≡ length (N .v) + 1 = length-put (N .v) (code ".") in
         let longer : length (w ++ b ∷ []) ≡ length w + 1 = length-put w b in
         let at-n : n + 1 ≡ length w = omega (arith, N .count) in
-        let stopped : set bytes n 46 ≡ padded size w = rw (N .held, N .count) (padded-put size (N .v) 46 (omega arith)) in
+        let stopped : set bytes n (code ".") ≡ padded size w = rw (N .held, N .count) (padded-put size (N .v) (code ".") (omega arith)) in
         record {
           v = w ++ b ∷ [];
           within = omega arith;
           fewer = omega arith;
           some = λ u. absurd (true≢false (sym u));
           held =
-              ap (λ (k : ℕ). set (set bytes n 46) k b) at-n ∙ ap (λ (l : List ℕ). set l (length w) b) stopped ∙ padded-put size w b (omega arith);
+              ap (λ (k : ℕ). set (set bytes n (code ".")) k b) at-n
+              ∙ ap (λ (l : List ℕ). set l (length w) b) stopped
+              ∙ padded-put size w b (omega arith);
           count = omega (arith, N .count);
           left =
               ap (λ (k : ℕ). (w ++ b ∷ []) ++ rest false k (drop (i + 1) s)) (let k : n + 2 ≡ suc (n + 1) = omega arith in k)
-              ∙ append-assoc w (b ∷ []) (onward (pieces (drop (i + 1) s)))
-              ∙ append-assoc (N .v) (46 ∷ []) (b ∷ onward (pieces (drop (i + 1) s)))
-              ∙ ap (λ (t : List ℕ). N .v ++ t) (sym (next ∙ ap (λ (x : Bool). rest x n (b ∷ drop (i + 1) s)) g ∙ stop-next b (drop (i + 1) s) n e))
+              ∙ append-assoc w (b ∷ []) later
+              ∙ append-assoc (N .v) (code "." ∷ []) (b ∷ later)
+              ∙ ap (λ (t : List ℕ). N .v ++ t) (sym (next ∙ ap behind g ∙ stop-next b (drop (i + 1) s) n e))
               ∙ N .left;
         }
 
-    pub on-plain : gap ≡ false → isBlank (getD s i 0) ≡ false → length s ≤ size → Named s (set bytes n (getD s i 0)) (n + 1) gap (i + 1)
+    pub on-plain : gap ≡ false → isBlank (getD s i 0) ≡ false → length s ≤ size
+        → Named s (set bytes n (getD s i 0)) (n + 1) gap (i + 1)
     on-plain g e small =
         let b = getD s i 0 in
         let long : length (N .v ++ b ∷ []) ≡ length (N .v) + 1 = length-put (N .v) b in
@@ -151,7 +166,7 @@ module _ {s bytes : List ℕ} {n : ℕ} {gap : Bool} {i : ℕ} (N : Named s byte
           count = omega (arith, N .count);
           left =
               ap (λ (k : ℕ). (N .v ++ b ∷ []) ++ rest false k (drop (i + 1) s)) (let k : n + 1 ≡ suc n = omega arith in k)
-              ∙ append-assoc (N .v) (b ∷ []) (onward (pieces (drop (i + 1) s)))
-              ∙ ap (λ (t : List ℕ). N .v ++ t) (sym (next ∙ ap (λ (x : Bool). rest x n (b ∷ drop (i + 1) s)) g ∙ plain-next b (drop (i + 1) s) n e))
+              ∙ append-assoc (N .v) (b ∷ []) later
+              ∙ ap (λ (t : List ℕ). N .v ++ t) (sym (next ∙ ap behind g ∙ plain-next b (drop (i + 1) s) n e))
               ∙ N .left;
         })

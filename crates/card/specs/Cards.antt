@@ -1,8 +1,9 @@
 -- Any 80 bytes as a card, or one refusal (document 01, "One card"; the standard, 4.1 and 4.2).
 use Prim.Native.Nat.{ℕ, _+_, _-_}
+use Prim.Native.Char.{code}
 use mathlib.Core.Bool.{Bool, true, false, cond, _&&_}
 use mathlib.Core.List.{List, [], _∷_, map}
-use lib.Dec.{eqb, leb}
+use lib.Dec.{leb}
 use lib.ListN.{length, getD, take, drop}
 use Rattle.refusal.specs.declared.Fault.{Fault}
 use Rattle.refusal.specs.declared.Refusal.the-variants as R
@@ -13,6 +14,7 @@ use Rattle.text.specs.declared.Place.the-variants.{At, Nowhere}
 use Rattle.text.specs.Bytes.{ascii, isSpace, isBlank, shown}
 use Rattle.text.specs.Trim.{trim, trimEnd}
 use Rattle.text.specs.Same.{same}
+use Rattle.text.specs.Ends.{endsWith}
 use Rattle.text.specs.Place.{placeOf}
 use Rattle.text.specs.Text.{textOf, bytesOf}
 use Rattle.splitting.specs.declared.SplitAnswer.{SplitAnswer}
@@ -55,7 +57,8 @@ emptyOf c = spaceOr (remarkOf c)
 
 -- ---- CONTINUE: text from byte 8, a string with or without quotes
 abbrev pub stringCard : Quoted → Text → Text → Bool → Text → CardRead
-stringCard Str name text commented comment = record { answer = Read C.Continuation; name = name; text = text; commented = commented; comment = comment }
+stringCard Str name text commented comment =
+    record { answer = Read C.Continuation; name = name; text = text; commented = commented; comment = comment }
 stringCard (Refused-string fault) name text commented comment = cardRefused fault
 
 abbrev pub continued : SplitAnswer → Text → Text → Text → CardRead
@@ -68,14 +71,16 @@ continuationOf name c = let h = splitOf (drop 8 c) in continued (h .answer) name
 
 -- ---- XTENSION: text from byte 10, within quotes; the text inside them, without spaces at either end, and no comment
 unfoldable pub isWithinQuotes : List ℕ → Bool
-isWithinQuotes s = leb 2 (length s) && (isQuote (getD s 0 0) && isQuote (getD s (length s - 1) 0))
+isWithinQuotes s = leb 2 (length s) && (isQuote (getD s 0 0) && endsWith (code "'") s)
 
 abbrev pub inside : List ℕ → List ℕ
 inside s = take (length s - 1 - 1) (drop 1 s)
 
 unfoldable pub quotedCard : Text → Text → CardRead
 quotedCard name v =
-    cond (isWithinQuotes (bytesOf v)) (cardAs C.Xtension name (textOf (trim isSpace (inside (bytesOf v))))) (cardRefused (faultOf R.ExtensionNotQuoted))
+    cond (isWithinQuotes (bytesOf v))
+    (cardAs C.Xtension name (textOf (trim isSpace (inside (bytesOf v)))))
+    (cardRefused (faultOf R.ExtensionNotQuoted))
 
 abbrev pub extended : SplitAnswer → Text → Text → CardRead
 extended Bare name v = quotedCard name v
@@ -108,11 +113,14 @@ byEquals Nowhere c = cardRefused (faultOf R.NoEquals)
 byEquals (At i) c = named (dottedName (take i (drop 9 c))) (drop (10 + i) c)
 
 unfoldable pub hierarchOf : List ℕ → CardRead
-hierarchOf c = byEquals (placeOf 61 (drop 9 c)) c
+hierarchOf c = byEquals (placeOf (code "=") (drop 9 c)) c
 
 -- ---- any other keyword: with "= " at bytes 8 and 9 a value card, otherwise undefined, which holds the whole card
 unfoldable pub otherOf : Text → List ℕ → CardRead
-otherOf name c = cond (same (take 2 (drop 8 c)) (ascii "= ")) (ofValue false name (valueOf (drop 10 c))) (cardAs C.Undefined name (textOf c))
+otherOf name c =
+    cond (same (take 2 (drop 8 c)) (ascii "= "))
+    (ofValue false name (valueOf (drop 10 c)))
+    (cardAs C.Undefined name (textOf c))
 
 abbrev pub byClass : Class → Text → List ℕ → CardRead
 byClass Empty name c = emptyOf c

@@ -1,5 +1,6 @@
 -- Keywords and names (document 01, "One card"; the standard, 4.1.2.1 and 4.4.2).
 use Prim.Native.Nat.{ℕ}
+use Prim.Native.Char.{code}
 use mathlib.Core.Bool.{Bool, true, false, cond}
 use mathlib.Core.List.{List, [], _∷_, _++_}
 use lib.Dec.{leb}
@@ -37,14 +38,14 @@ onto b [] = (b ∷ []) ∷ []
 onto b (p ∷ ps) = (b ∷ p) ∷ ps
 
 -- what stands before, between and after the blanks; some pieces may be empty
-unfoldable pub pieces : List ℕ → List (List ℕ)
-pieces [] = [] ∷ []
-pieces (b ∷ s) = cond (isBlank b) ([] ∷ pieces s) (onto b (pieces s))
+unfoldable pub namePieces : List ℕ → List (List ℕ)
+namePieces [] = [] ∷ []
+namePieces (b ∷ s) = cond (isBlank b) ([] ∷ namePieces s) (onto b (namePieces s))
 
 -- a full stop before a name that is not empty
 abbrev pub stopAnd : List ℕ → List ℕ
 stopAnd [] = []
-stopAnd (b ∷ s) = 46 ∷ b ∷ s
+stopAnd (b ∷ s) = code "." ∷ b ∷ s
 
 -- the pieces that are not empty, joined by full stops
 unfoldable pub joinPieces : List (List ℕ) → List ℕ
@@ -53,4 +54,4 @@ joinPieces ([] ∷ ps) = joinPieces ps
 joinPieces ((b ∷ p) ∷ ps) = (b ∷ p) ++ stopAnd (joinPieces ps)
 
 abbrev pub dottedName : List ℕ → List ℕ
-dottedName s = joinPieces (pieces s)
+dottedName s = joinPieces (namePieces s)

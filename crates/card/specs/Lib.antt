@@ -1,3 +1,5 @@
--- What the contracts of `card` cite.
+-- What the contracts of `card` cite. Private contracts cite nothing besides.
+
+-- What public promises cite
 pub mod Keywords
 pub mod Cards
