@@ -70,7 +70,8 @@ blank-shown b = go (isPrintable b) refl (eqb b (code " ")) refl
     go true e true d = rw (e, d)
     go true e false d =
         let least : 32 ≤ b = leb-true 32 b (and-both (leb 32 b) (leb b 126) e .0) in
-        rw (e, d, control 9 (omega arith) least, control 10 (omega arith) least, control 12 (omega arith) least, control 13 (omega arith) least)
+        let none : (m : ℕ) → m < 32 → eqb b m ≡ false = λ m h. control m h least in
+        rw (e, d, none 9 (omega arith), none 10 (omega arith), none 12 (omega arith), none 13 (omega arith))
     go false e true d = absurd (true≢false (rw (eqb-true b (code " ") d) at e))
     go false e false d = rw (e, d)
 

@@ -7,30 +7,44 @@ use Rattle.splitting.specs.declared.Halves.{Halves}
 use Rattle.splitting.specs.declared.StringRead.{StringRead}
 use Rattle.splitting.specs.Strings.{stringOf}
 use Rattle.text.specs.Text.{bytesOf}
+use Rattle.card.specs.declared.CardRead.{CardRead}
 use Rattle.card.specs.Cards.{stringCard, continued, continuationOf}
 use borrow.Author.Needs.{needs}
 use Rattle.card.proofs.continuation.Statement.{statement}
 use Rattle.card.proofs.continuation.Tie as tie
 
+abbrev began : tie.After-parse-string → tie.Start
+began c = c .before .before .before .before
+
 abbrev halves : tie.After-parse-string → Halves
 halves c = c .before .before .before .split .result
 
+-- the card whose string was read as r
+abbrev string-as : tie.After-parse-string → StringRead → Bool → CardRead
+string-as c r commented = stringCard (r .answer) (began c .args .name) (r .text) commented (halves c .comment)
+
 string-is : (c : tie.After-parse-string) (commented : Bool)
-    → let r = c .parse-string .result in let name = c .before .before .before .before .args .name in
-    stringCard (r .answer) name (r .text) commented (halves c .comment) ≡ (let r = stringOf (bytesOf (halves c .value)) in stringCard (r .answer) name (r .text) commented (halves c .comment))
-string-is c commented =
-    let name = c .before .before .before .before .args .name in
-    ap (λ (r : StringRead). stringCard (r .answer) name (r .text) commented (halves c .comment)) (c .parse-string .ensures)
+    → string-as c (c .parse-string .result) commented ≡ string-as c (stringOf (bytesOf (halves c .value))) commented
+string-is c commented = ap (λ (r : StringRead). string-as c r commented) (c .parse-string .ensures)
 
 -- the case that an arm knows is the whole
 by : (c : tie.After-parse-string) (p : SplitAnswer) → halves c .answer ≡ p
-    → let a = c .before .before .before .before .args in
+    → let a = began c .args in
     continued p (a .name) (halves c .value) (halves c .comment) ≡ continuationOf (a .name) (a .card .now)
 unfolding continuationOf
 by c p e =
-    let a = c .before .before .before .before .args in
+    let a = began c .args in
     ap (λ (x : SplitAnswer). continued x (a .name) (halves c .value) (halves c .comment)) (sym e)
     ∙ ap (λ (h : Halves). continued (h .answer) (a .name) (h .value) (h .comment)) (c .before .before .before .split .ensures)
+
+-- a card without a comment, and with one
+bare : (c : tie.After-parse-string) → halves c .answer ≡ Bare
+    → string-as c (c .parse-string .result) false ≡ continuationOf (began c .args .name) (began c .args .card .now)
+bare c e = string-is c false ∙ by c Bare e
+
+remarked : (c : tie.After-parse-string) → halves c .answer ≡ Commented
+    → string-as c (c .parse-string .result) true ≡ continuationOf (began c .args .name) (began c .args .card .now)
+remarked c e = string-is c true ∙ by c Commented e
 
 split-requires : tie.Need-split-requires
 split-requires c κs = search needs
@@ -57,10 +71,12 @@ refused-requires : tie.Need-refused-requires
 refused-requires c κs = search needs
 
 returns : tie.Need-returns
-returns c = c .string-card .ensures ∙ string-is (c .before .before .before .before) false ∙ by (c .before .before .before .before) Bare (c .before .enum-told .given .1)
+returns c =
+    c .string-card .ensures ∙ bare (c .before .before .before .before) (c .before .enum-told .given .1)
 
 returns-2 : tie.Need-returns-2
-returns-2 c = c .string-card2 .ensures ∙ string-is (c .before .before .before .before) true ∙ by (c .before .before .before .before) Commented (c .before .enum-told2 .given .1)
+returns-2 c =
+    c .string-card2 .ensures ∙ remarked (c .before .before .before .before) (c .before .enum-told2 .given .1)
 
 returns-3 : tie.Need-returns-3
 returns-3 c =

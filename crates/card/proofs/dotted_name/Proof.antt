@@ -1,7 +1,8 @@
 -- `card::dotted_name` meets its contract: what was put, with what is still to be put, is the name.
-use Prim.Native.Nat.{_-_, _≤_, _<_, _+_}
+use Prim.Native.Nat.{ℕ, _-_, _≤_, _<_, _+_}
 use native.Mathlib.Omega.{arith}
 use mathlib.Core.Path.{_≡_, sym, _∙_}
+use mathlib.Core.List.{List}
 use lib.ListN.{length, getD}
 use borrow.Author.Needs.{needs}
 use Rattle.text.specs.Text.{size, padded}
@@ -15,6 +16,20 @@ Inv-pieces s bytes₀ n₀ gap₀ i₀ bytes n gap i = Named s bytes n gap i
 
 abbrev μ-pieces : tie.MeasureT-pieces
 μ-pieces s bytes₀ n₀ gap₀ i₀ bytes n gap i = length s - i
+
+-- at the start of a turn: where the loop stands, that a byte is there, and that the text fits
+abbrev text : tie.In-pieces Inv-pieces μ-pieces → List ℕ
+text c = c .before .before .before .args .s .now
+
+standing : (c : tie.In-pieces Inv-pieces μ-pieces)
+    → let at = c .before .pieces in Named (text c) (at .bytes) (at .n) (at .gap) (at .i)
+standing c = c .before .pieces .inv
+
+more : (c : tie.In-pieces Inv-pieces μ-pieces) → c .before .pieces .i < length (text c)
+more c = c .pieces-test .taken
+
+small : (c : tie.In-pieces Inv-pieces μ-pieces) → length (text c) ≤ size
+small c = c .before .before .before .pre
 
 pieces-holds : tie.Need-pieces-holds Inv-pieces μ-pieces
 pieces-holds c = start _ _ (padded-none size)
@@ -33,70 +48,54 @@ pieces-less c = search needs
 
 pieces-again : tie.Need-pieces-again Inv-pieces μ-pieces
 pieces-again c =
-    let at = c .before .before .before .before in
-    on-blank (at .pieces .inv) (c .before .before .before .pieces-test .taken) (sym (c .before .is-blank .ensures) ∙ c .if1 .taken)
+    let turn = c .before .before .before in
+    on-blank (standing turn) (more turn) (sym (c .before .is-blank .ensures) ∙ c .if1 .taken)
 
 array-write-bytes : tie.Need-array-write-bytes Inv-pieces μ-pieces
 array-write-bytes c =
-    let at = c .before .before .before .before .before in
-    let small : length (at .before .before .args .s .now) ≤ size = at .before .before .pre in
-    let more : at .pieces .i < length (at .before .before .args .s .now) = c .before .before .before .before .pieces-test .taken in
-    omega (arith, room-one (at .pieces .inv))
+    let turn = c .before .before .before .before in
+    omega (arith, room-one (standing turn), small turn, more turn)
 
 add-bytes : tie.Need-add-bytes Inv-pieces μ-pieces
 add-bytes c =
-    let at = c .before .before .before .before .before in
-    let small : length (at .before .before .args .s .now) ≤ size = at .before .before .pre in
-    let more : at .pieces .i < length (at .before .before .args .s .now) = c .before .before .before .before .pieces-test .taken in
-    omega (arith, room-one (at .pieces .inv))
+    let turn = c .before .before .before .before in
+    omega (arith, room-one (standing turn), small turn, more turn)
 
 array-write-bytes-2 : tie.Need-array-write-bytes-2 Inv-pieces μ-pieces
 array-write-bytes-2 c =
-    let at = c .before .before .before .before .before in
-    let small : length (at .before .before .args .s .now) ≤ size = at .before .before .pre in
-    let more : at .pieces .i < length (at .before .before .args .s .now) = c .before .before .before .before .pieces-test .taken in
-    omega (arith, room (at .pieces .inv) (c .if2 .taken))
+    let turn = c .before .before .before .before in
+    omega (arith, room (standing turn) (c .if2 .taken), small turn, more turn)
 
 add-n : tie.Need-add-n Inv-pieces μ-pieces
 add-n c =
-    let at = c .before .before .before .before .before in
-    let small : length (at .before .before .args .s .now) ≤ size = at .before .before .pre in
-    let more : at .pieces .i < length (at .before .before .args .s .now) = c .before .before .before .before .pieces-test .taken in
-    omega (arith, room (at .pieces .inv) (c .if2 .taken))
+    let turn = c .before .before .before .before in
+    omega (arith, room (standing turn) (c .if2 .taken), small turn, more turn)
 
 pieces-less-2 : tie.Need-pieces-less-2 Inv-pieces μ-pieces
 pieces-less-2 c = search needs
 
 pieces-again-2 : tie.Need-pieces-again-2 Inv-pieces μ-pieces
 pieces-again-2 c =
-    let at = c .before .before .before .before .before in
-    let small : length (at .before .before .args .s .now) ≤ size = at .before .before .pre in
-    let more : at .pieces .i < length (at .before .before .args .s .now) = c .before .before .before .before .pieces-test .taken in
-    on-stop (at .pieces .inv) more (c .if2 .taken) (sym (c .before .before .is-blank .ensures) ∙ c .before .if1 .left) small
+    let turn = c .before .before .before .before in
+    on-stop (standing turn) (more turn) (c .if2 .taken) (sym (c .before .before .is-blank .ensures) ∙ c .before .if1 .left) (small turn)
 
 array-write-bytes-3 : tie.Need-array-write-bytes-3 Inv-pieces μ-pieces
 array-write-bytes-3 c =
-    let at = c .before .before .before .before .before in
-    let small : length (at .before .before .args .s .now) ≤ size = at .before .before .pre in
-    let more : at .pieces .i < length (at .before .before .args .s .now) = c .before .before .before .before .pieces-test .taken in
-    omega (arith, room-one (at .pieces .inv))
+    let turn = c .before .before .before .before in
+    omega (arith, room-one (standing turn), small turn, more turn)
 
 add-n-2 : tie.Need-add-n-2 Inv-pieces μ-pieces
 add-n-2 c =
-    let at = c .before .before .before .before .before in
-    let small : length (at .before .before .args .s .now) ≤ size = at .before .before .pre in
-    let more : at .pieces .i < length (at .before .before .args .s .now) = c .before .before .before .before .pieces-test .taken in
-    omega (arith, room-one (at .pieces .inv))
+    let turn = c .before .before .before .before in
+    omega (arith, room-one (standing turn), small turn, more turn)
 
 pieces-less-3 : tie.Need-pieces-less-3 Inv-pieces μ-pieces
 pieces-less-3 c = search needs
 
 pieces-again-3 : tie.Need-pieces-again-3 Inv-pieces μ-pieces
 pieces-again-3 c =
-    let at = c .before .before .before .before .before in
-    let small : length (at .before .before .args .s .now) ≤ size = at .before .before .pre in
-    let more : at .pieces .i < length (at .before .before .args .s .now) = c .before .before .before .before .pieces-test .taken in
-    on-plain (at .pieces .inv) more (c .if2 .left) (sym (c .before .before .is-blank .ensures) ∙ c .before .if1 .left) small
+    let turn = c .before .before .before .before in
+    on-plain (standing turn) (more turn) (c .if2 .left) (sym (c .before .before .is-blank .ensures) ∙ c .before .if1 .left) (small turn)
 
 returns : tie.Need-returns Inv-pieces μ-pieces
 returns c = at-end (c .before .pieces .inv) (c .pieces-test .left)

@@ -10,11 +10,12 @@ use Rattle.card.proofs.extension.Tie as tie
 
 -- the case that an arm knows is the whole
 by : (c : tie.After-split) (p : SplitAnswer) → c .split .result .answer ≡ p
-    → extended p (c .before .args .name) (c .split .result .value) ≡ extensionOf (c .before .args .name) (c .before .args .card .now)
+    → let a = c .before .args in extended p (a .name) (c .split .result .value) ≡ extensionOf (a .name) (a .card .now)
 unfolding extensionOf
 by c p e =
     let name = c .before .args .name in
-    ap (λ (x : SplitAnswer). extended x name (c .split .result .value)) (sym e) ∙ ap (λ (h : Halves). extended (h .answer) name (h .value)) (c .split .ensures)
+    ap (λ (x : SplitAnswer). extended x name (c .split .result .value)) (sym e)
+    ∙ ap (λ (h : Halves). extended (h .answer) name (h .value)) (c .split .ensures)
 
 split-requires : tie.Need-split-requires
 split-requires c κs = search needs

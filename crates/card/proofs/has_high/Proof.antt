@@ -23,8 +23,9 @@ shared-slice-read-if1 c = search needs
 
 returns : tie.Need-returns Inv-loop μ-loop
 returns c =
-    let at-loop = c .before .before .before in
-    high-here (at-loop .before .args .s .now) (at-loop .loop .i) (c .before .before .loop-test .taken) (c .if1 .taken) ∙ at-loop .loop .inv .1
+    let test = c .before .before in
+    let loop = test .before .loop in
+    high-here (test .before .before .args .s .now) (loop .i) (test .loop-test .taken) (c .if1 .taken) ∙ loop .inv .1
 
 add-i : tie.Need-add-i Inv-loop μ-loop
 add-i c = search needs
@@ -34,8 +35,9 @@ loop-less c = search needs
 
 loop-again : tie.Need-loop-again Inv-loop μ-loop
 loop-again c =
-    let at-loop = c .before .before .before in
-    (omega arith, high-later (at-loop .before .args .s .now) (at-loop .loop .i) (c .before .before .loop-test .taken) (c .if1 .left) ∙ at-loop .loop .inv .1)
+    let test = c .before .before in
+    let loop = test .before .loop in
+    (omega arith, high-later (test .before .before .args .s .now) (loop .i) (test .loop-test .taken) (c .if1 .left) ∙ loop .inv .1)
 
 returns-2 : tie.Need-returns-2 Inv-loop μ-loop
 returns-2 c = high-none (c .before .before .args .s .now) (c .before .loop .i) (c .loop-test .left) ∙ c .before .loop .inv .1

@@ -1,5 +1,6 @@
 -- `card::hierarch` meets its contract: by where the = stands, and by whether a name stands before it.
 use Prim.Native.Nat.{ℕ, _+_, _<_, _≤_}
+use Prim.Native.Char.{code}
 use native.Mathlib.Omega.{arith}
 use mathlib.Core.Path.{_≡_, refl, sym, ap, _∙_}
 use mathlib.Core.Bool.{true}
@@ -24,8 +25,8 @@ use Rattle.card.proofs.hierarch.Tie as tie
 abbrev card : tie.After-find-byte → List ℕ
 card c = c .before .before .before .args .card .now
 
-found : (c : tie.After-find-byte) → c .find-byte .result ≡ placeOf 61 (drop 9 (card c))
-found c = c .find-byte .ensures ∙ ap (placeOf 61) (c .before .rest-of .ensures)
+found : (c : tie.After-find-byte) → c .find-byte .result ≡ placeOf (code "=") (drop 9 (card c))
+found c = c .find-byte .ensures ∙ ap (placeOf (code "=")) (c .before .rest-of .ensures)
 
 fits : (c : tie.After-find-byte) → length (c .before .rest-of .result .now) ≤ size
 fits c =
@@ -38,18 +39,23 @@ unfolding hierarchOf
 by c p e = ap (λ (x : Place). byEquals x (card c)) (sym e ∙ found c)
 
 -- where the = stands, and the name before it
+abbrev find-at : tie.After-dotted-name → tie.After-find-byte
+find-at c = c .before .before .before .before .before
+
 abbrev index : tie.After-dotted-name → ℕ
 index c = c .before .before .before .i .given .0 .0
 
 abbrev name-of : tie.After-dotted-name → List ℕ
-name-of c = dottedName (take (index c) (drop 9 (card (c .before .before .before .before .before))))
+name-of c = dottedName (take (index c) (drop 9 (card (find-at c))))
 
 name-is : (c : tie.After-dotted-name) → c .dotted-name .result ≡ textOf (name-of c)
 name-is c =
-    c .dotted-name .ensures ∙ ap (λ (l : List ℕ). textOf (dottedName l)) (c .before .first-of .ensures ∙ ap (take (index c)) (c .before .before .before .before .before .before .rest-of .ensures))
+    let before-it = c .before .first-of .ensures ∙ ap (take (index c)) (find-at c .before .rest-of .ensures) in
+    c .dotted-name .ensures ∙ ap (λ (l : List ℕ). textOf (dottedName l)) before-it
 
-whole : (c : tie.After-dotted-name) → let card = card (c .before .before .before .before .before) in named (name-of c) (drop (10 + index c) card) ≡ hierarchOf card
-whole c = by (c .before .before .before .before .before) (At (index c)) (c .before .before .before .i .given .1)
+whole : (c : tie.After-dotted-name)
+    → let card = card (find-at c) in named (name-of c) (drop (10 + index c) card) ≡ hierarchOf card
+whole c = by (find-at c) (At (index c)) (c .before .before .before .i .given .1)
 
 nameless : (n raw : List ℕ) → length n ≡ 0 → cardRefused (faultOf R.NoName) ≡ named n raw
 nameless [] raw e = refl
@@ -80,15 +86,19 @@ refused-requires c κs = search needs
 returns : tie.Need-returns
 returns c =
     let told = c .before .before in
-    c .refused .ensures ∙ ap cardRefused (c .before .fault-of .ensures) ∙ by (told .before .before) Nowhere (told .enum-told .given .1)
+    c .refused .ensures
+    ∙ ap cardRefused (c .before .fault-of .ensures)
+    ∙ by (told .before .before) Nowhere (told .enum-told .given .1)
 
 first-of-requires : tie.Need-first-of-requires
 first-of-requires c κs = search needs
 
 dotted-name-requires : tie.Need-dotted-name-requires
 dotted-name-requires c κs =
-    let find = c .before .before .before .before in
-    rw (c .first-of .ensures) (omega (arith, length-take (c .before .before .i .given .0 .0) (find .before .rest-of .result .now), fits find))
+    let at-i = c .before .before in
+    let find = at-i .before .before in
+    let rest = find .before .rest-of .result .now in
+    rw (c .first-of .ensures) (omega (arith, length-take (at-i .i .given .0 .0) rest, fits find))
 
 fault-of-requires-2 : tie.Need-fault-of-requires-2
 fault-of-requires-2 c κs = search needs
@@ -108,7 +118,9 @@ add-read-value : tie.Need-add-read-value
 add-read-value c =
     let at-i = c .before .before .before .before .before in
     let find = at-i .before .before in
-    omega (arith, fits find, found-within 61 (drop 9 (card find)) (at-i .i .given .0 .0) (sym (found find) ∙ at-i .i .given .1), length-drop 9 (card find))
+    let rest = drop 9 (card find) in
+    let place = at-i .i .given in
+    omega (arith, fits find, found-within (code "=") rest (place .0 .0) (sym (found find) ∙ place .1), length-drop 9 (card find))
 
 read-value-requires : tie.Need-read-value-requires
 read-value-requires c κs = search needs
@@ -119,10 +131,9 @@ with-value-requires c κs = search needs
 returns-3 : tie.Need-returns-3
 returns-3 c =
     let at-name = c .before .before .before .before in
-    let find = at-name .before .before .before .before .before in
     c .with-value .ensures
     ∙ ap (ofValue true (at-name .dotted-name .result)) (c .before .read-value .ensures)
-    ∙ ap (λ (t : Text). ofValue true t (valueOf (drop (10 + index at-name) (card find)))) (name-is at-name)
+    ∙ ap (λ (t : Text). ofValue true t (valueOf (drop (10 + index at-name) (card (find-at at-name))))) (name-is at-name)
     ∙ with-name (name-of at-name) _ (λ e. c .before .before .if1 .left (ap (λ (t : Text). t .len) (name-is at-name) ∙ e))
     ∙ whole at-name
 

@@ -20,18 +20,27 @@ use Rattle.card.proofs.other.Tie as tie
 abbrev first : tie.After-same-bytes → tie.After-first-of
 first c = c .before .before
 
--- what the test says of the bytes behind the keyword
-told : (c : tie.After-same-bytes) → c .same-bytes .result ≡ same (take 2 (drop 8 (first c .before .before .before .args .card .now))) (ascii "= ")
-told c = c .same-bytes .ensures ∙ ap (λ (l : List ℕ). same l (ascii "= ")) (first c .first-of .ensures ∙ ap (take 2) (first c .before .rest-of .ensures))
+abbrev card : tie.After-same-bytes → List ℕ
+card c = first c .before .before .before .args .card .now
 
-whole : (c : tie.After-same-bytes) → length (first c .before .before .before .args .card .now) ≡ size
+-- "= " follows the keyword
+abbrev indicated : List ℕ → Bool
+indicated c = same (take 2 (drop 8 c)) (ascii "= ")
+
+-- what the test says of the bytes behind the keyword
+told : (c : tie.After-same-bytes) → c .same-bytes .result ≡ indicated (card c)
+told c =
+    let two = first c .first-of .ensures ∙ ap (take 2) (first c .before .rest-of .ensures) in
+    c .same-bytes .ensures ∙ ap (λ (l : List ℕ). same l (ascii "= ")) two
+
+whole : (c : tie.After-same-bytes) → length (card c) ≡ size
 whole c = search needs
 
-with-equals : (name : Text) (c : List ℕ) → same (take 2 (drop 8 c)) (ascii "= ") ≡ true → ofValue false name (valueOf (drop 10 c)) ≡ otherOf name c
+with-equals : (name : Text) (c : List ℕ) → indicated c ≡ true → ofValue false name (valueOf (drop 10 c)) ≡ otherOf name c
 unfolding otherOf
 with-equals name c e = rw e
 
-without-equals : (name : Text) (c : List ℕ) → same (take 2 (drop 8 c)) (ascii "= ") ≡ false → cardAs Undefined name (textOf c) ≡ otherOf name c
+without-equals : (name : Text) (c : List ℕ) → indicated c ≡ false → cardAs Undefined name (textOf c) ≡ otherOf name c
 unfolding otherOf
 without-equals name c e = rw e
 
@@ -57,7 +66,9 @@ returns : tie.Need-returns
 returns c =
     let at-test = c .before .before .before in
     let a = first at-test .before .before .before .args in
-    c .with-value .ensures ∙ ap (ofValue false (a .name)) (c .before .read-value .ensures) ∙ with-equals (a .name) (a .card .now) (sym (told at-test) ∙ c .before .before .if1 .taken)
+    c .with-value .ensures
+    ∙ ap (ofValue false (a .name)) (c .before .read-value .ensures)
+    ∙ with-equals (a .name) (a .card .now) (sym (told at-test) ∙ c .before .before .if1 .taken)
 
 text-of-requires : tie.Need-text-of-requires
 text-of-requires c κs = search needs

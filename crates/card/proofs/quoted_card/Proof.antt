@@ -20,23 +20,32 @@ use borrow.Author.Needs.{needs}
 use Rattle.card.proofs.quoted_card.Statement.{statement}
 use Rattle.card.proofs.quoted_card.Tie as tie
 
-fits : (c : tie.After-first-of) → length (c .first-of .result .now) ≤ size
+-- the value text, and the arguments
+abbrev text : tie.After-first-of → List ℕ
+text c = c .first-of .result .now
+
+abbrev began : tie.After-first-of → tie.Start
+began c = c .before .before .before
+
+fits : (c : tie.After-first-of) → length (text c) ≤ size
 fits c =
-    let v = c .before .before .before .args .v in
+    let v = began c .args .v in
     let long : length (v .bytes) ≡ size = search needs in
     rw (c .first-of .ensures) (bytes-fit v long)
 
-not-within : (c : tie.After-first-of) → isWithinQuotes (c .first-of .result .now) ≡ false
-    → let a = c .before .before .before .args in cardRefused (faultOf R.ExtensionNotQuoted) ≡ quotedCard (a .name) (a .v)
+not-within : (c : tie.After-first-of) → isWithinQuotes (text c) ≡ false
+    → let a = began c .args in cardRefused (faultOf R.ExtensionNotQuoted) ≡ quotedCard (a .name) (a .v)
 unfolding quotedCard
 not-within c e = rw (sym (ap isWithinQuotes (c .first-of .ensures)) ∙ e)
 
-is-within : (c : tie.After-first-of) → isWithinQuotes (c .first-of .result .now) ≡ true
-    → let a = c .before .before .before .args in cardAs Xtension (a .name) (textOf (trim isSpace (inside (c .first-of .result .now)))) ≡ quotedCard (a .name) (a .v)
+is-within : (c : tie.After-first-of) → isWithinQuotes (text c) ≡ true
+    → let a = began c .args in
+    cardAs Xtension (a .name) (textOf (trim isSpace (inside (text c)))) ≡ quotedCard (a .name) (a .v)
 unfolding quotedCard
 is-within c e =
-    let a = c .before .before .before .args in
-    ap (λ (l : List ℕ). cardAs Xtension (a .name) (textOf (trim isSpace (inside l)))) (c .first-of .ensures) ∙ rw (sym (ap isWithinQuotes (c .first-of .ensures)) ∙ e)
+    let a = began c .args in
+    ap (λ (l : List ℕ). cardAs Xtension (a .name) (textOf (trim isSpace (inside l)))) (c .first-of .ensures)
+    ∙ rw (sym (ap isWithinQuotes (c .first-of .ensures)) ∙ e)
 
 slice-aggregate-first-of : tie.Need-slice-aggregate-first-of
 slice-aggregate-first-of c = search needs
@@ -51,7 +60,11 @@ refused-requires : tie.Need-refused-requires
 refused-requires c κs = search needs
 
 returns : tie.Need-returns
-returns c = c .refused .ensures ∙ ap cardRefused (c .before .fault-of .ensures) ∙ not-within (c .before .before .before) (too-short (c .before .before .before .first-of .result .now) (c .before .before .if1 .taken))
+returns c =
+    let first = c .before .before .before in
+    c .refused .ensures
+    ∙ ap cardRefused (c .before .fault-of .ensures)
+    ∙ not-within first (too-short (text first) (c .before .before .if1 .taken))
 
 shared-slice-read-if2 : tie.Need-shared-slice-read-if2
 shared-slice-read-if2 c = search needs
@@ -64,8 +77,12 @@ refused-requires-2 c κs = search needs
 
 returns-2 : tie.Need-returns-2
 returns-2 c =
-    let first = c .before .before .before .before .before in
-    c .refused2 .ensures ∙ ap cardRefused (c .before .fault-of2 .ensures) ∙ not-within first (unopened (first .first-of .result .now) (c .before .before .before .before .if1 .left) (c .before .before .if2 .taken))
+    let test = c .before .before in
+    let long = test .before .before in
+    let first = long .before in
+    c .refused2 .ensures
+    ∙ ap cardRefused (c .before .fault-of2 .ensures)
+    ∙ not-within first (unopened (text first) (long .if1 .left) (test .if2 .taken))
 
 sub-if3 : tie.Need-sub-if3
 sub-if3 c = search needs
@@ -83,7 +100,10 @@ returns-3 : tie.Need-returns-3
 returns-3 c =
     let second = c .before .before .before .before in
     let first = second .before .before .before in
-    c .refused3 .ensures ∙ ap cardRefused (c .before .fault-of3 .ensures) ∙ not-within first (unclosed (first .first-of .result .now) (second .before .before .if1 .left) (second .if2 .left) (c .before .before .if3 .taken))
+    let starts = second .if2 .left in
+    c .refused3 .ensures
+    ∙ ap cardRefused (c .before .fault-of3 .ensures)
+    ∙ not-within first (unclosed (text first) (second .before .before .if1 .left) starts (c .before .before .if3 .taken))
 
 sub-trimmed : tie.Need-sub-trimmed
 sub-trimmed c = search needs
@@ -111,14 +131,15 @@ returns-4 c =
     let third = c .before .before .before .before in
     let second = third .before .before in
     let first = second .before .before .before in
-    let s = first .first-of .result .now in
-    let a = first .before .before .before .args in
-    let t = c .before .before .trimmed .result .now in
+    let s = text first in
+    let a = began first .args in
+    let cut = c .before .before .trimmed in
+    let t = cut .result .now in
     let within : length s ≤ size = fits first in
     let part : length (inside s) ≤ size = omega (arith, length-take (length s - 1 - 1) (drop 1 s), length-drop 1 s) in
-    let short : length t ≤ size = rw (c .before .before .trimmed .ensures) (omega (arith, shorter isSpace (inside s))) in
+    let short : length t ≤ size = rw (cut .ensures) (omega (arith, shorter isSpace (inside s))) in
     c .read-as .ensures
-    ∙ ap (cardAs Xtension (a .name)) (c .before .text-of .ensures ∙ whole-text t short ∙ ap textOf (c .before .before .trimmed .ensures))
+    ∙ ap (cardAs Xtension (a .name)) (c .before .text-of .ensures ∙ whole-text t short ∙ ap textOf (cut .ensures))
     ∙ is-within first (quoted s (second .before .before .if1 .left) (second .if2 .left) (third .if3 .left))
 
 pub quoted-card-spec : {M : Type 1} → statement M

@@ -33,9 +33,12 @@ low : (c : List ℕ) → hasHigh c ≡ false → byClass (classOf (keywordOf c))
 unfolding cardOf
 low c e = rw e
 
--- the card's bytes, at the place where its class is known
+-- the test of its bytes, and the card's bytes, at the place where its class is known
+abbrev test-at : tie.After-class-of → tie.Else1
+test-at c = c .before .before .before .before
+
 abbrev card : tie.After-class-of → List ℕ
-card c = card-at (c .before .before .before .before .before)
+card c = card-at (test-at c .before)
 
 fits : (c : tie.After-class-of) → length (card c) ≤ size
 fits c = let long : length (card c) ≡ size = search needs in omega arith
@@ -49,11 +52,12 @@ name-is c =
     c .before .text-of .ensures ∙ ap (λ (l : List ℕ). textOf (take size l)) (word-is c) ∙ whole-text (keywordOf (card c)) short
 
 -- the class that an arm knows gives the card
-by : (c : tie.After-class-of) (k : Class) → c .class-of .result ≡ k → byClass k (c .before .text-of .result) (card c) ≡ cardOf (card c)
+by : (c : tie.After-class-of) (k : Class) → c .class-of .result ≡ k
+    → byClass k (c .before .text-of .result) (card c) ≡ cardOf (card c)
 by c k e =
     ap (λ (x : Class). byClass x (c .before .text-of .result) (card c)) (sym e ∙ c .class-of .ensures ∙ ap classOf (word-is c))
     ∙ ap (λ (t : Text). byClass (classOf (keywordOf (card c))) t (card c)) (name-is c)
-    ∙ low (card c) (sym (c .before .before .before .before .before .has-high .ensures) ∙ c .before .before .before .before .if1 .left)
+    ∙ low (card c) (sym (test-at c .before .has-high .ensures) ∙ test-at c .if1 .left)
 
 has-high-requires : tie.Need-has-high-requires
 has-high-requires c κs = search needs
@@ -156,7 +160,9 @@ returns-8 : tie.Need-returns-8
 returns-8 c =
     let told = c .before .before in
     let name = told .before .before .before .text-of .result in
-    c .read-as .ensures ∙ ap (cardAs C.End name) (c .before .empty-text .ensures) ∙ by (told .before .before) End (told .enum-told7 .given .1)
+    c .read-as .ensures
+    ∙ ap (cardAs C.End name) (c .before .empty-text .ensures)
+    ∙ by (told .before .before) End (told .enum-told7 .given .1)
 
 returns-9 : tie.Need-returns-9
 returns-9 c = c .other .ensures ∙ by (c .before .before .before) Other (c .before .enum-told8 .given .1)

@@ -26,11 +26,15 @@ changed-text-requires c κs = search needs
 returns : tie.Need-returns
 returns c =
     let at-rest = c .before .before in
-    let whole = at-rest .before .before .args .whole .now in
+    let began = at-rest .before .before in
+    let whole = began .args .whole .now in
+    let rest = drop 8 whole in
     let left = c .before .trim-end .result .now in
-    let is : left ≡ trimEnd isSpace (drop 8 whole) = c .before .trim-end .ensures ∙ ap (trimEnd isSpace) (at-rest .rest-of .ensures) in
-    let short : length left ≤ size = rw is (omega (arith, end-shorter isSpace (drop 8 whole), length-drop 8 whole, at-rest .before .before .pre)) in
-    c .changed-text .ensures ∙ whole-changed shown left short ∙ ap textOf (ap (map shown) is ∙ sym (end-mapped isBlank isSpace shown blank-shown (drop 8 whole)))
+    let is : left ≡ trimEnd isSpace rest = c .before .trim-end .ensures ∙ ap (trimEnd isSpace) (at-rest .rest-of .ensures) in
+    let short : length left ≤ size = rw is (omega (arith, end-shorter isSpace rest, length-drop 8 whole, began .pre)) in
+    c .changed-text .ensures
+    ∙ whole-changed shown left short
+    ∙ ap textOf (ap (map shown) is ∙ sym (end-mapped isBlank isSpace shown blank-shown rest))
 
 pub remark-text-spec : {M : Type 1} → statement M
 remark-text-spec =

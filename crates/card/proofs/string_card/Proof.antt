@@ -23,7 +23,8 @@ returns-2 : tie.Need-returns-2
 returns-2 c =
     let answer = c .before .before in
     let a = answer .before .before .args in
-    c .refused .ensures ∙ ap (λ (q : Quoted). stringCard q (a .name) (a .text) (a .commented) (a .comment)) (sym (answer .answer .given .1))
+    c .refused .ensures
+    ∙ ap (λ (q : Quoted). stringCard q (a .name) (a .text) (a .commented) (a .comment)) (sym (answer .answer .given .1))
 
 pub string-card-spec : {M : Type 1} → statement M
 string-card-spec =

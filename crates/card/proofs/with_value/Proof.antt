@@ -9,8 +9,9 @@ use Rattle.card.proofs.with_value.Statement.{statement}
 use Rattle.card.proofs.with_value.Tie as tie
 
 -- the case that an arm knows is the whole
-by : (c : tie.Start) (x : ValueAnswer) → c .args .read .answer ≡ x → ofAnswer x (c .args .dotted) (c .args .name) (c .args .read) ≡ ofValue (c .args .dotted) (c .args .name) (c .args .read)
-by c x e = ap (λ (y : ValueAnswer). ofAnswer y (c .args .dotted) (c .args .name) (c .args .read)) (sym e)
+by : (c : tie.Start) (x : ValueAnswer) → c .args .read .answer ≡ x
+    → let a = c .args in ofAnswer x (a .dotted) (a .name) (a .read) ≡ ofValue (a .dotted) (a .name) (a .read)
+by c x e = let a = c .args in ap (λ (y : ValueAnswer). ofAnswer y (a .dotted) (a .name) (a .read)) (sym e)
 
 enum-known-answer : tie.Need-enum-known-answer
 enum-known-answer c = search needs
@@ -28,13 +29,16 @@ returns : tie.Need-returns
 returns c =
     let told = c .before .before in
     let a = told .before .before .before .before .args in
-    (λ j. record { answer = Read (c .card-with .ensures j); name = a .name; text = a .read .text; commented = a .read .commented; comment = a .read .comment })
+    let r = a .read in
+    let card = c .card-with .ensures in
+    (λ j. record { answer = Read (card j); name = a .name; text = r .text; commented = r .commented; comment = r .comment })
     ∙ by (told .before .before .before .before) (Read-value (told .answer .given .0 .0)) (told .answer .given .1)
 
 returns-2 : tie.Need-returns-2
 returns-2 c =
     let told = c .before .before in
-    c .refused .ensures ∙ by (told .before .before .before .before) (Refused-value (told .answer2 .given .0 .0)) (told .answer2 .given .1)
+    let began = told .before .before .before .before in
+    c .refused .ensures ∙ by began (Refused-value (told .answer2 .given .0 .0)) (told .answer2 .given .1)
 
 pub with-value-spec : {M : Type 1} → statement M
 with-value-spec =
