@@ -1,18 +1,20 @@
 -- The starred rows of document 01's table "Readings at the edges": one table and one statement, proved by computing.
 -- A row is a card, a header of several cards in which KIT is looked up, or a tile.
-use Prim.Native.Nat.{ℕ, _-_}
+use Prim.Native.Nat.{ℕ}
+use Prim.Native.Char.{code}
 use Prim.Native.String.{String}
 use mathlib.Core.Path.{_≡_, refl}
 use mathlib.Core.Bool.{Bool, false}
 use mathlib.Core.List.{List, [], _∷_, _++_, map}
 use lib.IntN.{ℤ, pos}
-use lib.ListN.{length, replicate, take}
+use lib.ListN.{replicate, take}
 use Rattle.refusal.specs.Numbers.{numberOf as refusalNumber}
 use Rattle.text.specs.Bytes.{ascii, isSpace, isBlank, isPrintable, isDigit, isZero, shown, dToE}
 use Rattle.text.specs.Trim.{trimStart, leading, consTrimmed, trimEnd, trim}
 use Rattle.text.specs.Same.{same}
+use Rattle.text.specs.Ends.{stem as textStem, endsWith}
 use Rattle.text.specs.Text.{bytesOf, filled}
-use Rattle.splitting.specs.Scan.{after, scanFrom, classOf as byteClass}
+use Rattle.splitting.specs.Scan.{after, scanFrom, byteClass}
 use Rattle.splitting.specs.Split.{splitOf}
 use Rattle.splitting.specs.Strings.{settledOf, opened, unopened, stringOf}
 use Rattle.numbers.specs.declared.Size.{Size}
@@ -56,17 +58,17 @@ pub data Input : Type 0 where
   tile : ℕ → ℕ → List ℕ → Input
 
 -- bytes, then spaces up to n
-abbrev pub spaced : ℕ → List ℕ → List ℕ
-spaced n s = s ++ replicate (n - length s) 32
+abbrev pub spacesTo : ℕ → List ℕ → List ℕ
+spacesTo n s = filled (code " ") n s
 
 -- the 80 bytes of a value card (the standard, 4.1.2): the keyword in 8 bytes, the value indicator, the value text
 abbrev pub cardBytes : String → String → List ℕ
-cardBytes keyword text = spaced 80 (spaced 8 (ascii keyword) ++ ascii "= " ++ ascii text)
+cardBytes keyword text = spacesTo 80 (spacesTo 8 (ascii keyword) ++ ascii "= " ++ ascii text)
 
 -- the bytes of a header: each text in 80 bytes
 abbrev pub headerBytes : List String → List ℕ
 headerBytes [] = []
-headerBytes (t ∷ ts) = spaced 80 (ascii t) ++ headerBytes ts
+headerBytes (t ∷ ts) = spacesTo 80 (ascii t) ++ headerBytes ts
 
 -- ---- the readings
 
@@ -108,12 +110,12 @@ byCard C.Space text = other
 byCard C.End text = other
 byCard C.Undefined text = other
 
-abbrev pub byAnswer : CardAnswer → List ℕ → Reading
-byAnswer (Read c) text = byCard c text
-byAnswer (Refused why) text = refusal (refusalNumber why)
+abbrev pub byCardAnswer : CardAnswer → List ℕ → Reading
+byCardAnswer (Read c) text = byCard c text
+byCardAnswer (Refused fault) text = refusal (refusalNumber (fault .why))
 
 abbrev pub ofCard : CardRead → Reading
-ofCard r = byAnswer (r .answer) (bytesOf (r .text))
+ofCard r = byCardAnswer (r .answer) (bytesOf (r .text))
 
 -- a lookup's, with its text in the lent buffer
 abbrev pub byLookup : LookupAnswer → List ℕ → Reading
@@ -170,7 +172,7 @@ table =
 
 -- each input has its row's reading
 pub edges : map (λ (r : Row). reading (r .input)) table ≡ map (λ (r : Row). r .reading) table
-unfolding isSpace isBlank isPrintable isDigit isZero shown dToE trimStart leading consTrimmed trimEnd trim same filled
+unfolding isSpace isBlank isPrintable isDigit isZero shown dToE trimStart leading consTrimmed trimEnd trim same textStem endsWith filled
     after scanFrom byteClass splitOf settledOf opened unopened stringOf isSign isNegative unsigned isDigits valueFrom
     integerOf fractionOf afterFraction isMark writtenOf exponentOf scaled finiteOf lowered isWord decimalOf numberOf
     startsNumber startOf ofString ofNumber valueWith valueOf hasHigh keywordClass otherOf continuationOf cardOf

@@ -1,5 +1,5 @@
 -- The scan, a byte at a time.
-use Prim.Native.Nat.{ℕ, zero, suc, _+_, _-_, _<_, _≤_}
+use Prim.Native.Nat.{ℕ, _+_, _-_, _<_, _≤_}
 use Prim.Native.Char.{code}
 use native.Mathlib.Numerals.{add-one}
 use native.Mathlib.Omega.{arith}
@@ -11,13 +11,13 @@ use lib.Dec.{eqb}
 use lib.ListN.{length, drop, getD, set, drop-of-length-le}
 use lib.Seq.{drop-cons}
 use Rattle.splitting.specs.declared.Quoting.{Quoting}
-use Rattle.splitting.specs.declared.Quoting.the-variants.{Outside, Inside, Closed}
+use Rattle.splitting.specs.declared.Quoting.the-variants.{Outside, Inside}
 use Rattle.splitting.specs.declared.Slash.{Slash}
 use Rattle.splitting.specs.declared.Slash.the-variants.{At, Nowhere, Bad}
 use Rattle.splitting.specs.declared.Scanned.{Scanned}
 use Rattle.text.specs.Bytes.{isPrintable, shown}
-use Rattle.text.specs.Text.{size, padded, textOf}
-use Rattle.splitting.specs.Scan.{ByteClass, quote, slash, plain, odd, byteClass, Move, ends, refused, puts, passes, move}
+use Rattle.text.specs.Text.{size, padded}
+use Rattle.splitting.specs.Scan.{quote, slash, plain, odd, byteClass, Move, ends, refused, puts, passes, move}
 use Rattle.splitting.specs.Scan.{Scan, putBefore, after, scanFrom}
 use Rattle.splitting.specs.Scanned.{answered, scannedOf}
 use Rattle.text.proofs.Texts.{padded-put, length-put}

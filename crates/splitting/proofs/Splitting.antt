@@ -1,19 +1,18 @@
 -- What a scan finds lies within the text, and splitting by what was found.
-use Prim.Native.Nat.{ℕ, zero, suc, _+_, _<_, _≤_}
+use Prim.Native.Nat.{ℕ, suc, _+_, _<_, _≤_}
 use native.Mathlib.Nat.{zero-add}
 use native.Mathlib.Omega.{arith}
-use mathlib.Core.Path.{_≡_, refl, sym, ap, _∙_}
+use mathlib.Core.Path.{_≡_}
 use mathlib.Core.List.{List, [], _∷_}
-use lib.ListN.{length, take}
+use lib.ListN.{length}
 use Rattle.splitting.specs.declared.Quoting.{Quoting}
 use Rattle.splitting.specs.declared.Quoting.the-variants.{Outside}
 use Rattle.splitting.specs.declared.Slash.{Slash}
 use Rattle.splitting.specs.declared.Slash.the-variants.{At, Nowhere, Bad}
 use Rattle.splitting.specs.declared.Scanned.{Scanned}
-use Rattle.splitting.specs.declared.Halves.{Halves}
 use Rattle.text.specs.Bytes.{isBlank, isSpace}
 use Rattle.text.specs.Trim.{trim}
-use Rattle.text.specs.Text.{size, textOf, bytesOf}
+use Rattle.text.specs.Text.{size, bytesOf}
 use Rattle.splitting.specs.Scan.{Move, ends, refused, puts, passes, move, byteClass, Scan, after, scanFrom}
 use Rattle.splitting.specs.Scanned.{scannedOf}
 use Rattle.splitting.specs.Split.{partsAt, splitOf}

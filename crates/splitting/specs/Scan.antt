@@ -1,7 +1,7 @@
 -- The scan of a trimmed text for the slash (document 01, "Splitting"; the standard, 4.2.1).
 use Prim.Native.Nat.{ℕ, suc}
 use Prim.Native.Char.{code}
-use mathlib.Core.Bool.{Bool, true, false, cond}
+use mathlib.Core.Bool.{cond}
 use mathlib.Core.List.{List, [], _∷_, _++_}
 use lib.Dec.{eqb}
 use Rattle.splitting.specs.declared.Quoting.{Quoting}

@@ -12,7 +12,7 @@ use Rattle.splitting.specs.declared.Halves.{Halves}
 use Rattle.text.specs.Bytes.{isSpace, isBlank, shown}
 use Rattle.text.specs.Trim.{trim, trimEnd}
 use Rattle.text.specs.Text.{textOf}
-use Rattle.splitting.specs.Scan.{Scan, scanFrom}
+use Rattle.splitting.specs.Scan.{scanFrom}
 
 -- by where the slash stands in the trimmed text s, whose value text is v
 abbrev pub partsAt : Slash → List ℕ → List ℕ → Halves

@@ -1,7 +1,7 @@
 -- Strings (document 01, "Strings"; the standard, 4.2.1.1): an empty string differs from one of spaces alone.
 use Prim.Native.Nat.{ℕ}
 use Prim.Native.Char.{code}
-use mathlib.Core.Bool.{Bool, true, false, cond}
+use mathlib.Core.Bool.{Bool, cond}
 use mathlib.Core.List.{List, [], _∷_}
 use lib.Dec.{eqb}
 use Rattle.splitting.specs.declared.StringRead.{StringRead}

@@ -1,15 +1,14 @@
 -- What a first byte tells, by the tests of the code, and a value text by its first byte.
-use Prim.Native.Nat.{ℕ, zero, suc, _≤_, _<_}
+use Prim.Native.Nat.{ℕ, zero, suc, _≤_}
 use Prim.Native.Char.{code}
 use native.Mathlib.Omega.{arith}
-use mathlib.Core.Path.{_≡_, refl, sym, ap, _∙_}
-use mathlib.Core.Bool.{Bool, true, false, cond}
+use mathlib.Core.Path.{_≡_, refl}
+use mathlib.Core.Bool.{Bool, true, false}
 use mathlib.Core.List.{List, [], _∷_}
 use borrow.Author.Tests.{eq-eqb, ne-eqb}
 use lib.ListN.{length, take, getD}
 use Rattle.text.specs.declared.Text.{Text}
 use Rattle.text.specs.Bytes.{isDigit}
-use Rattle.text.specs.Text.{bytesOf}
 use Rattle.value.specs.declared.Start.the-variants.{Quote, Truth, Number, Complex, Else}
 use Rattle.value.specs.Values.{startsNumber, startOf, byStart, byBytes, valueWith}
 

@@ -1,7 +1,7 @@
 -- The unit that a comment names (document 01, "One card"; the standard, 4.3.2).
 use Prim.Native.Nat.{ℕ, _+_}
 use Prim.Native.Char.{code}
-use mathlib.Core.Bool.{Bool, cond}
+use mathlib.Core.Bool.{cond}
 use mathlib.Core.List.{List, [], _∷_}
 use lib.Dec.{eqb}
 use Rattle.text.specs.declared.Place.{Place}

@@ -1,6 +1,4 @@
 -- `card::card_with` meets its contract.
-use mathlib.Core.Path.{_≡_}
-use borrow.Author.Needs.{needs}
 use Rattle.card.proofs.card_with.Statement.{statement}
 use Rattle.card.proofs.card_with.Tie as tie
 

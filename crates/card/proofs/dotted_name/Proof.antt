@@ -1,11 +1,11 @@
 -- `card::dotted_name` meets its contract: what was put, with what is still to be put, is the name.
-use Prim.Native.Nat.{ℕ, _-_, _≤_, _<_, _+_}
+use Prim.Native.Nat.{ℕ, _-_, _≤_, _<_}
 use native.Mathlib.Omega.{arith}
-use mathlib.Core.Path.{_≡_, sym, _∙_}
+use mathlib.Core.Path.{sym, _∙_}
 use mathlib.Core.List.{List}
-use lib.ListN.{length, getD}
+use lib.ListN.{length}
 use borrow.Author.Needs.{needs}
-use Rattle.text.specs.Text.{size, padded}
+use Rattle.text.specs.Text.{size}
 use Rattle.text.proofs.Texts.{padded-none}
 use Rattle.card.proofs.Naming.{Named, start, at-end, room, room-one, on-blank, on-stop, on-plain}
 use Rattle.card.proofs.dotted_name.Statement.{statement}

@@ -1,5 +1,5 @@
 -- `card::hierarch` meets its contract: by where the = stands, and by whether a name stands before it.
-use Prim.Native.Nat.{ℕ, _+_, _<_, _≤_}
+use Prim.Native.Nat.{ℕ, _+_, _≤_}
 use Prim.Native.Char.{code}
 use native.Mathlib.Omega.{arith}
 use mathlib.Core.Path.{_≡_, refl, sym, ap, _∙_}
@@ -15,7 +15,6 @@ use Rattle.text.specs.Text.{size, textOf}
 use Rattle.text.proofs.Finding.{found-within}
 use Rattle.refusal.specs.declared.Refusal.the-variants as R
 use Rattle.refusal.specs.Numbers.{faultOf}
-use Rattle.value.specs.declared.ValueRead.{ValueRead}
 use Rattle.value.specs.Values.{valueOf}
 use Rattle.card.specs.Keywords.{dottedName}
 use Rattle.card.specs.Cards.{cardRefused, ofValue, named, byEquals, hierarchOf}

@@ -2,13 +2,12 @@
 use Prim.Native.Nat.{ℕ, _-_, _≤_}
 use native.Mathlib.Omega.{arith}
 use mathlib.Core.Path.{_≡_, sym, ap, _∙_}
-use mathlib.Core.Bool.{Bool, true, false}
+use mathlib.Core.Bool.{true, false}
 use mathlib.Core.List.{List}
-use lib.ListN.{length, take, drop, length-take, length-drop}
-use Rattle.text.specs.declared.Text.{Text}
+use lib.ListN.{length, drop, length-take, length-drop}
 use Rattle.text.specs.Bytes.{isSpace}
 use Rattle.text.specs.Trim.{trim}
-use Rattle.text.specs.Text.{size, textOf, bytesOf}
+use Rattle.text.specs.Text.{size, textOf}
 use Rattle.text.proofs.Trimming.{shorter}
 use Rattle.text.proofs.Texts.{whole-text, bytes-fit}
 use Rattle.refusal.specs.declared.Refusal.the-variants as R

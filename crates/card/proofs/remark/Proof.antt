@@ -1,5 +1,5 @@
 -- `card::remark` meets its contract.
-use mathlib.Core.Path.{_≡_, ap, _∙_}
+use mathlib.Core.Path.{ap, _∙_}
 use Rattle.card.specs.Cards.{cardAs}
 use borrow.Author.Needs.{needs}
 use Rattle.card.proofs.remark.Statement.{statement}

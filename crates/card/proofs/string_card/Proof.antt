@@ -1,7 +1,6 @@
 -- `card::string_card` meets its contract: by whether the string was read.
-use mathlib.Core.Path.{_≡_, _∙_, ap, sym}
+use mathlib.Core.Path.{_∙_, ap, sym}
 use Rattle.splitting.specs.declared.Quoted.{Quoted}
-use Rattle.splitting.specs.declared.Quoted.the-variants.{Refused}
 use Rattle.card.specs.Cards.{stringCard}
 use borrow.Author.Needs.{needs}
 use Rattle.card.proofs.string_card.Statement.{statement}

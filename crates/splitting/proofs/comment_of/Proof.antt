@@ -1,7 +1,7 @@
 -- `splitting::comment_of` meets its contract: a replaced byte is no space and was none, so spaces may go before the replacing.
-use Prim.Native.Nat.{ℕ, _≤_}
+use Prim.Native.Nat.{_≤_}
 use native.Mathlib.Omega.{arith}
-use mathlib.Core.Path.{_≡_, _∙_, ap, sym}
+use mathlib.Core.Path.{_∙_, ap, sym}
 use mathlib.Core.List.{map}
 use lib.ListN.{length}
 use Rattle.text.specs.Bytes.{isSpace, shown}

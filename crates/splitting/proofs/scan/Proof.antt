@@ -1,12 +1,11 @@
-use Prim.Native.Nat.{_-_, _≤_}
-use native.Mathlib.Omega.{arith}
+use Prim.Native.Nat.{_-_}
 use mathlib.Core.Logic.{⊎-elim}
-use mathlib.Core.Path.{_≡_, refl, sym, ap, ap₂, _∙_}
+use mathlib.Core.Path.{_≡_, sym, ap, ap₂, _∙_}
 use borrow.Author.Tests.{not-true, not-false}
 use borrow.Author.Needs.{needs}
-use lib.ListN.{length, drop, getD}
-use Rattle.splitting.specs.declared.Quoting.the-variants.{Outside, Inside, Closed}
-use Rattle.splitting.specs.Scan.{byteClass, move, puts, passes, ends, refused}
+use lib.ListN.{length, getD}
+use Rattle.splitting.specs.declared.Quoting.the-variants.{Inside}
+use Rattle.splitting.specs.Scan.{byteClass, move, puts}
 use Rattle.text.specs.Text.{size}
 use Rattle.text.proofs.Texts.{padded-none}
 use Rattle.splitting.proofs.Scanning.{class-quote, class-slash, class-plain, class-odd, inside-other}

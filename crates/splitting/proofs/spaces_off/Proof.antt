@@ -1,5 +1,4 @@
 -- `splitting::spaces_off` meets its contract: what is left after trimming fits, so it is copied whole.
-use Prim.Native.Nat.{_≤_}
 use native.Mathlib.Omega.{arith}
 use mathlib.Core.Path.{_≡_, _∙_, ap}
 use lib.ListN.{length, take}

@@ -1,8 +1,6 @@
 -- `splitting::unquoted` meets its contract, test by test. Assumes nothing.
-use Prim.Native.Nat.{ℕ, _-_}
-use mathlib.Core.Path.{_≡_, _∙_, ap, sym}
-use mathlib.Core.List.{List}
-use lib.ListN.{length, take, drop}
+use Prim.Native.Nat.{_-_}
+use mathlib.Core.Path.{_∙_, ap, sym}
 use Rattle.splitting.specs.declared.Quoted.the-variants.{Str}
 use Rattle.splitting.specs.declared.StringRead.{StringRead}
 use Rattle.text.specs.declared.Text.{Text}

@@ -1,5 +1,5 @@
 -- `value::number_value` meets its contract: the number's value and text are handed on.
-use mathlib.Core.Path.{_≡_, ap, _∙_}
+use mathlib.Core.Path.{ap, _∙_}
 use Rattle.numbers.specs.declared.Number.{Number}
 use Rattle.value.specs.Values.{valueAs, ofNumber}
 use borrow.Author.Needs.{needs}

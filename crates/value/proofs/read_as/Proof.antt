@@ -1,5 +1,5 @@
 -- `value::read_as` meets its contract: undefined and invalid values drop their comment.
-use mathlib.Core.Path.{_≡_, sym, ap, _∙_}
+use mathlib.Core.Path.{sym, _∙_}
 use mathlib.Core.Bool.{false}
 use Rattle.value.specs.declared.ValueAnswer.the-variants.{Read}
 use Rattle.value.proofs.Reading.{comment-kept, comment-dropped}

@@ -4,7 +4,7 @@ use Prim.Native.Char.{code}
 use native.Mathlib.Omega.{arith}
 use mathlib.Core.Path.{_≡_, sym, ap, _∙_}
 use mathlib.Core.List.{List}
-use lib.ListN.{length, drop, length-drop}
+use lib.ListN.{drop, length-drop}
 use Rattle.text.specs.declared.Place.{Place}
 use Rattle.text.specs.declared.Place.the-variants.{At, Nowhere}
 use Rattle.text.specs.Place.{placeOf}

@@ -1,5 +1,4 @@
 -- `value::value_with` meets its contract: by what the first byte says.
-use Prim.Native.Nat.{_≤_}
 use native.Mathlib.Omega.{arith}
 use mathlib.Core.Path.{_≡_, sym, ap, _∙_}
 use lib.ListN.{length}
