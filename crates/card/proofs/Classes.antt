@@ -60,17 +60,17 @@ module _ (x y : Class) {t : Bool} where
 -- ---- after the replacing only spaces are blank
 pub blank-shown : (b : ℕ) → isBlank (shown b) ≡ isSpace b
 unfolding shown isSpace isBlank isPrintable
-blank-shown b = go (isPrintable b) refl (eqb b (code " ")) refl
+blank-shown b = go (isPrintable b) refl (isSpace b) refl
   where
     -- a control byte is below the space
-    control : (m : ℕ) → m < 32 → 32 ≤ b → eqb b m ≡ false
+    control : (m : ℕ) → m < code " " → code " " ≤ b → eqb b m ≡ false
     control m h least = ne-eqb b m (λ x. let y : b ≡ m = x in omega arith)
 
-    go : (t : Bool) → isPrintable b ≡ t → (u : Bool) → eqb b (code " ") ≡ u → isBlank (cond (isPrintable b) b 127) ≡ eqb b (code " ")
+    go : (t : Bool) → isPrintable b ≡ t → (u : Bool) → isSpace b ≡ u → isBlank (shown b) ≡ isSpace b
     go true e true d = rw (e, d)
     go true e false d =
-        let least : 32 ≤ b = leb-true 32 b (and-both (leb 32 b) (leb b 126) e .0) in
-        let none : (m : ℕ) → m < 32 → eqb b m ≡ false = λ m h. control m h least in
+        let least : code " " ≤ b = leb-true (code " ") b (and-both (leb (code " ") b) (leb b (code "~")) e .0) in
+        let none : (m : ℕ) → m < code " " → eqb b m ≡ false = λ m h. control m h least in
         rw (e, d, none 9 (omega arith), none 10 (omega arith), none 12 (omega arith), none 13 (omega arith))
     go false e true d = absurd (true≢false (rw (eqb-true b (code " ") d) at e))
     go false e false d = rw (e, d)
@@ -82,13 +82,13 @@ module _ (s : List ℕ) where
   too-short h = rw (lt-leb 2 (length s) h)
 
   module _ (long : 2 ≤ length s) where
-    pub unopened : (Opens s → ⊥) → isWithinQuotes s ≡ false
+    pub not-opened : (Opens s → ⊥) → isWithinQuotes s ≡ false
     unfolding isWithinQuotes
-    unopened e = rw (le-leb 2 (length s) long, ne-eqb _ (code "'") e)
+    not-opened e = rw (le-leb 2 (length s) long, ne-eqb _ (code "'") e)
 
-    pub unclosed : Opens s → (Closes s → ⊥) → isWithinQuotes s ≡ false
+    pub not-closed : Opens s → (Closes s → ⊥) → isWithinQuotes s ≡ false
     unfolding isWithinQuotes endsWith
-    unclosed e d = rw (le-leb 2 (length s) long, eq-eqb _ (code "'") e, ne-eqb _ (code "'") d)
+    not-closed e d = rw (le-leb 2 (length s) long, eq-eqb _ (code "'") e, ne-eqb _ (code "'") d)
 
     pub quoted : Opens s → Closes s → isWithinQuotes s ≡ true
     unfolding isWithinQuotes endsWith

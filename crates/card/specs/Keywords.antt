@@ -11,10 +11,14 @@ use Rattle.text.specs.Same.{same}
 use Rattle.card.specs.declared.Class.{Class}
 use Rattle.card.specs.declared.Class.the-variants.{Empty, Comment, History, Continue, Xtension, Hierarch, End, Other}
 
+-- the first byte behind those of ASCII
+abbrev pub firstHigh : ℕ
+firstHigh = 128
+
 -- a byte of 128 or more stands in it
 unfoldable pub hasHigh : List ℕ → Bool
 hasHigh [] = false
-hasHigh (b ∷ s) = cond (leb 128 b) true (hasHigh s)
+hasHigh (b ∷ s) = cond (leb firstHigh b) true (hasHigh s)
 
 -- bytes 0..7, trimmed at both ends
 abbrev pub keywordOf : List ℕ → List ℕ

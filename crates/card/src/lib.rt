@@ -72,6 +72,9 @@ const HIERARCHY: usize = 9;
 // Where a value begins.
 const VALUE: usize = 10;
 
+// The first byte behind those of ASCII.
+const FIRST_HIGH: u8 = 128;
+
 const QUOTE: u8 = b'\'';
 
 const FULL_STOP: u8 = b'.';
@@ -161,7 +164,7 @@ fn has_high(s: &[u8]) -> bool
 {
     let mut i = 0;
     while i < s.len() {
-        if 128 <= s[i] {
+        if FIRST_HIGH <= s[i] {
             return true;
         }
         i += 1;

@@ -8,6 +8,7 @@ use mathlib.Core.List.{List, [], _∷_}
 use borrow.Author.Tests.{eq-eqb, ne-eqb}
 use lib.ListN.{length, drop, getD}
 use Rattle.text.specs.declared.Text.{Text}
+use Rattle.text.proofs.Trimming.{at-next}
 use Rattle.text.specs.Text.{textOf}
 use Rattle.text.specs.Place.{placeOf}
 use Rattle.numbers.specs.declared.Value.{Value}
@@ -35,15 +36,14 @@ unfolding unitOf
 unit-empty [] e = refl
 unit-empty (b ∷ s) e = absurd (omega arith)
 
-by-first : (s : List ℕ) → (length s ≡ 0 → ⊥) → s ≡ getD s 0 0 ∷ drop 1 s
-by-first [] h = absurd (h refl)
-by-first (b ∷ s) h = refl
-
 module _ (s : List ℕ) (some : length s ≡ 0 → ⊥) where
+  by-first : s ≡ getD s 0 0 ∷ drop 1 s
+  by-first = at-next s 0 (omega (arith, some))
+
   pub unit-none : (getD s 0 0 ≡ code "[" → ⊥) → unitOf s ≡ Nowhere
   unfolding unitOf
-  unit-none e = ap unitOf (by-first s some) ∙ rw (ne-eqb _ (code "[") e)
+  unit-none e = ap unitOf by-first ∙ rw (ne-eqb _ (code "[") e)
 
   pub unit-some : getD s 0 0 ≡ code "[" → unitOf s ≡ closedAt (placeOf (code "]") (drop 1 s))
   unfolding unitOf
-  unit-some e = ap unitOf (by-first s some) ∙ rw (eq-eqb _ (code "[") e)
+  unit-some e = ap unitOf by-first ∙ rw (eq-eqb _ (code "[") e)

@@ -14,7 +14,7 @@ use Rattle.refusal.specs.declared.Refusal.the-variants as R
 use Rattle.refusal.specs.Numbers.{faultOf}
 use Rattle.card.specs.declared.Card.the-variants.{Xtension}
 use Rattle.card.specs.Cards.{cardRefused, cardAs, isWithinQuotes, inside, quotedCard}
-use Rattle.card.proofs.Classes.{too-short, unopened, unclosed, quoted}
+use Rattle.card.proofs.Classes.{too-short, not-opened, not-closed, quoted}
 use borrow.Author.Needs.{needs}
 use Rattle.card.proofs.quoted_card.Statement.{statement}
 use Rattle.card.proofs.quoted_card.Tie as tie
@@ -81,7 +81,7 @@ returns-2 c =
     let first = long .before in
     c .refused2 .ensures
     ∙ ap cardRefused (c .before .fault-of2 .ensures)
-    ∙ not-within first (unopened (text first) (long .if1 .left) (test .if2 .taken))
+    ∙ not-within first (not-opened (text first) (long .if1 .left) (test .if2 .taken))
 
 sub-if3 : tie.Need-sub-if3
 sub-if3 c = search needs
@@ -102,7 +102,7 @@ returns-3 c =
     let starts = second .if2 .left in
     c .refused3 .ensures
     ∙ ap cardRefused (c .before .fault-of3 .ensures)
-    ∙ not-within first (unclosed (text first) (second .before .before .if1 .left) starts (c .before .before .if3 .taken))
+    ∙ not-within first (not-closed (text first) (second .before .before .if1 .left) starts (c .before .before .if3 .taken))
 
 sub-trimmed : tie.Need-sub-trimmed
 sub-trimmed c = search needs
