@@ -10,11 +10,13 @@ use lib.Dec.{eqb}
 use lib.IntN.{ℤ}
 use lib.ListN.{length, take, drop, length-take, length-drop}
 use Rattle.rice.specs.Widths.{fsBits, startBytes, following}
-use Rattle.refusal.specs.Numbers.{refusal}
-use Rattle.refusal.specs.declared.Refusal.{Refusal}
+use Rattle.refusal.specs.declared.Refusal.the-variants as R
+use Rattle.refusal.specs.declared.Fault.{Fault}
 use Rattle.rice.specs.Reads.{Read, found, short, fieldRead, diffRead, moved}
-use Rattle.rice.specs.Blocks.{End, whole, cut, Run, onward, runOf, runFrom, answerOf, Outcome, codeOf, coded, withField, blockOf}
-use Rattle.rice.specs.Steps.{planOf, stands, lent, stepIn, stepOf, Finished, afterStep, stepsOf, startAt, openIn, openOf, decodeFrom, decodeIn, decodeOf}
+use Rattle.rice.specs.Blocks.{End, whole, cut, Run, onward, runOf, runFrom, ranTo}
+use Rattle.rice.specs.Blocks.{StepOutcome, codeOf, coded, withField, blockOf}
+use Rattle.rice.specs.Steps.{planOf, startAt, openIn, openOf, stands, lent, stepIn, stepOf}
+use Rattle.rice.specs.Steps.{DecodeOutcome, decodeRefused, afterStep, stepsOf, decodeFrom, decodeIn, decodeOf}
 use Rattle.rice.specs.declared.width.Width.{Width}
 use Rattle.rice.specs.declared.width.Code.{Code}
 use Rattle.rice.specs.declared.Cursor.{Cursor}
@@ -26,6 +28,7 @@ use Rattle.rice.specs.declared.Opened.{Opened}
 use Rattle.rice.specs.declared.Opened.the-variants as O
 use Rattle.rice.specs.declared.width.Planned.{Planned}
 use Rattle.rice.specs.declared.width.Planned.the-variants.{Of, None}
+use Rattle.rice.specs.declared.Decoded.{Decoded}
 use Rattle.rice.specs.declared.Decoded.the-variants as D
 use Rattle.rice.proofs.Stepping.{plan-within, standing}
 
@@ -46,9 +49,9 @@ run-length w code s (suc k) p last = onward-length w last k (runOf w code s k) (
 abbrev Bounded : ℕ → ℕ → Stepped → Type 0
 Bounded d n Done = ⊥
 Bounded d n (Next c) = c .done ≡ d + n
-Bounded d n (Refused why m) = m ≤ n
+Bounded d n (Refused f m) = m ≤ n
 
-answer-bounded : (c : Cursor) (n : ℕ) (e : End) (k : ℕ) → k ≤ n → Bounded (c .done) n (answerOf c n e k)
+answer-bounded : (c : Cursor) (n : ℕ) (e : End) (k : ℕ) → k ≤ n → Bounded (c .done) n (ranTo c n e k)
 answer-bounded c n (whole p last) k h = refl
 answer-bounded c n cut k h = h
 
@@ -74,19 +77,19 @@ block-bounded w s c part = field-bounded w s c part (fieldRead s (c .bit) (fsBit
 abbrev pub Fine : ℕ → ℕ → ℕ → Stepped → Type 0
 Fine nx d l Done = d ≡ nx
 Fine nx d l (Next c) = (d < c .done) × (c .done ≤ nx)
-Fine nx d l (Refused why m) = m ≤ l
+Fine nx d l (Refused f m) = m ≤ l
 
 fine-of : (nx d l n : ℕ) (a : Stepped) → 0 < n → d + n ≤ nx → n ≤ l → Bounded d n a → Fine nx d l a
 fine-of nx d l n Done h k m b = absurd b
 fine-of nx d l n (Next c) h k m b = (omega arith, omega arith)
-fine-of nx d l n (Refused why j) h k m b = omega arith
+fine-of nx d l n (Refused f j) h k m b = omega arith
 
-by-test : (P : Outcome → Type 0) (t : Bool) {x y : Outcome} → (t ≡ true → P x) → (t ≡ false → P y) → P (cond t x y)
+by-test : (P : StepOutcome → Type 0) (t : Bool) {x y : StepOutcome} → (t ≡ true → P x) → (t ≡ false → P y) → P (cond t x y)
 by-test P true h k = h refl
 by-test P false h k = k refl
 
 module _ (s : List ℕ) (nx nblock bits : ℕ) (c : Cursor) (px : List ℤ) where
-  abbrev pub FineOf : Outcome → Type 0
+  abbrev pub FineOf : StepOutcome → Type 0
   FineOf o = Fine nx (c .done) (length px) (o .answer)
 
   lent-fine : (w : Width) → 1 ≤ nblock → length px ≡ nx → c .done < nx
@@ -155,23 +158,23 @@ module _ {s : List ℕ} {nx nblock bits : ℕ} {px₀ px new : List ℤ} {c₀ c
       → (D.Whole (c .bit) ≡ stepsOf s nx nblock bits (suc nx) c₀ px₀ .answer) ×
       (new ≡ stepsOf s nx nblock bits (suc nx) c₀ px₀ .content)
   running-done e = (
-    sym (ap (λ (f : Finished). f .answer) (one-step Done e)),
-    sym (ap (λ (f : Finished). f .content) (one-step Done e)),
+    sym (ap (λ (f : DecodeOutcome). f .answer) (one-step Done e)),
+    sym (ap (λ (f : DecodeOutcome). f .content) (one-step Done e)),
   )
 
-  pub running-refused : (why : Refusal) (n : ℕ) → Refused why n ≡ stepOf s nx nblock bits c px .answer
-      → (D.Refused why (c .done + n) ≡ stepsOf s nx nblock bits (suc nx) c₀ px₀ .answer) ×
+  pub running-refused : (f : Fault) (n : ℕ) → Refused f n ≡ stepOf s nx nblock bits c px .answer
+      → (D.Refused f (c .done + n) ≡ stepsOf s nx nblock bits (suc nx) c₀ px₀ .answer) ×
       (new ≡ stepsOf s nx nblock bits (suc nx) c₀ px₀ .content)
-  running-refused why n e = (
-    sym (ap (λ (f : Finished). f .answer) (one-step (Refused why n) e)),
-    sym (ap (λ (f : Finished). f .content) (one-step (Refused why n) e)),
+  running-refused f n e = (
+    sym (ap (λ (o : DecodeOutcome). o .answer) (one-step (Refused f n) e)),
+    sym (ap (λ (o : DecodeOutcome). o .content) (one-step (Refused f n) e)),
   )
 
 -- ---- whole decoding, by its tests
 
 abbrev AtZero : Opened → Type 0
 AtZero (O.At c) = c .done ≡ 0
-AtZero (O.Refused why) = Unit {0}
+AtZero (O.Refused f) = Unit {0}
 
 start-zero : (w : Width) (r : Read) → AtZero (startAt w r)
 start-zero w (found v q) = refl
@@ -187,13 +190,13 @@ open-zero s nx nblock bits e = subst AtZero e (in-zero s (planOf (length s) nx n
 
 module _ (s : List ℕ) (nx nblock bits : ℕ) (px : List ℤ) where
   pub decode-limits : planOf (length s) nx nblock bits ≡ None
-      → decodeOf s nx nblock bits px ≡ record { answer = D.Refused (refusal 14) 0; content = px }
+      → decodeOf s nx nblock bits px ≡ decodeRefused R.Limits px
   unfolding decodeOf
   decode-limits e = ap (decodeIn s nx nblock bits px) e
 
   module _ (w : Width) (plan : planOf (length s) nx nblock bits ≡ Of w) where
     pub decode-count : (length px ≡ nx → ⊥)
-        → decodeOf s nx nblock bits px ≡ record { answer = D.Refused (refusal 15) 0; content = px }
+        → decodeOf s nx nblock bits px ≡ decodeRefused R.PixelCount px
     unfolding decodeOf
     decode-count h = ap (decodeIn s nx nblock bits px) plan ∙ rw (ne-eqb (length px) nx h)
 
@@ -203,6 +206,6 @@ module _ (s : List ℕ) (nx nblock bits : ℕ) (px : List ℤ) where
     decode-open h o e = ap (decodeIn s nx nblock bits px) plan
         ∙ rw (eq-eqb (length px) nx h) (ap (decodeFrom s nx nblock bits px) e)
 
--- the two parts of what whole decoding comes to
-pub finished : {f g : Finished} → f ≡ g → (g .answer ≡ f .answer) × (g .content ≡ f .content)
-finished e = (sym (ap (λ (f : Finished). f .answer) e), sym (ap (λ (f : Finished). f .content) e))
+-- the two parts of what whole decoding comes to, where a is its answer
+pub finished : {a : Decoded} {f g : DecodeOutcome} → a ≡ g .answer → f ≡ g → (a ≡ f .answer) × (g .content ≡ f .content)
+finished h e = (h ∙ sym (ap (λ (f : DecodeOutcome). f .answer) e), sym (ap (λ (f : DecodeOutcome). f .content) e))

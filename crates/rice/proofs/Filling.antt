@@ -11,14 +11,16 @@ use lib.Seq.{sets}
 use lib.Pow.{pow-pos, pow-mono}
 use Rattle.rice.proofs.Fields.{field-lt}
 use Rattle.rice.specs.Widths.{following}
-use Rattle.refusal.specs.Numbers.{refusal}
+use Rattle.refusal.specs.Numbers.{faultOf}
+use Rattle.refusal.specs.declared.Refusal.the-variants.{TileEnds}
 use Rattle.rice.specs.Reads.{Read, found, short, fieldRead, runRead, above, thenField, diffRead}
 use Rattle.rice.specs.Held.{CodeFits}
-use Rattle.rice.specs.Blocks.{End, whole, cut, Run, also, onward, runOf, answerOf, filledOf}
+use Rattle.rice.specs.Blocks.{End, whole, cut, Run, also, onward, runOf, ranTo, filledOf}
 use Rattle.rice.specs.declared.width.Width.{Width}
 use Rattle.rice.specs.declared.width.Code.{Code}
 use Rattle.rice.specs.declared.width.Code.the-variants.{Same, Raw, Split}
 use Rattle.rice.specs.declared.Cursor.{Cursor}
+use Rattle.rice.specs.declared.Stepped.{Stepped}
 use Rattle.rice.specs.declared.Stepped.the-variants.{Next, Refused}
 use Rattle.rice.proofs.Reading.{field-of}
 
@@ -94,10 +96,11 @@ going-stops {new = new} {i = i} g h = record {
 
 -- the answer, where the run is that of the contract
 module _ (c : Cursor) (n : ℕ) {R R′ : Run} {old new : List ℤ} {i : ℕ} (same : R ≡ R′) where
-  pub filled-cut : Stored R old new i cut → (Refused (refusal 16) i ≡ filledOf c n R′) × (new ≡ sets old 0 (R′ .pixels))
-  filled-cut s = (
-    sym (ap (filledOf c n) (sym same) ∙ ap (λ (e : End). answerOf c n e (length (R .pixels))) (s .ended)
-        ∙ ap (Refused (refusal 16)) (s .counted)),
+  pub filled-cut : Stored R old new i cut → {a : Stepped} → a ≡ Refused (faultOf TileEnds) i
+      → (a ≡ filledOf c n R′) × (new ≡ sets old 0 (R′ .pixels))
+  filled-cut s e = (
+    e ∙ sym (ap (filledOf c n) (sym same) ∙ ap (λ (e : End). ranTo c n e (length (R .pixels))) (s .ended)
+        ∙ ap (Refused (faultOf TileEnds)) (s .counted)),
     s .content ∙ ap (λ (r : Run). sets old 0 (r .pixels)) same,
   )
 
@@ -105,6 +108,6 @@ module _ (c : Cursor) (n : ℕ) {R R′ : Run} {old new : List ℤ} {i : ℕ} (s
       → (Next (record { bit = p; done = c .done + i; last = z }) ≡ filledOf c n R′) × (new ≡ sets old 0 (R′ .pixels))
   filled-whole {p} h e s = (
     ap₂ (λ (k : ℕ) (y : ℤ). Next (record { bit = p; done = c .done + k; last = y })) h e
-        ∙ sym (ap (filledOf c n) (sym same) ∙ ap (λ (x : End). answerOf c n x (length (R .pixels))) (s .ended)),
+        ∙ sym (ap (filledOf c n) (sym same) ∙ ap (λ (x : End). ranTo c n x (length (R .pixels))) (s .ended)),
     s .content ∙ ap (λ (r : Run). sets old 0 (r .pixels)) same,
   )

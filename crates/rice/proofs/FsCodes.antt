@@ -7,18 +7,17 @@ use native.Mathlib.Omega.{arith}
 use borrow.Author.Tests.{eq-eqb, ne-eqb, le-leb, lt-leb, leb-true}
 use lib.Dec.{eqb, leb}
 use lib.IntN.{ℤ}
-use Rattle.refusal.specs.Numbers.{refusal}
+use Rattle.refusal.specs.declared.Refusal.the-variants as R
 use Rattle.rice.specs.Widths.{bitsOf, fsBits, fsTop}
 use Rattle.rice.specs.Reads.{found, short, fieldRead, moved}
 use Rattle.rice.specs.Held.{CodeFits}
-use Rattle.rice.specs.Blocks.{Outcome, codeOf, coded, withField, blockOf}
+use Rattle.rice.specs.Blocks.{StepOutcome, stepRefused, codeOf, coded, withField, blockOf}
 use Rattle.rice.specs.declared.width.Width.{Width}
 use Rattle.rice.specs.declared.Cursor.{Cursor}
 use Rattle.rice.specs.declared.width.Code.{Code}
 use Rattle.rice.specs.declared.width.Code.the-variants.{Same, Raw, Split}
 use Rattle.rice.specs.declared.width.Coded.the-variants.{Known, Above}
 use Rattle.rice.specs.declared.Stepped.{Stepped}
-use Rattle.rice.specs.declared.Stepped.the-variants.{Refused}
 use Rattle.rice.proofs.Wrapping.{sizes}
 
 -- ---- what a field says, by its number
@@ -62,12 +61,12 @@ code-fits w f code e = known-fits (eqb f 0) (leb f (fsTop w)) (eqb f (fsTop w + 
 
 module _ (w : Width) (s : List ℕ) (c : Cursor) (part : List ℤ) where
   pub block-short : fieldRead s (c .bit) (fsBits w) ≡ short
-      → blockOf w s c part ≡ record { answer = Refused (refusal 16) 0; content = part }
+      → blockOf w s c part ≡ stepRefused R.TileEnds part
   unfolding blockOf
   block-short e = ap (withField w s c part) e
 
   module _ (d : Cursor) (f : ℕ) (e : fieldRead s (c .bit) (fsBits w) ≡ found f (d .bit)) (m : d ≡ moved c (d .bit)) where
-    pub block-above : codeOf w f ≡ Above → blockOf w s c part ≡ record { answer = Refused (refusal 17) 0; content = part }
+    pub block-above : codeOf w f ≡ Above → blockOf w s c part ≡ stepRefused R.FsAboveTop part
     unfolding blockOf
     block-above a = ap (withField w s c part) e ∙ ap (coded w s (moved c (d .bit)) part) a
 
@@ -75,7 +74,7 @@ module _ (w : Width) (s : List ℕ) (c : Cursor) (part : List ℤ) where
     unfolding blockOf
     block-known code k = ap (withField w s c part) e ∙ ap₂ (λ x y. coded w s x part y) (sym m) k
 
--- an outcome's two parts
-pub outcome : {o : Outcome} {a : Stepped} {p : List ℤ} → o ≡ record { answer = a; content = p }
-    → (a ≡ o .answer) × (p ≡ o .content)
-outcome e = (sym (ap (λ (o : Outcome). o .answer) e), sym (ap (λ (o : Outcome). o .content) e))
+-- an outcome's two parts, where b is its answer
+pub outcome : {o : StepOutcome} {a b : Stepped} {p : List ℤ} → b ≡ a → o ≡ record { answer = a; content = p }
+    → (b ≡ o .answer) × (p ≡ o .content)
+outcome h e = (h ∙ sym (ap (λ (o : StepOutcome). o .answer) e), sym (ap (λ (o : StepOutcome). o .content) e))

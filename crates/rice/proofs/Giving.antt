@@ -7,7 +7,7 @@ use lib.Bits.{bitAnd}
 use lib.Count.{leadingZeros}
 use Rattle.rice.specs.Tile.{bitsIn, fieldAt, zerosAt}
 use Rattle.rice.specs.Reads.{Read, found, diffRead}
-use Rattle.rice.specs.Held.{heldOf, bareAt, pastOf, Holds, After, Found, Gives}
+use Rattle.rice.specs.Held.{heldBits, bareAt, pastOf, Holds, After, Found, Gives}
 use Rattle.rice.specs.declared.ahead.Ahead.{Ahead}
 use Rattle.rice.specs.declared.ahead.Got.{Got}
 use Rattle.rice.specs.declared.ahead.Got.the-variants.{Bits}
@@ -50,7 +50,7 @@ module _ (s : List ℕ) (a : Ahead) (H : Holds s a) where
   module _ (n fs : ℕ) (l : fs ≤ 24) (lead : n < 64 → n ≡ leadingZeros 64 (a .held)) (w : n + 1 + fs < a .count) where
     run : n ≡ zerosAt s (a .bit) (a .count)
     run =
-        let is : n ≡ leadingZeros 64 (heldOf s (a .bit) (a .count)) = lead (omega (arith, H .few)) ∙ ap (leadingZeros 64) (H .held) in
+        let is : n ≡ leadingZeros 64 (heldBits s (a .bit) (a .count)) = lead (omega (arith, H .few)) ∙ ap (leadingZeros 64) (H .held) in
         is ∙ zeros-held s (a .bit) (a .count) (H .few) (omega arith)
 
     pub split-gives : (b : Ahead) → b ≡ pastOf a (n + 1 + fs)

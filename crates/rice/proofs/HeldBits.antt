@@ -1,4 +1,5 @@
--- Laws of bits that are held at the top of a word: the first of them, what is left after some are used, and their run of zeros. Assumes nothing.
+-- Laws of bits that are held at the top of a word: the first of them, what is left after some are used, and their run of zeros.
+-- Assumes nothing.
 use mathlib.Core.Path.{_≡_, sym, ap, _∙_}
 use mathlib.Core.List.{List}
 use Prim.Native.Nat.{ℕ, zero, suc, _+_, _-_, _*_, _/_, _%_, _^_, _≤_, _<_}
@@ -7,7 +8,7 @@ use native.Mathlib.Omega.{arith}
 use lib.Count.{leadingZeros, leading-of-zero, leading-top, leading-unique}
 use lib.Pow.{low, pow-add, shl-lt, shl-shr, shr-shr}
 use Rattle.rice.specs.Tile.{fieldAt, zerosAt}
-use Rattle.rice.specs.Held.{heldOf}
+use Rattle.rice.specs.Held.{heldBits}
 use Rattle.rice.proofs.Fields.{field-lt, field-split, field-first}
 use Rattle.rice.proofs.ZeroRuns.{zeros-long}
 
@@ -27,7 +28,7 @@ held-on s p a b k h =
     ap (λ (n : ℕ). n % 2 ^ 64) parts ∙ low A 64 small
 
 -- u of c bits are used
-pub held-shift : (s : List ℕ) (p c u : ℕ) → u ≤ c → c ≤ 64 → heldOf s p c * 2 ^ u % 2 ^ 64 ≡ heldOf s (p + u) (c - u)
+pub held-shift : (s : List ℕ) (p c u : ℕ) → u ≤ c → c ≤ 64 → heldBits s p c * 2 ^ u % 2 ^ 64 ≡ heldBits s (p + u) (c - u)
 held-shift s p c u h k =
     let all : c ≡ u + (c - u) = omega arith in
     let below : 64 - c + u ≡ 64 - (c - u) = omega arith in
@@ -38,7 +39,7 @@ held-shift s p c u h k =
     ∙ ap (λ (n : ℕ). fieldAt s (p + u) (c - u) * 2 ^ n) below
 
 -- the word that starts at p's byte, with the bits before p shifted out
-pub window-held : (s : List ℕ) (p : ℕ) → fieldAt s (p / 8 * 8) 64 * 2 ^ (p % 8) % 2 ^ 64 ≡ heldOf s p (64 - p % 8)
+pub window-held : (s : List ℕ) (p : ℕ) → fieldAt s (p / 8 * 8) 64 * 2 ^ (p % 8) % 2 ^ 64 ≡ heldBits s p (64 - p % 8)
 window-held s p =
     let all : 64 ≡ p % 8 + (64 - p % 8) = omega arith in
     let place : p / 8 * 8 + p % 8 ≡ p = omega arith in
@@ -49,19 +50,19 @@ window-held s p =
     ∙ ap (λ (n : ℕ). fieldAt s p (64 - p % 8) * 2 ^ n) below
 
 -- the first n of m bits
-pub held-first : (s : List ℕ) (p n m : ℕ) → n ≤ m → m ≤ 64 → heldOf s p m / 2 ^ (64 - n) ≡ fieldAt s p n
+pub held-first : (s : List ℕ) (p n m : ℕ) → n ≤ m → m ≤ 64 → heldBits s p m / 2 ^ (64 - n) ≡ fieldAt s p n
 held-first s p n m h k =
     let e : 64 - n ≡ 64 - m + (m - n) = omega arith in
-    ap (λ (j : ℕ). heldOf s p m / 2 ^ j) e
-    ∙ sym (shr-shr (heldOf s p m) (64 - m) (m - n))
+    ap (λ (j : ℕ). heldBits s p m / 2 ^ j) e
+    ∙ sym (shr-shr (heldBits s p m) (64 - m) (m - n))
     ∙ ap (λ (x : ℕ). x / 2 ^ (m - n)) (shl-shr (fieldAt s p m) (64 - m))
     ∙ field-first s p n m h
 
 -- the same by two shifts, neither of them by the whole word
-pub held-cut : (s : List ℕ) (p n m : ℕ) → n ≤ m → m ≤ 64 → n ≤ 63 → heldOf s p m / 2 ^ 1 / 2 ^ (63 - n) ≡ fieldAt s p n
+pub held-cut : (s : List ℕ) (p n m : ℕ) → n ≤ m → m ≤ 64 → n ≤ 63 → heldBits s p m / 2 ^ 1 / 2 ^ (63 - n) ≡ fieldAt s p n
 held-cut s p n m h k l =
     let e : 1 + (63 - n) ≡ 64 - n = omega arith in
-    shr-shr (heldOf s p m) 1 (63 - n) ∙ ap (λ (j : ℕ). heldOf s p m / 2 ^ j) e ∙ held-first s p n m h k
+    shr-shr (heldBits s p m) 1 (63 - n) ∙ ap (λ (j : ℕ). heldBits s p m / 2 ^ j) e ∙ held-first s p n m h k
 
 -- a number of d digits after z zeros, moved up to the top of a word
 counted : (z f m j d : ℕ) → z + d ≡ m → m + j ≡ 64 → f < 2 ^ d → 2 ^ d ≤ 2 * f + 1 → leadingZeros 64 (f * 2 ^ j) < m
@@ -79,8 +80,8 @@ counted z f m j (suc d) e k h l t =
     sym (leading-unique 64 (f * 2 ^ j) z (suc d + j) (omega arith) (shl-lt (suc d) j h) long)
 
 -- the leading zeros of what is held are the tile's run of zeros, where the run ends in it
-pub zeros-held : (s : List ℕ) (p m : ℕ) → m ≤ 64 → leadingZeros 64 (heldOf s p m) < m
-    → leadingZeros 64 (heldOf s p m) ≡ zerosAt s p m
+pub zeros-held : (s : List ℕ) (p m : ℕ) → m ≤ 64 → leadingZeros 64 (heldBits s p m) < m
+    → leadingZeros 64 (heldBits s p m) ≡ zerosAt s p m
 zeros-held s p m h t =
     let r = zeros-long s p m in
     counted (zerosAt s p m) (fieldAt s p m) m (64 - m) (r .0) (r .1) (omega arith) (r .2) (r .3) t

@@ -2,7 +2,8 @@
 use mathlib.Core.Path.{_≡_, refl, sym, ap, _∙_}
 use mathlib.Core.Bool.{Bool, true, false}
 use Prim.Native.Nat.{ℕ, suc, _+_, _-_, _*_, _/_, _%_, _^_, _<_}
-use native.Mathlib.Nat.{add-mul, one-mul, mul-assoc, add-mod, mod-add-mod, add-mod-mod, mod-lt, mod-eq-of-lt, add-mul-mod-self-right, div-add-mod', add-comm}
+use native.Mathlib.Nat.{add-comm, add-mul, one-mul, mul-assoc}
+use native.Mathlib.Nat.{add-mod, mod-add-mod, add-mod-mod, mod-lt, mod-eq-of-lt, add-mul-mod-self-right, div-add-mod'}
 use native.Mathlib.Omega.{arith}
 use lib.Dec.{ltb}
 use borrow.Author.Tests.{ltb-true, ltb-false}

@@ -11,8 +11,9 @@ use lib.Dec.{leb, ltb}
 use lib.ListN.{length}
 use lib.Pow.{pow-mono, pow-pos}
 use Rattle.rice.specs.Tile.{bitsIn, fieldAt, zerosAt}
-use Rattle.rice.specs.Reads.{Read, found, short, fieldRead, runRead, above, thenField, diffRead, moved, takenOf, mostBytes, mostBits, takeOf, skipOf}
-use Rattle.rice.specs.Held.{heldOf}
+use Rattle.rice.specs.Reads.{Read, found, short, fieldRead, runRead, above, thenField, diffRead}
+use Rattle.rice.specs.Reads.{moved, takenOf, mostBytes, mostBits, takeOf, skipOf}
+use Rattle.rice.specs.Held.{heldBits}
 use Rattle.rice.specs.declared.Cursor.{Cursor}
 use Rattle.rice.specs.declared.Taken.the-variants.{Bits, Short}
 use Rattle.rice.specs.declared.width.Code.the-variants.{Split}
@@ -146,12 +147,12 @@ module _ (s : List ℕ) (p n fs c : ℕ) (e : n ≡ zerosAt s p c) (w : n + 1 + 
   word-run : runRead s p ≡ found n (p + n + 1)
   word-run = run-found s p n (e ∙ sym (zeros-same s p (bitsIn s - p) c (omega arith) (omega arith))) (omega arith)
 
-  word-rest : heldOf s p c / 2 ^ (64 - (n + 1 + fs)) % 2 ^ fs ≡ fieldAt s (p + n + 1) fs
+  word-rest : heldBits s p c / 2 ^ (64 - (n + 1 + fs)) % 2 ^ fs ≡ fieldAt s (p + n + 1) fs
   word-rest =
       ap (λ (x : ℕ). x % 2 ^ fs) (held-first s p (n + 1 + fs) c (omega arith) m)
       ∙ field-end s p (n + 1) fs ∙ ap (λ (q : ℕ). fieldAt s q fs) (omega arith)
 
-  pub word-read : diffRead (Split fs) s p ≡ found (n * 2 ^ fs + heldOf s p c / 2 ^ (64 - (n + 1 + fs)) % 2 ^ fs)
+  pub word-read : diffRead (Split fs) s p ≡ found (n * 2 ^ fs + heldBits s p c / 2 ^ (64 - (n + 1 + fs)) % 2 ^ fs)
       (p + (n + 1 + fs))
   word-read =
       split-found s p fs word-run (field-found s (p + n + 1) fs (omega arith))

@@ -10,11 +10,15 @@ use lib.IntN.{ℤ}
 use lib.ListN.{length, take, drop}
 use native.Mathlib.Nat.{zero-add}
 use borrow.Rule.Slice.PartMut.{putMid, post-is}
+use Rattle.laws.proofs.Truths.{and-both}
 use Rattle.rice.specs.Tile.{bitsIn, fieldAt}
 use Rattle.rice.specs.Widths.{startBytes, pixelOf, inWidth}
-use Rattle.refusal.specs.Numbers.{refusal}
+use Rattle.refusal.specs.Numbers.{faultOf}
+use Rattle.refusal.specs.declared.Refusal.the-variants as R
 use Rattle.rice.specs.Reads.{fieldRead, mostBytes}
-use Rattle.rice.specs.Steps.{mostPixels, mostBlock, inLimits, widthOf, planOf, stands, refused, lent, stepIn, stepOf, startAt, openIn, openOf}
+use Rattle.rice.specs.Blocks.{stepRefused}
+use Rattle.rice.specs.Steps.{mostPixels, mostBlock, inLimits, widthOf, planOf}
+use Rattle.rice.specs.Steps.{stands, lent, stepIn, stepOf, startAt, openIn, openOf}
 use Rattle.rice.specs.declared.width.Width.{Width}
 use Rattle.rice.specs.declared.Cursor.{Cursor}
 use Rattle.rice.specs.declared.Stepped.the-variants.{Done}
@@ -22,10 +26,6 @@ use Rattle.rice.specs.declared.Opened.the-variants as O
 use Rattle.rice.proofs.Reading.{field-found, field-short}
 use Rattle.rice.specs.declared.width.Planned.{Planned}
 use Rattle.rice.specs.declared.width.Planned.the-variants.{Of, None}
-
-and-true : (a b : Bool) → a && b ≡ true → (a ≡ true) × (b ≡ true)
-and-true true b e = (refl, e)
-and-true false b e = let z : _≡_ {A = ℕ} 0 1 = cc in absurd (omega arith)
 
 -- ---- limits
 
@@ -39,10 +39,10 @@ pub record Within (len nx nblock : ℕ) : Type 0 where
 within : (len nx nblock : ℕ) → inLimits len nx nblock ≡ true → Within len nx nblock
 unfolding inLimits
 within len nx nblock e =
-    let a = and-true _ _ e in
-    let b = and-true _ _ (a .1) in
-    let c = and-true _ _ (b .1) in
-    let d = and-true _ _ (c .1) in
+    let a = and-both _ _ e in
+    let b = and-both _ _ (a .1) in
+    let c = and-both _ _ (b .1) in
+    let d = and-both _ _ (c .1) in
     record {
       some = leb-true _ _ (a .0);
       few = leb-true _ _ (b .0);
@@ -72,10 +72,10 @@ module _ (w : Width) (s : List ℕ) (nx nblock : ℕ) (c : Cursor) where
   pub standing : stands w s nx nblock c ≡ true → Standing w s nx nblock c
   unfolding stands
   standing e =
-      let a = and-true _ _ e in
-      let b = and-true _ _ (a .1) in
-      let d = and-true _ _ (b .1) in
-      let l = and-true (eqb (c .done) nx || eqb (c .done % nblock) 0) (inWidth w (c .last)) (d .1) in
+      let a = and-both _ _ e in
+      let b = and-both _ _ (a .1) in
+      let d = and-both _ _ (b .1) in
+      let l = and-both (eqb (c .done) nx || eqb (c .done % nblock) 0) (inWidth w (c .last)) (d .1) in
       record { low = leb-true _ _ (a .0); high = leb-true _ _ (b .0); done = leb-true _ _ (d .0); last = l .1 }
 
   pub stands-low : c .bit < startBytes w * 8 → false ≡ stands w s nx nblock c
@@ -127,17 +127,17 @@ module _ (w : Width) (s : List ℕ) (nx nblock : ℕ) (c : Cursor) where
 -- ---- steps
 
 module _ (s : List ℕ) (nx nblock bits : ℕ) (c : Cursor) (px : List ℤ) where
-  pub step-limits : planOf (length s) nx nblock bits ≡ None → stepOf s nx nblock bits c px ≡ refused (refusal 14) px
+  pub step-limits : planOf (length s) nx nblock bits ≡ None → stepOf s nx nblock bits c px ≡ stepRefused R.Limits px
   unfolding stepOf
   step-limits e = ap (stepIn s nx nblock c px) e
 
   module _ (w : Width) (plan : planOf (length s) nx nblock bits ≡ Of w) where
-    pub step-count : (length px ≡ nx → ⊥) → stepOf s nx nblock bits c px ≡ refused (refusal 15) px
+    pub step-count : (length px ≡ nx → ⊥) → stepOf s nx nblock bits c px ≡ stepRefused R.PixelCount px
     unfolding stepOf
     step-count h = ap (stepIn s nx nblock c px) plan ∙ rw (ne-eqb (length px) nx h)
 
     module _ (count : length px ≡ nx) where
-      pub step-cursor : stands w s nx nblock c ≡ false → stepOf s nx nblock bits c px ≡ refused (refusal 18) px
+      pub step-cursor : stands w s nx nblock c ≡ false → stepOf s nx nblock bits c px ≡ stepRefused R.BadCursor px
       unfolding stepOf
       step-cursor h = ap (stepIn s nx nblock c px) plan ∙ rw (eq-eqb (length px) nx count, h)
 
@@ -160,12 +160,12 @@ part-back d e px ys zs h q = ap₂ (λ (u v : List ℤ). take d px ++ (u ++ v)) 
 -- ---- opening
 
 module _ (s : List ℕ) (nx nblock bits : ℕ) where
-  pub open-limits : planOf (length s) nx nblock bits ≡ None → O.Refused (refusal 14) ≡ openOf s nx nblock bits
+  pub open-limits : planOf (length s) nx nblock bits ≡ None → O.Refused (faultOf R.Limits) ≡ openOf s nx nblock bits
   unfolding openOf
   open-limits e = sym (ap (openIn s) e)
 
   module _ (w : Width) (plan : planOf (length s) nx nblock bits ≡ Of w) where
-    pub open-short : bitsIn s < startBytes w * 8 → O.Refused (refusal 16) ≡ openOf s nx nblock bits
+    pub open-short : bitsIn s < startBytes w * 8 → O.Refused (faultOf R.TileEnds) ≡ openOf s nx nblock bits
     unfolding openOf
     open-short h = sym (ap (openIn s) plan ∙ ap (startAt w) (field-short s 0 (startBytes w * 8) (omega arith)))
 

@@ -1,5 +1,5 @@
--- Whole decoding is steps from opening. It answers whole only after a step that answers done, at d = nx, and the bits used are that cursor's place;
--- and nx + 1 steps are enough: more of them change nothing. Assumes nothing.
+-- Whole decoding is steps from opening. It answers whole only after a step that answers done, at d = nx, and the bits used are
+-- that cursor's place; and nx + 1 steps are enough: more of them change nothing. Assumes nothing.
 use mathlib.Core.Path.{_≡_, refl, subst}
 use mathlib.Core.Bool.{Bool, true, false, cond}
 use mathlib.Core.List.{List}
@@ -9,7 +9,7 @@ use native.Mathlib.Omega.{arith}
 use lib.Dec.{eqb}
 use lib.IntN.{ℤ}
 use lib.ListN.{length}
-use Rattle.rice.specs.Steps.{planOf, stepOf, Finished, afterStep, stepsOf, openOf, decodeFrom, decodeIn, decodeOf}
+use Rattle.rice.specs.Steps.{planOf, stepOf, DecodeOutcome, afterStep, stepsOf, openOf, decodeFrom, decodeIn, decodeOf}
 use Rattle.rice.specs.declared.Cursor.{Cursor}
 use Rattle.rice.specs.declared.Stepped.{Stepped}
 use Rattle.rice.specs.declared.Stepped.the-variants.{Done, Next, Refused}
@@ -24,19 +24,19 @@ use Rattle.rice.proofs.Decoding.{Fine, step-fine}
 -- a refusal
 abbrev Stopped : Decoded → Type 0
 Stopped (D.Whole b) = ⊥
-Stopped (D.Refused why n) = Unit {0}
+Stopped (D.Refused f n) = Unit {0}
 
 -- a cursor with all nx pixels done, at the place b
 abbrev pub AtEnd : ℕ → ℕ → Type 0
 AtEnd nx b = (c : Cursor) × (c .done ≡ nx) × (c .bit ≡ b)
 
 module _ (s : List ℕ) (nx nblock bits : ℕ) where
-  after-at-end : (rest : Cursor → List ℤ → Finished) (c : Cursor) (px : List ℤ) (a : Stepped) (n : ℕ) {b : ℕ}
+  after-at-end : (rest : Cursor → List ℤ → DecodeOutcome) (c : Cursor) (px : List ℤ) (a : Stepped) (n : ℕ) {b : ℕ}
       → Fine nx (c .done) n a
       → ((d : Cursor) → rest d px .answer ≡ D.Whole b → AtEnd nx b) → afterStep rest c px a .answer ≡ D.Whole b → AtEnd nx b
   after-at-end rest c px Done l f g e = (c, f, cc)
   after-at-end rest c px (Next d) l f g e = g d e
-  after-at-end rest c px (Refused why n) l f g e = absurd (subst Stopped e tt)
+  after-at-end rest c px (Refused w n) l f g e = absurd (subst Stopped e tt)
 
   pub whole-at-end : (k : ℕ) (c : Cursor) (px : List ℤ) {b : ℕ} → stepsOf s nx nblock bits k c px .answer ≡ D.Whole b
       → AtEnd nx b
@@ -48,13 +48,13 @@ module _ (s : List ℕ) (nx nblock bits : ℕ) where
       (λ d. whole-at-end k d (o .content)) e
 
   -- more steps than reach the end change nothing
-  after-same : (rest more : Cursor → List ℤ → Finished) (c : Cursor) (px : List ℤ) (a : Stepped) (n : ℕ)
+  after-same : (rest more : Cursor → List ℤ → DecodeOutcome) (c : Cursor) (px : List ℤ) (a : Stepped) (n : ℕ)
       → Fine nx (c .done) n a
       → ((d : Cursor) → c .done < d .done → d .done ≤ nx → more d px ≡ rest d px)
       → afterStep more c px a ≡ afterStep rest c px a
   after-same rest more c px Done l f g = refl
   after-same rest more c px (Next d) l f g = g d (f .0) (f .1)
-  after-same rest more c px (Refused why n) l f g = refl
+  after-same rest more c px (Refused w n) l f g = refl
 
   pub enough : (k j : ℕ) (c : Cursor) (px : List ℤ) → nx < k + c .done → c .done ≤ nx
       → stepsOf s nx nblock bits (k + j) c px ≡ stepsOf s nx nblock bits k c px
@@ -73,7 +73,7 @@ module _ (s : List ℕ) (nx nblock bits : ℕ) (px : List ℤ) where
   from-at-end (O.At c) e = whole-at-end s nx nblock bits (suc nx) c px e
   from-at-end (O.Refused why) e = absurd (subst Stopped e tt)
 
-  counted-at-end : (t : Bool) (f g : Finished) {b : ℕ} → (f .answer ≡ D.Whole b → AtEnd nx b) → Stopped (g .answer)
+  counted-at-end : (t : Bool) (f g : DecodeOutcome) {b : ℕ} → (f .answer ≡ D.Whole b → AtEnd nx b) → Stopped (g .answer)
       → cond t f g .answer ≡ D.Whole b → AtEnd nx b
   counted-at-end true f g h r e = h e
   counted-at-end false f g h r e = absurd (subst Stopped e r)

@@ -6,7 +6,9 @@ use lib.IntN.{ℤ}
 use lib.Dec.{eqb, leb}
 use lib.ListN.{length}
 use lib.Seq.{sets}
-use Rattle.refusal.specs.Numbers.{refusal}
+use Rattle.refusal.specs.Numbers.{faultOf}
+use Rattle.refusal.specs.declared.Refusal.{Refusal}
+use Rattle.refusal.specs.declared.Refusal.the-variants as R
 use Rattle.rice.specs.Widths.{bitsOf, fsBits, fsTop, following}
 use Rattle.rice.specs.Reads.{Read, found, short, fieldRead, diffRead, moved}
 use Rattle.rice.specs.declared.width.Width.{Width}
@@ -53,30 +55,34 @@ runOf w code s (suc k) p last = onward w last (runOf w code s k) (diffRead code 
 abbrev pub runFrom : Width → Code → List ℕ → Cursor → ℕ → Run
 runFrom w code s c n = runOf w code s n (c .bit) (c .last)
 
--- what a cursor answers to a run of n pixels, k of which are written: the cursor after it, or refusal 16 with k
-abbrev pub answerOf : Cursor → ℕ → End → ℕ → Stepped
-answerOf c n (whole p last) k = Next (record { bit = p; done = c .done + n; last = last })
-answerOf c n cut k = Refused (refusal 16) k
+-- what a cursor answers to a run of n pixels, k of which are written: the cursor after it, or the tile ends, with k
+abbrev pub ranTo : Cursor → ℕ → End → ℕ → Stepped
+ranTo c n (whole p last) k = Next (record { bit = p; done = c .done + n; last = last })
+ranTo c n cut k = Refused (faultOf R.TileEnds) k
 
 abbrev pub filledOf : Cursor → ℕ → Run → Stepped
-filledOf c n r = answerOf c n (r .end) (length (r .pixels))
+filledOf c n r = ranTo c n (r .end) (length (r .pixels))
 
 -- an answer, and what the lent pixels then are
-pub record Outcome : Type 0 where
+pub record StepOutcome : Type 0 where
   pub answer : Stepped
   pub content : List ℤ
 
+-- a refusal before any pixel is written
+abbrev pub stepRefused : Refusal → List ℤ → StepOutcome
+stepRefused why px = record { answer = Refused (faultOf why) 0; content = px }
+
 -- a block whose FS field says a code: its pixels are stored in the part from the part's start on
-abbrev pub coded : Width → List ℕ → Cursor → List ℤ → Coded → Outcome
+abbrev pub coded : Width → List ℕ → Cursor → List ℤ → Coded → StepOutcome
 coded w s c part (Known code) =
     let r = runFrom w code s c (length part) in
     record { answer = filledOf c (length part) r; content = sets part 0 (r .pixels) }
-coded w s c part Above = record { answer = Refused (refusal 17) 0; content = part }
+coded w s c part Above = stepRefused R.FsAboveTop part
 
-abbrev pub withField : Width → List ℕ → Cursor → List ℤ → Read → Outcome
+abbrev pub withField : Width → List ℕ → Cursor → List ℤ → Read → StepOutcome
 withField w s c part (found f q) = coded w s (moved c q) part (codeOf w f)
-withField w s c part short = record { answer = Refused (refusal 16) 0; content = part }
+withField w s c part short = stepRefused R.TileEnds part
 
 -- a block at a cursor, whose pixels go into the part
-unfoldable pub blockOf : Width → List ℕ → Cursor → List ℤ → Outcome
+unfoldable pub blockOf : Width → List ℕ → Cursor → List ℤ → StepOutcome
 blockOf w s c part = withField w s c part (fieldRead s (c .bit) (fsBits w))

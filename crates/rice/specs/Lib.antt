@@ -1,8 +1,10 @@
 -- What the contracts of `rice` cite, in the order of FITS Standard 10.4.1 and document 01.
--- `Held` is cited by private functions alone.
+
+-- What public promises cite
 pub mod Tile
 pub mod Widths
 pub mod Reads
 pub mod Blocks
 pub mod Steps
+-- What private contracts cite alone
 pub mod Held

@@ -4,7 +4,7 @@ ghost use Prim.Native.Nat.{_+_, _-_, _*_, _/_, _%_, _^_, _<_, _≤_};
 ghost use lib.Count.{leadingZeros};
 ghost use lib.ListN.{length, getD};
 ghost use Rattle.rice.specs.Tile.{fieldAt, zerosAt};
-ghost use Rattle.rice.specs.Held.{heldOf, Counts};
+ghost use Rattle.rice.specs.Held.{heldBits, Counts};
 use super::table;
 
 // One byte more, below what is there.
@@ -81,7 +81,7 @@ fn word(s: &[u8], i: usize) -> u64
 // What is left of place p's byte, and the seven bytes after it, at the top of a word, where they are all there.
 pub(crate) fn window(s: &[u8], p: usize) -> u64
     requires { ⌜ p / 8 + 8 ≤ length (now s) ⌝ }
-    ensures { λ r. ⌜ r ≡ heldOf (now (s .entry)) p (64 - p % 8) ⌝ }
+    ensures { λ r. ⌜ r ≡ heldBits (now (s .entry)) p (64 - p % 8) ⌝ }
 {
     whole_word(s, p / 8) << (p % 8)
 }

@@ -1,16 +1,14 @@
 // One tile of Rice-coded pixels, decoded whole or block by block (document 01, "One tile"; FITS Standard 10.4.1).
 ghost use mathlib.Core.Path.{_≡_};
 ghost use mathlib.Core.Bool.{true};
-ghost use mathlib.Core.List.{List};
-ghost use Prim.Native.Nat.{ℕ, _+_, _-_, _*_, _^_, _<_, _≤_, min, suc};
+ghost use Prim.Native.Nat.{_+_, _^_, _<_, _≤_, min, suc};
 ghost use lib.ListN.{length};
-ghost use lib.Seq.{sets};
+ghost use Rattle.refusal.specs.Numbers.{faultOf};
 ghost use Rattle.rice.specs.Tile.{bitsIn};
 ghost use Rattle.rice.specs.Widths.{inWidth};
 ghost use Rattle.rice.specs.Reads.{moved, takeOf, skipOf, mostBytes};
-ghost use Rattle.rice.specs.Held.{CodeFits};
-ghost use Rattle.rice.specs.declared.width.Width.{Width};
-ghost use Rattle.rice.specs.Blocks.{runFrom, filledOf, blockOf};
+ghost use Rattle.rice.specs.Held.{CodeFits, Levelled};
+ghost use Rattle.rice.specs.Blocks.{coded, blockOf};
 ghost use Rattle.rice.specs.Steps.{planOf, stands, stepOf, openOf, stepsOf, decodeOf};
 
 mod ahead; // a cursor with the next bits at hand
@@ -19,7 +17,9 @@ mod table; // how many bits a byte has up to its leading one
 mod width; // the three widths
 
 use ahead::Got;
+use refusal::Fault;
 use refusal::Refusal;
+use refusal::fault_of;
 use width::Code;
 use width::Coded;
 use width::Planned;
@@ -50,20 +50,20 @@ pub enum Taken {
 // What opening a tile comes to.
 pub enum Opened {
     At(Cursor),
-    Refused(Refusal),
+    Refused(Fault),
 }
 
 // What a step comes to: nothing is left; the cursor at the next block; a refusal, after so many pixels of the step.
 pub enum Stepped {
     Done,
     Next(Cursor),
-    Refused(Refusal, usize),
+    Refused { fault: Fault, written: usize },
 }
 
 // What decoding a tile whole comes to: the bits used; a refusal, after so many pixels.
 pub enum Decoded {
     Whole(usize),
-    Refused(Refusal, usize),
+    Refused { fault: Fault, written: usize },
 }
 
 // The cursor at the first block of a tile.
@@ -71,7 +71,7 @@ pub fn open(tile: &[u8], nx: usize, nblock: usize, bits: usize) -> Opened
     ensures { λ r. ⌜ r ≡ openOf (now (tile .entry)) nx nblock bits ⌝ }
 {
     let Planned::Of(width) = plan(tile.len(), nx, nblock, bits) else {
-        return Opened::Refused(Refusal::Limits);
+        return Opened::Refused(fault_of(Refusal::Limits));
     };
     let n = width.start_bytes() * 8;
     if n <= tile.len() * 8 {
@@ -82,7 +82,7 @@ pub fn open(tile: &[u8], nx: usize, nblock: usize, bits: usize) -> Opened
             last,
         })
     } else {
-        Opened::Refused(Refusal::TileEnds)
+        Opened::Refused(fault_of(Refusal::TileEnds))
     }
 }
 
@@ -92,13 +92,19 @@ pub fn decode(tile: &[u8], nx: usize, nblock: usize, bits: usize, pixels: &mut [
     ensures { λ _. ⌜ now (pixels .exit) ≡ decodeOf (now (tile .entry)) nx nblock bits (now (pixels .entry)) .content ⌝ }
 {
     let Planned::Of(_) = plan(tile.len(), nx, nblock, bits) else {
-        return Decoded::Refused(Refusal::Limits, 0);
+        return Decoded::Refused {
+            fault: fault_of(Refusal::Limits),
+            written: 0,
+        };
     };
     if pixels.len() != nx {
-        return Decoded::Refused(Refusal::PixelCount, 0);
+        return Decoded::Refused {
+            fault: fault_of(Refusal::PixelCount),
+            written: 0,
+        };
     }
     match open(tile, nx, nblock, bits) {
-        Opened::Refused(why) => Decoded::Refused(why, 0),
+        Opened::Refused(fault) => Decoded::Refused { fault, written: 0 },
         Opened::At(start) => start.run(tile, nx, nblock, bits, pixels),
     }
 }
@@ -159,13 +165,13 @@ impl Cursor {
         ensures { λ _. ⌜ now (pixels .exit) ≡ stepOf (now (tile .entry)) nx nblock bits self (now (pixels .entry)) .content ⌝ }
     {
         let Planned::Of(width) = plan(tile.len(), nx, nblock, bits) else {
-            return Stepped::Refused(Refusal::Limits, 0);
+            return step_refused(Refusal::Limits, 0);
         };
         if pixels.len() != nx {
-            return Stepped::Refused(Refusal::PixelCount, 0);
+            return step_refused(Refusal::PixelCount, 0);
         }
         if !self.stands(tile, width, nx, nblock) {
-            return Stepped::Refused(Refusal::BadCursor, 0);
+            return step_refused(Refusal::BadCursor, 0);
         }
         let done = self.done;
         if done == nx {
@@ -196,9 +202,12 @@ impl Cursor {
                 Stepped::Done => {
                     return Decoded::Whole(c.bit);
                 }
-                Stepped::Refused(why, n) => {
-                    let written = c.done + n;
-                    return Decoded::Refused(why, written);
+                Stepped::Refused { fault, written } => {
+                    let all = c.done + written;
+                    return Decoded::Refused {
+                        fault,
+                        written: all,
+                    };
                 }
                 Stepped::Next(next) => {
                     c = next;
@@ -239,10 +248,10 @@ impl Cursor {
         ensures { λ _. ⌜ now (part .exit) ≡ blockOf width (now (tile .entry)) self (now (part .entry)) .content ⌝ }
     {
         let Taken::Bits(field, start) = self.take_bits(tile, width.fs_bits()) else {
-            return Stepped::Refused(Refusal::TileEnds, 0);
+            return step_refused(Refusal::TileEnds, 0);
         };
         let Coded::Known(code) = width.code(field) else {
-            return Stepped::Refused(Refusal::FsAboveTop, 0);
+            return step_refused(Refusal::FsAboveTop, 0);
         };
         let Code::Same = code else {
             return start.fill(tile, width, code, part);
@@ -253,8 +262,7 @@ impl Cursor {
     // The pixels of a block whose differences are all 0.
     fn level(self, part: &mut [i32]) -> Stepped
         requires { ⌜ self .done + length (now part) < 2 ^ 32 ⌝ }
-        ensures { λ r. ⌜ ((w : Width) → inWidth w (self .last) ≡ true → (s : List ℕ) → r ≡ filledOf self (length (now (part .entry))) (runFrom w Code.Same s self (length (now (part .entry))))) ⌝ }
-        ensures { λ _. ⌜ ((w : Width) → inWidth w (self .last) ≡ true → (s : List ℕ) → now (part .exit) ≡ sets (now (part .entry)) 0 (runFrom w Code.Same s self (length (now (part .entry))) .pixels)) ⌝ }
+        ensures { λ r. ⌜ Levelled self (now (part .entry)) r (now (part .exit)) ⌝ }
     {
         let last = self.last;
         let mut i = 0;
@@ -271,9 +279,10 @@ impl Cursor {
 
     // The pixels of a block, into the part that is lent for them.
     fn fill(self, tile: &[u8], width: Width, code: Code, part: &mut [i32]) -> Stepped
-        requires { ⌜ (length (now tile) ≤ mostBytes) × (self .bit ≤ bitsIn (now tile)) × CodeFits code × (inWidth width (self .last) ≡ true) × (self .done + length (now part) < 2 ^ 32) ⌝ }
-        ensures { λ r. ⌜ r ≡ filledOf self (length (now (part .entry))) (runFrom width code (now (tile .entry)) self (length (now (part .entry)))) ⌝ }
-        ensures { λ _. ⌜ now (part .exit) ≡ sets (now (part .entry)) 0 (runFrom width code (now (tile .entry)) self (length (now (part .entry))) .pixels) ⌝ }
+        requires { ⌜ (length (now tile) ≤ mostBytes) × (self .bit ≤ bitsIn (now tile)) × CodeFits code ⌝ }
+        requires { ⌜ (inWidth width (self .last) ≡ true) × (self .done + length (now part) < 2 ^ 32) ⌝ }
+        ensures { λ r. ⌜ r ≡ coded width (now (tile .entry)) self (now (part .entry)) (Coded.Known code) .answer ⌝ }
+        ensures { λ _. ⌜ now (part .exit) ≡ coded width (now (tile .entry)) self (now (part .entry)) (Coded.Known code) .content ⌝ }
     {
         let table = table::nonzero_count();
         let mut a = ahead::bare(self.bit);
@@ -284,7 +293,7 @@ impl Cursor {
         let mut i = 0;
         while i < part.len() {
             let Got::Bits(u, next) = a.difference(tile, &table, code) else {
-                return Stepped::Refused(Refusal::TileEnds, i);
+                return step_refused(Refusal::TileEnds, i);
             };
             v = width.next_by(mask, v, u);
             let pixel = width.pixel_by(mask, below, v);
@@ -299,6 +308,16 @@ impl Cursor {
             done,
             last,
         })
+    }
+}
+
+// A step is refused, after so many pixels.
+fn step_refused(why: Refusal, written: usize) -> Stepped
+    ensures { λ r. ⌜ r ≡ Stepped.Refused (faultOf why) written ⌝ }
+{
+    Stepped::Refused {
+        fault: fault_of(why),
+        written,
     }
 }
 

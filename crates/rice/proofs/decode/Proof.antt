@@ -1,10 +1,12 @@
 -- `rice::decode`: opening, then the steps. Assumes nothing.
-use mathlib.Core.Path.{_≡_, sym, _∙_}
+use mathlib.Core.Path.{_≡_, refl, ap, sym, _∙_}
 use native.Mathlib.Omega.{arith}
 use borrow.Author.Needs.{needs}
 use denote.Ref.{now}
 use lib.ListN.{length}
+use Rattle.refusal.specs.declared.Fault.{Fault}
 use Rattle.rice.specs.Steps.{planOf}
+use Rattle.rice.specs.declared.Decoded.the-variants as D
 use Rattle.rice.specs.declared.width.Planned.the-variants.{Of}
 use Rattle.rice.proofs.Stepping.{plan-within}
 use Rattle.rice.proofs.Decoding.{open-zero, decode-limits, decode-count, decode-open, finished}
@@ -23,29 +25,41 @@ enum-told c = search needs
 enum-told-2 : tie.Need-enum-told-2
 enum-told-2 c = search needs
 
+fault-of-requires : tie.Need-fault-of-requires
+fault-of-requires c κs = tt
+
+-- the answer with a fault, and nothing written
+refused : {f g : Fault} → f ≡ g → D.Refused f 0 ≡ D.Refused g 0
+refused e = ap (λ (f : Fault). D.Refused f 0) e
+
 returns : tie.Need-returns
 returns c =
-    let p = c .before .before in
+    let p = c .before .before .before in
     let a = p .before .before .args in
-    finished (decode-limits (now (a .tile)) (a .nx) (a .nblock) (a .bits) (now (a .pixels))
-    (sym (p .plan .ensures) ∙ c .enum-told2 .given .1))
+    finished (refused (c .fault-of .ensures))
+    (decode-limits (now (a .tile)) (a .nx) (a .nblock) (a .bits) (now (a .pixels))
+    (sym (p .plan .ensures) ∙ c .before .enum-told2 .given .1))
 
 plan : (k : tie.After-enum-told)
     → planOf (length (now (start k .args .tile))) (start k .args .nx) (start k .args .nblock) (start k .args .bits)
     ≡ Of (k .enum-told .given .0 .0)
 plan k = sym (k .before .before .plan .ensures) ∙ k .enum-told .given .1
 
+fault-of-requires-2 : tie.Need-fault-of-requires-2
+fault-of-requires-2 c κs = tt
+
 returns-2 : tie.Need-returns-2
 returns-2 c =
-    let a = c .before .before .before .before .before .args in
-    finished (decode-count (now (a .tile)) (a .nx) (a .nblock) (a .bits) (now (a .pixels)) _ (plan (c .before))
-    (c .if1 .taken))
+    let a = c .before .before .before .before .before .before .args in
+    finished (refused (c .fault-of2 .ensures))
+    (decode-count (now (a .tile)) (a .nx) (a .nblock) (a .bits) (now (a .pixels)) _ (plan (c .before .before))
+    (c .before .if1 .taken))
 
 open-requires : tie.Need-open-requires
 open-requires c κs = search needs
 
-enum-known-why : tie.Need-enum-known-why
-enum-known-why c = search needs
+enum-known-fault : tie.Need-enum-known-fault
+enum-known-fault c = search needs
 
 enum-known-start : tie.Need-enum-known-start
 enum-known-start c = search needs
@@ -65,8 +79,8 @@ returns-3 c =
     let o = c .before .before .before in
     let k = o .before .before in
     let a = start k .args in
-    finished (decode-open (now (a .tile)) (a .nx) (a .nblock) (a .bits) (now (a .pixels)) _ (plan k)
-    (o .before .if1 .left) _ (sym (o .«open» .ensures) ∙ c .before .why .given .1))
+    finished refl (decode-open (now (a .tile)) (a .nx) (a .nblock) (a .bits) (now (a .pixels)) _ (plan k)
+    (o .before .if1 .left) _ (sym (o .«open» .ensures) ∙ c .before .fault .given .1))
 
 same-length : tie.Need-same-length
 same-length c = search needs
@@ -76,9 +90,9 @@ returns-4 c =
     let o = c .before .before .before .before .before .before in
     let k = o .before .before in
     let a = start k .args in
-    let f = finished (decode-open (now (a .tile)) (a .nx) (a .nblock) (a .bits) (now (a .pixels)) _ (plan k)
+    let f = finished (c .before .run .ensures .0) (decode-open (now (a .tile)) (a .nx) (a .nblock) (a .bits) (now (a .pixels)) _ (plan k)
     (o .before .if1 .left) _ (sym (o .«open» .ensures) ∙ c .before .before .before .before .start .given .1)) in
-    (c .before .run .ensures .0 ∙ f .0, c .before .run .ensures .1 ∙ f .1)
+    (f .0, c .before .run .ensures .1 ∙ f .1)
 
 pub decode-spec : {M : Type 1} → statement M
 decode-spec =
@@ -87,10 +101,12 @@ decode-spec =
     plan-requires
     enum-told
     enum-told-2
+    fault-of-requires
     returns
+    fault-of-requires-2
     returns-2
     open-requires
-    enum-known-why
+    enum-known-fault
     enum-known-start
     run-requires
     returns-3

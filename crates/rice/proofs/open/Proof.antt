@@ -9,6 +9,7 @@ use mir.Syntax.{w32}
 use mir.Facts.{toZ-ofZ}
 use Rattle.rice.specs.Widths.{bitsOf, pixelOf}
 use Rattle.rice.specs.Steps.{planOf}
+use Rattle.rice.specs.declared.Opened.the-variants as O
 use Rattle.rice.specs.declared.width.Planned.the-variants.{Of}
 use Rattle.rice.proofs.Fields.{field-lt}
 use Rattle.rice.proofs.Wrapping.{sizes}
@@ -28,8 +29,13 @@ enum-known-width c = search needs
 enum-told : tie.Need-enum-told
 enum-told c = search needs
 
+fault-of-requires : tie.Need-fault-of-requires
+fault-of-requires c κs = tt
+
 returns : tie.Need-returns
-returns c = open-limits _ _ _ _ (sym (c .before .before .plan .ensures) ∙ c .enum-told .given .1)
+returns c =
+    ap O.Refused (c .fault-of .ensures)
+    ∙ open-limits _ _ _ _ (sym (c .before .before .before .plan .ensures) ∙ c .before .enum-told .given .1)
 
 start-bytes-requires : tie.Need-start-bytes-requires
 start-bytes-requires c κs = search needs
@@ -65,8 +71,12 @@ returns-2 c =
     (toZ-ofZ {w = w32} (record { sfits = c .pixel .ok }) ∙ c .pixel .ensures
     ∙ ap (pixelOf (s .before .before .width .given .0 .0)) (c .before .field .ensures))
 
+fault-of-requires-2 : tie.Need-fault-of-requires-2
+fault-of-requires-2 c κs = tt
+
 returns-3 : tie.Need-returns-3
-returns-3 c = open-short _ _ _ _ _ (plan (c .before .before)) (omega arith)
+returns-3 c =
+    ap O.Refused (c .fault-of2 .ensures) ∙ open-short _ _ _ _ _ (plan (c .before .before .before)) (omega arith)
 
 pub open-spec : {M : Type 1} → statement M
 open-spec =
@@ -75,11 +85,13 @@ open-spec =
     plan-requires
     enum-known-width
     enum-told
+    fault-of-requires
     returns
     start-bytes-requires
     mul-n
     mul-if1
     field-requires
     pixel-requires
+    fault-of-requires-2
     returns-2
     returns-3)

@@ -8,7 +8,7 @@ use denote.Ref.{now}
 use lib.ListN.{length}
 use Rattle.rice.specs.Widths.{fsBits, inWidth}
 use Rattle.rice.specs.Reads.{found, fieldRead, moved, takenOf}
-use Rattle.rice.specs.Blocks.{Outcome, codeOf, coded, blockOf}
+use Rattle.rice.specs.Blocks.{StepOutcome, codeOf, coded, blockOf}
 use Rattle.rice.specs.declared.Cursor.{Cursor}
 use Rattle.rice.specs.declared.width.Code.{Code}
 use Rattle.rice.specs.declared.width.Coded.the-variants.{Known}
@@ -44,12 +44,15 @@ took b =
     (omega (arith, sizes (a .width) .field))
     ∙ ap (λ (n : ℕ). takenOf (a .self) (fieldRead (now (a .tile)) (a .self .bit) n)) (b .before .fs-bits .ensures)
 
+step-refused-requires : tie.Need-step-refused-requires
+step-refused-requires c κs = tt
+
 returns : tie.Need-returns
 returns c =
-    let b = c .before .before in
+    let b = c .before .before .before in
     let a = start b .args in
-    outcome (block-short (a .width) (now (a .tile)) (a .self) (now (a .part))
-    (taken-short _ _ (sym (took b) ∙ c .enum-told .given .1)))
+    outcome (c .step-refused .ensures) (block-short (a .width) (now (a .tile)) (a .self) (now (a .part))
+    (taken-short _ _ (sym (took b) ∙ c .before .enum-told .given .1)))
 
 code-requires : tie.Need-code-requires
 code-requires c κs = search needs
@@ -68,14 +71,16 @@ found-field : (k : tie.After-known-told)
     (k .before .field .given .0 .1 .0 .bit))
 found-field k = taken-found _ _ _ _ (sym (took (k .before .before .before)) ∙ k .before .field .given .1)
 
+step-refused-requires-2 : tie.Need-step-refused-requires-2
+step-refused-requires-2 c κs = tt
+
 returns-2 : tie.Need-returns-2
 returns-2 c =
-    let k = c .before .before .before in
-    let a = k .before .before .before .before .before .before .args in
-    let is = block-above (a .width) (now (a .tile)) (a .self) (now (a .part)) _ _ (found-field k .0) (found-field k .1)
-    (sym (c .before .before .code .ensures) ∙ c .enum-told2 .given .1)
-    in
-    (sym (ap (λ (o : Outcome). o .answer) is), sym (ap (λ (o : Outcome). o .content) is))
+    let k = c .before .before .before .before in
+    let a = start (k .before .before .before) .args in
+    outcome (c .step-refused2 .ensures)
+    (block-above (a .width) (now (a .tile)) (a .self) (now (a .part)) _ _ (found-field k .0) (found-field k .1)
+    (sym (c .before .before .before .code .ensures) ∙ c .before .enum-told2 .given .1))
 
 known-code : (c : tie.After-known-told2)
     → codeOf (c .before .before .before .before .before .before .before .before .before .before .args .width)
@@ -118,11 +123,8 @@ fill-requires : tie.Need-fill-requires
 fill-requires c κs =
     let k = c .before .before .before .before .before .before in
     let a = start (k .before .before .before) in (
-      a .pre .0,
-      field-of _ _ _ _ _ (found-field k .0) .within,
-      code-fits (a .args .width) _ _ (known-code (c .before .before)),
-      in-width k,
-      few-done k,
+      (a .pre .0, field-of _ _ _ _ _ (found-field k .0) .within, code-fits (a .args .width) _ _ (known-code (c .before .before))),
+      (in-width k, few-done k),
     )
 
 same-length : tie.Need-same-length
@@ -131,8 +133,8 @@ same-length c = search needs
 returns-3 : tie.Need-returns-3
 returns-3 c =
     let is = known (c .before .before .before .before) _ refl in (
-      c .before .fill .ensures .0 ∙ sym (ap (λ (o : Outcome). o .answer) is),
-      c .before .fill .ensures .1 ∙ sym (ap (λ (o : Outcome). o .content) is),
+      c .before .fill .ensures .0 ∙ sym (ap (λ (o : StepOutcome). o .answer) is),
+      c .before .fill .ensures .1 ∙ sym (ap (λ (o : StepOutcome). o .content) is),
     )
 
 level-requires : tie.Need-level-requires
@@ -146,8 +148,8 @@ returns-4 c =
     let t = c .before .before .before in
     let is = known (t .before .before) _ (t .enum-told3 .given .1) in
     let w = in-width (t .before .before .before .before .before .before) in (
-      c .before .level .ensures .0 _ w _ ∙ sym (ap (λ (o : Outcome). o .answer) is),
-      c .before .level .ensures .1 _ w _ ∙ sym (ap (λ (o : Outcome). o .content) is),
+      c .before .level .ensures _ w _ .0 ∙ sym (ap (λ (o : StepOutcome). o .answer) is),
+      c .before .level .ensures _ w _ .1 ∙ sym (ap (λ (o : StepOutcome). o .content) is),
     )
 
 pub block-spec : {M : Type 1} → statement M
@@ -158,10 +160,12 @@ block-spec =
     take-bits-requires
     enum-known-field
     enum-told
+    step-refused-requires
     returns
     code-requires
     enum-known-code
     enum-told-2
+    step-refused-requires-2
     returns-2
     enum-told-3
     fill-requires

@@ -21,7 +21,8 @@ use Rattle.rice.specs.declared.ahead.Ahead.{Ahead}
 use Rattle.rice.specs.declared.width.Width.{Width}
 use Rattle.rice.specs.declared.width.Code.{Code}
 use Rattle.rice.proofs.Giving.{bare-holds}
-use Rattle.rice.proofs.Filling.{Going, going-start, going-on, going-stops, diff-small, filled-cut, filled-whole, run-on, run-cut, run-done}
+use Rattle.rice.proofs.Filling.{Going, going-start, going-on, going-stops}
+use Rattle.rice.proofs.Filling.{diff-small, filled-cut, filled-whole, run-on, run-cut, run-done}
 use Rattle.rice.proofs.Cursor.fill.Statement.{statement}
 use Rattle.rice.proofs.Cursor.fill.Tie as tie
 
@@ -92,7 +93,7 @@ last-is : (c : tie.After-struct-told Inv-loop μ-loop)
 last-is c = toZ-ofZ {w = w32} (record { sfits = omega arith })
 
 bits-of-requires : tie.Need-bits-of-requires Inv-loop μ-loop
-bits-of-requires c κs = let a = c .before .before .before .before in ap (inWidth (a .args .width)) (last-is c) ∙ a .pre .3
+bits-of-requires c κs = let a = c .before .before .before .before in ap (inWidth (a .args .width)) (last-is c) ∙ a .pre .1 .0
 
 mask-requires : tie.Need-mask-requires Inv-loop μ-loop
 mask-requires c κs = tt
@@ -104,13 +105,13 @@ loop-holds : tie.Need-loop-holds Inv-loop μ-loop
 loop-holds c =
     let b = c .before .before in
     let bare = b .before .before in
-    none-yet _ _ _ _ _ _ _ (bare .bare .ensures) (bare .before .before .before .pre .1) (b .bits-of .ensures .0)
+    none-yet _ _ _ _ _ _ _ (bare .bare .ensures) (bare .before .before .before .pre .0 .1) (b .bits-of .ensures .0)
     (b .bits-of .ensures .1 ∙ last-is (b .before))
 
 difference-requires : tie.Need-difference-requires Inv-loop μ-loop
 difference-requires c κs =
     let l = c .before .before in
-    let pre = start l .pre in
+    let pre = start l .pre .0 in
     (pre .0, l .loop .inv .holds, pre .2, l .before .before .before .before .before .before .nonzero-count .ensures)
 
 enum-known-u : tie.Need-enum-known-u Inv-loop μ-loop
@@ -119,19 +120,23 @@ enum-known-u c = search needs
 enum-told : tie.Need-enum-told Inv-loop μ-loop
 enum-told c = search needs
 
+step-refused-requires : tie.Need-step-refused-requires Inv-loop μ-loop
+step-refused-requires c κs = tt
+
 same-length : tie.Need-same-length Inv-loop μ-loop
-same-length c = c .before .before .before .before .before .loop .inv .same
+same-length c = c .before .before .before .before .before .before .loop .inv .same
 
 returns : tie.Need-returns Inv-loop μ-loop
 returns c =
-    let d = c .before .before in
+    let d = c .before .before .before in
     let l = d .before .before .before in
     let a = start l .args in
     let read : diffRead (a .code) (now (a .tile)) (l .loop .a .bit) ≡ short =
-    subst (Gives _ _) (c .enum-told .given .1) (d .difference .ensures) in
+    subst (Gives _ _) (c .before .enum-told .given .1) (d .difference .ensures) in
     let test : l .loop .i < length (now (a .part)) = omega (arith, l .loop .inv .same) in
     filled-cut (a .self) _ refl
     (going-stops (l .loop .inv .going) (run-cut (a .width) (a .code) (now (a .tile)) _ _ _ _ test read))
+    (c .step-refused .ensures)
 
 -- the number that is found, and what is held after it
 read : (c : tie.After-known-told Inv-loop μ-loop)
@@ -151,7 +156,7 @@ next-by-requires c κs =
     let l = c .before .before .before .before .before .before in (
       l .before .before .mask .ensures,
       l .loop .inv .bits,
-      diff-small (start l .args .code) (now (start l .args .tile)) _ (start l .pre .2) (read c .0),
+      diff-small (start l .args .code) (now (start l .args .tile)) _ (start l .pre .0 .2) (read c .0),
     )
 
 pixel-by-requires : tie.Need-pixel-by-requires Inv-loop μ-loop
@@ -214,6 +219,7 @@ fill-spec =
     difference-requires
     enum-known-u
     enum-told
+    step-refused-requires
     same-length
     returns
     next-by-requires

@@ -107,10 +107,8 @@ returns : tie.Need-returns Inv-loop μ-loop
 returns c =
     let l = c .before .before in
     let a = start l .args in
-    let all : l .loop .i ≡ length (now (a .part)) = omega (arith, l .loop .inv .same, l .loop .inv .within) in (
-      (λ w h s. filled-whole (a .self) _ refl all (last-is l) (stored (c .before) w h s) .0),
-      (λ w h s. filled-whole (a .self) _ refl all (last-is l) (stored (c .before) w h s) .1),
-    )
+    let all : l .loop .i ≡ length (now (a .part)) = omega (arith, l .loop .inv .same, l .loop .inv .within) in
+    λ w h s. filled-whole (a .self) _ refl all (last-is l) (stored (c .before) w h s)
 
 pub level-spec : {M : Type 1} → statement M
 level-spec =

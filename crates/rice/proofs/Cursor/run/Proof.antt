@@ -30,14 +30,14 @@ returns c =
     let s = c .before .before .before in
     running-done (s .before .before .loop .inv) (s .step .ensures .1) (sym (c .enum-told .given .1) ∙ s .step .ensures .0)
 
-enum-known-why : tie.Need-enum-known-why Inv-loop μ-loop
-enum-known-why c = search needs
+enum-known-fault : tie.Need-enum-known-fault Inv-loop μ-loop
+enum-known-fault c = search needs
 
-add-written : tie.Need-add-written Inv-loop μ-loop
-add-written c =
+add-all : tie.Need-add-all Inv-loop μ-loop
+add-all c =
     let s = c .before .before .before .before .before in
     let l = s .before .before in
-    let f = fine (l .loop .inv) (s .step .ensures .1) _ (sym (c .before .before .why .given .1) ∙ s .step .ensures .0) in
+    let f = fine (l .loop .inv) (s .step .ensures .1) _ (sym (c .before .before .fault .given .1) ∙ s .step .ensures .0) in
     omega (arith, f, l .loop .inv .done, l .loop .inv .same, l .before .before .pre)
 
 same-length-2 : tie.Need-same-length-2 Inv-loop μ-loop
@@ -48,7 +48,7 @@ returns-2 : tie.Need-returns-2 Inv-loop μ-loop
 returns-2 c =
     let s = c .before .before .before .before .before in
     running-refused (s .before .before .loop .inv) (s .step .ensures .1) _ _
-    (sym (c .before .before .why .given .1) ∙ s .step .ensures .0)
+    (sym (c .before .before .fault .given .1) ∙ s .step .ensures .0)
 
 enum-known-next : tie.Need-enum-known-next Inv-loop μ-loop
 enum-known-next c = search needs
@@ -77,8 +77,8 @@ run-spec =
     enum-told
     same-length
     returns
-    enum-known-why
-    add-written
+    enum-known-fault
+    add-all
     same-length-2
     returns-2
     enum-known-next

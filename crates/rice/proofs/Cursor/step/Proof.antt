@@ -1,5 +1,5 @@
 -- `rice::Cursor::step`: each refusal in its turn; then the part of the pixels that the block is lent. Assumes nothing.
-use mathlib.Core.Path.{_≡_, ap, sym, _∙_}
+use mathlib.Core.Path.{_≡_, refl, ap, sym, _∙_}
 use mathlib.Core.Bool.{true}
 use Prim.Native.Nat.{_≤_}
 use native.Mathlib.Omega.{arith}
@@ -7,10 +7,11 @@ use borrow.Author.Tests.{not-true, not-false}
 use borrow.Author.Needs.{needs}
 use denote.Ref.{now}
 use lib.ListN.{length, length-take, length-drop}
-use Rattle.rice.specs.Blocks.{Outcome}
+use Rattle.rice.specs.Blocks.{StepOutcome}
 use Rattle.rice.specs.Steps.{planOf, stands}
 use Rattle.rice.specs.declared.width.Planned.the-variants.{Of}
-use Rattle.rice.proofs.Stepping.{Within, plan-within, Standing, standing, step-limits, step-count, step-cursor, step-done, step-block, part-back}
+use Rattle.rice.proofs.Stepping.{Within, plan-within, Standing, standing, part-back}
+use Rattle.rice.proofs.Stepping.{step-limits, step-count, step-cursor, step-done, step-block}
 use Rattle.rice.proofs.FsCodes.{outcome}
 use Rattle.rice.proofs.Cursor.step.Statement.{statement}
 use Rattle.rice.proofs.Cursor.step.Tie as tie
@@ -27,11 +28,16 @@ enum-known-width c = search needs
 enum-told : tie.Need-enum-told
 enum-told c = search needs
 
+step-refused-requires : tie.Need-step-refused-requires
+step-refused-requires c κs = tt
+
 returns : tie.Need-returns
 returns c =
-    let a = c .before .before .before .before .args in
-    outcome (step-limits (now (a .tile)) (a .nx) (a .nblock) (a .bits) (a .self) (now (a .pixels))
-    (sym (c .before .before .plan .ensures) ∙ c .enum-told .given .1))
+    let p = c .before .before .before in
+    let a = p .before .before .args in
+    outcome (c .step-refused .ensures)
+    (step-limits (now (a .tile)) (a .nx) (a .nblock) (a .bits) (a .self) (now (a .pixels))
+    (sym (p .plan .ensures) ∙ c .before .enum-told .given .1))
 
 -- the width that the limits leave
 plan : (k : tie.After-known-told)
@@ -43,22 +49,31 @@ limits : (k : tie.After-known-told)
     → Within (length (now (start k .args .tile))) (start k .args .nx) (start k .args .nblock)
 limits k = plan-within _ _ _ (start k .args .bits) (plan k)
 
+step-refused-requires-2 : tie.Need-step-refused-requires-2
+step-refused-requires-2 c κs = tt
+
 returns-2 : tie.Need-returns-2
 returns-2 c =
-    let a = c .before .before .before .before .before .before .args in
-    outcome (step-count (now (a .tile)) (a .nx) (a .nblock) (a .bits) (a .self) (now (a .pixels)) _ (plan (c .before))
-    (c .if1 .taken))
+    let k = c .before .before in
+    let a = start k .args in
+    outcome (c .step-refused2 .ensures)
+    (step-count (now (a .tile)) (a .nx) (a .nblock) (a .bits) (a .self) (now (a .pixels)) _ (plan k)
+    (c .before .if1 .taken))
 
 stands-requires : tie.Need-stands-requires
 stands-requires c κs = (limits (c .before) .tile, limits (c .before) .block)
 
+step-refused-requires-3 : tie.Need-step-refused-requires-3
+step-refused-requires-3 c κs = tt
+
 returns-3 : tie.Need-returns-3
 returns-3 c =
-    let a = c .before .before .before .before .before .before .before .before .args in
-    let e = c .before .before in
-    outcome (step-cursor (now (a .tile)) (a .nx) (a .nblock) (a .bits) (a .self) (now (a .pixels)) _ (plan (e .before))
+    let e = c .before .before .before in
+    let a = start (e .before) .args in
+    outcome (c .step-refused3 .ensures)
+    (step-cursor (now (a .tile)) (a .nx) (a .nblock) (a .bits) (a .self) (now (a .pixels)) _ (plan (e .before))
     (e .if1 .left)
-    (sym (c .before .stands .ensures) ∙ not-true _ (c .if2 .taken)))
+    (sym (c .before .before .stands .ensures) ∙ not-true _ (c .before .if2 .taken)))
 
 keeps : (c : tie.Else2)
     → stands (c .before .before .before .before .width .given .0 .0)
@@ -73,7 +88,7 @@ returns-4 : tie.Need-returns-4
 returns-4 c =
     let a = c .before .before .before .before .before .before .before .before .before .args in
     let e = c .before .before .before in
-    outcome (step-done (now (a .tile)) (a .nx) (a .nblock) (a .bits) (a .self) (now (a .pixels)) _ (plan (e .before))
+    outcome refl (step-done (now (a .tile)) (a .nx) (a .nblock) (a .bits) (a .self) (now (a .pixels)) _ (plan (e .before))
     (e .if1 .left) (keeps (c .before)) (c .if3 .taken))
 
 stand : (c : tie.Else2)
@@ -117,8 +132,8 @@ returns-5 c =
     (e .before .before .if1 .left) (keeps e) (c .before .before .before .before .if3 .left) _
     (c .before .before .before .block-end .ensures) in
     let order : a .self .done ≤ c .before .before .before .block-end .result = omega (arith, stand e .done) in (
-      c .before .block .ensures .0 ∙ sym (ap (λ (o : Outcome). o .answer) is),
-      part-back _ _ _ _ _ order (c .before .block .ensures .1) ∙ sym (ap (λ (o : Outcome). o .content) is),
+      c .before .block .ensures .0 ∙ sym (ap (λ (o : StepOutcome). o .answer) is),
+      part-back _ _ _ _ _ order (c .before .block .ensures .1) ∙ sym (ap (λ (o : StepOutcome). o .content) is),
     )
 
 pub step-spec : {M : Type 1} → statement M
@@ -128,9 +143,12 @@ step-spec =
     plan-requires
     enum-known-width
     enum-told
+    step-refused-requires
     returns
+    step-refused-requires-2
     returns-2
     stands-requires
+    step-refused-requires-3
     returns-3
     returns-4
     block-end-requires

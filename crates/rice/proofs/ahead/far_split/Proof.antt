@@ -8,7 +8,8 @@ use denote.Ref.{now}
 use lib.Pow.{pow-mono}
 use Rattle.rice.specs.Reads.{found, runRead, fieldRead}
 use Rattle.rice.proofs.Fields.{field-lt}
-use Rattle.rice.proofs.Reading.{take-read, skip-read, taken-found, taken-short, split-no-run, split-no-field, split-found, run-of, field-of, shifted-fits}
+use Rattle.rice.proofs.Reading.{take-read, skip-read, taken-found, taken-short}
+use Rattle.rice.proofs.Reading.{split-no-run, split-no-field, split-found, run-of, field-of, shifted-fits}
 use Rattle.rice.proofs.Giving.{bare-gives}
 use Rattle.rice.proofs.ahead.far_split.Statement.{statement}
 use Rattle.rice.proofs.ahead.far_split.Tie as tie

@@ -1,14 +1,16 @@
 -- `rice::raw`: a negative z is -1 - k, and its bits lack k of all. Assumes nothing.
 use native.Mathlib.Omega.{arith}
-use Rattle.rice.proofs.Signs.{Negative, is-negative, negative-bits, Positive, is-positive, positive-bits}
+use mir.Syntax.{w32}
+use Rattle.laws.proofs.Signs.{Negative, is-negative, Positive, is-positive}
+use Rattle.rice.proofs.Signs.{negative-bits, positive-bits}
 use Rattle.rice.proofs.width.raw.Statement.{statement}
 use Rattle.rice.proofs.width.raw.Tie as tie
 
-negative : (c : tie.Then1) → Negative (c .before .args .z)
-negative c = is-negative _ (c .before .fits .z) (c .if1 .taken)
+negative : (c : tie.Then1) → Negative w32 (c .before .args .z)
+negative c = is-negative w32 _ (c .before .fits .z) (c .if1 .taken)
 
-positive : (c : tie.Else1) → Positive (c .before .args .z)
-positive c = is-positive _ (c .before .fits .z) (c .if1 .left)
+positive : (c : tie.Else1) → Positive w32 (c .before .args .z)
+positive c = is-positive w32 _ (c .before .fits .z) (c .if1 .left)
 
 sub-result : tie.Need-sub-result
 sub-result c = rw (negative c .less) (record { sfits = negative c .small })

@@ -7,16 +7,17 @@ use lib.Dec.{ltb}
 use lib.IntN.{ℤ, natAbs}
 use Rattle.rice.specs.Widths.{inWidth}
 use Rattle.rice.proofs.Wrapping.{sizes}
-use Rattle.rice.proofs.Signs.{Negative, is-negative, Positive, is-positive}
+use mir.Syntax.{w32}
+use Rattle.laws.proofs.Signs.{Negative, is-negative, Positive, is-positive}
 use Rattle.rice.proofs.width.Width.holds.Statement.{statement}
 use Rattle.rice.proofs.width.Width.holds.Tie as tie
 
 -- what the code has of a negative pixel, and of another
-negative : (c : tie.Then1) → Negative (c .before .before .args .z)
-negative c = is-negative _ (c .before .before .fits .z) (c .if1 .taken)
+negative : (c : tie.Then1) → Negative w32 (c .before .before .args .z)
+negative c = is-negative w32 _ (c .before .before .fits .z) (c .if1 .taken)
 
-positive : (c : tie.After-mask) → Positive (c .before .before .before .args .z)
-positive c = is-positive _ (c .before .before .before .fits .z) (c .before .if1 .left)
+positive : (c : tie.After-mask) → Positive w32 (c .before .before .before .args .z)
+positive c = is-positive w32 _ (c .before .before .before .fits .z) (c .before .if1 .left)
 
 negatives-requires : tie.Need-negatives-requires
 negatives-requires c κs = search needs
