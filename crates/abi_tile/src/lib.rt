@@ -1,7 +1,5 @@
 // A tile as the C boundary gives it: its cursor and its counts in numbers.
-ghost use mathlib.Core.Path.{_≡_};
-ghost use Rattle.rice.specs.Steps.{openOf, stepOf, decodeOf};
-ghost use Rattle.abi_tile.specs.Tiles.{cursorOf, openSaid, cursorAfter, stepSaid, steppedTo, writtenAfter, decodeSaid, countOf};
+ghost use Rattle.abi_tile.specs.Tiles.{change, cursorIn, OpenLeft, StepLeft, DecodeLeft};
 use rice::Cursor;
 use rice::Decoded;
 use rice::Opened;
@@ -20,8 +18,7 @@ pub fn open_into(
     done: &mut usize,
     last: &mut i32,
 ) -> u8
-    ensures { λ r. ⌜ r ≡ openSaid (openOf (now (tile .entry)) nx nblock bits) ⌝ }
-    ensures { λ _. ⌜ cursorOf (now (bit .exit)) (now (done .exit)) (now (last .exit)) ≡ cursorAfter (openOf (now (tile .entry)) nx nblock bits) (cursorOf (now (bit .entry)) (now (done .entry)) (now (last .entry))) ⌝ }
+    ensures { λ r. ⌜ OpenLeft (now (tile .entry)) nx nblock bits (cursorIn bit done last) r ⌝ }
 {
     match rice::open(tile, nx, nblock, bits) {
         Opened::At(c) => {
@@ -33,7 +30,7 @@ pub fn open_into(
             *last = l;
             0
         }
-        Opened::Refused(why) => why.number(),
+        Opened::Refused(fault) => fault.number(),
     }
 }
 
@@ -50,10 +47,7 @@ pub fn step_into(
     pixels: &mut [i32],
     written: &mut usize,
 ) -> u8
-    ensures { λ r. ⌜ r ≡ stepSaid (stepOf (now (tile .entry)) nx nblock bits (cursorOf (now (bit .entry)) (now (done .entry)) (now (last .entry))) (now (pixels .entry)) .answer) ⌝ }
-    ensures { λ _. ⌜ cursorOf (now (bit .exit)) (now (done .exit)) (now (last .exit)) ≡ steppedTo (stepOf (now (tile .entry)) nx nblock bits (cursorOf (now (bit .entry)) (now (done .entry)) (now (last .entry))) (now (pixels .entry)) .answer) (cursorOf (now (bit .entry)) (now (done .entry)) (now (last .entry))) ⌝ }
-    ensures { λ _. ⌜ now (pixels .exit) ≡ stepOf (now (tile .entry)) nx nblock bits (cursorOf (now (bit .entry)) (now (done .entry)) (now (last .entry))) (now (pixels .entry)) .content ⌝ }
-    ensures { λ _. ⌜ now (written .exit) ≡ writtenAfter (stepOf (now (tile .entry)) nx nblock bits (cursorOf (now (bit .entry)) (now (done .entry)) (now (last .entry))) (now (pixels .entry)) .answer) (now (written .entry)) ⌝ }
+    ensures { λ r. ⌜ StepLeft (now (tile .entry)) nx nblock bits (cursorIn bit done last) (change pixels) (change written) r ⌝ }
 {
     let b = *bit;
     let d = *done;
@@ -74,9 +68,9 @@ pub fn step_into(
             *last = nl;
             0
         }
-        Stepped::Refused(why, n) => {
+        Stepped::Refused { fault, written: n } => {
             *written = n;
-            why.number()
+            fault.number()
         }
     }
 }
@@ -90,18 +84,16 @@ pub fn decode_into(
     pixels: &mut [i32],
     count: &mut usize,
 ) -> u8
-    ensures { λ r. ⌜ r ≡ decodeSaid (decodeOf (now (tile .entry)) nx nblock bits (now (pixels .entry)) .answer) ⌝ }
-    ensures { λ _. ⌜ now (pixels .exit) ≡ decodeOf (now (tile .entry)) nx nblock bits (now (pixels .entry)) .content ⌝ }
-    ensures { λ _. ⌜ now (count .exit) ≡ countOf (decodeOf (now (tile .entry)) nx nblock bits (now (pixels .entry)) .answer) ⌝ }
+    ensures { λ r. ⌜ DecodeLeft (now (tile .entry)) nx nblock bits (change pixels) (change count) r ⌝ }
 {
     match rice::decode(tile, nx, nblock, bits, pixels) {
         Decoded::Whole(used) => {
             *count = used;
             0
         }
-        Decoded::Refused(why, written) => {
+        Decoded::Refused { fault, written } => {
             *count = written;
-            why.number()
+            fault.number()
         }
     }
 }

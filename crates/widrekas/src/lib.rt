@@ -7,8 +7,7 @@ ghost use Rattle.header.specs.Answers.{lookupOf, entryOf};
 ghost use Rattle.listing.specs.Listing.{listOf};
 ghost use Rattle.abi_header.specs.Headers.{isFit, entryAnswer, entryText, entryComment, entryDigits, entryNumbers, entryNumber};
 ghost use Rattle.abi_header.specs.Headers.{isRoom, listAnswer, listFirst, listLast, listCount};
-ghost use Rattle.rice.specs.Steps.{openOf, stepOf, decodeOf};
-ghost use Rattle.abi_tile.specs.Tiles.{cursorOf, openSaid, cursorAfter, stepSaid, steppedTo, writtenAfter, decodeSaid, countOf};
+ghost use Rattle.abi_tile.specs.Tiles.{change, cursorIn, OpenLeft, StepLeft, DecodeLeft};
 
 // The version of this boundary.
 #[no_mangle]
@@ -119,8 +118,7 @@ pub extern "C" fn widrekas_open(
     done: &mut usize,
     last: &mut i32,
 ) -> u8
-    ensures { λ r. ⌜ r ≡ openSaid (openOf (now (tile .entry)) nx nblock bits) ⌝ }
-    ensures { λ _. ⌜ cursorOf (now (bit .exit)) (now (done .exit)) (now (last .exit)) ≡ cursorAfter (openOf (now (tile .entry)) nx nblock bits) (cursorOf (now (bit .entry)) (now (done .entry)) (now (last .entry))) ⌝ }
+    ensures { λ r. ⌜ OpenLeft (now (tile .entry)) nx nblock bits (cursorIn bit done last) r ⌝ }
 {
     abi_tile::open_into(tile, nx, nblock, bits, bit, done, last)
 }
@@ -140,10 +138,7 @@ pub extern "C" fn widrekas_step(
     pixels: &mut [i32],
     written: &mut usize,
 ) -> u8
-    ensures { λ r. ⌜ r ≡ stepSaid (stepOf (now (tile .entry)) nx nblock bits (cursorOf (now (bit .entry)) (now (done .entry)) (now (last .entry))) (now (pixels .entry)) .answer) ⌝ }
-    ensures { λ _. ⌜ cursorOf (now (bit .exit)) (now (done .exit)) (now (last .exit)) ≡ steppedTo (stepOf (now (tile .entry)) nx nblock bits (cursorOf (now (bit .entry)) (now (done .entry)) (now (last .entry))) (now (pixels .entry)) .answer) (cursorOf (now (bit .entry)) (now (done .entry)) (now (last .entry))) ⌝ }
-    ensures { λ _. ⌜ now (pixels .exit) ≡ stepOf (now (tile .entry)) nx nblock bits (cursorOf (now (bit .entry)) (now (done .entry)) (now (last .entry))) (now (pixels .entry)) .content ⌝ }
-    ensures { λ _. ⌜ now (written .exit) ≡ writtenAfter (stepOf (now (tile .entry)) nx nblock bits (cursorOf (now (bit .entry)) (now (done .entry)) (now (last .entry))) (now (pixels .entry)) .answer) (now (written .entry)) ⌝ }
+    ensures { λ r. ⌜ StepLeft (now (tile .entry)) nx nblock bits (cursorIn bit done last) (change pixels) (change written) r ⌝ }
 {
     abi_tile::step_into(tile, nx, nblock, bits, bit, done, last, pixels, written)
 }
@@ -158,9 +153,7 @@ pub extern "C" fn widrekas_decode(
     pixels: &mut [i32],
     count: &mut usize,
 ) -> u8
-    ensures { λ r. ⌜ r ≡ decodeSaid (decodeOf (now (tile .entry)) nx nblock bits (now (pixels .entry)) .answer) ⌝ }
-    ensures { λ _. ⌜ now (pixels .exit) ≡ decodeOf (now (tile .entry)) nx nblock bits (now (pixels .entry)) .content ⌝ }
-    ensures { λ _. ⌜ now (count .exit) ≡ countOf (decodeOf (now (tile .entry)) nx nblock bits (now (pixels .entry)) .answer) ⌝ }
+    ensures { λ r. ⌜ DecodeLeft (now (tile .entry)) nx nblock bits (change pixels) (change count) r ⌝ }
 {
     abi_tile::decode_into(tile, nx, nblock, bits, pixels, count)
 }

@@ -11,8 +11,8 @@ decode-requires c κs = search needs
 enum-known-used : tie.Need-enum-known-used
 enum-known-used c = search needs
 
-enum-known-why : tie.Need-enum-known-why
-enum-known-why c = search needs
+enum-known-fault : tie.Need-enum-known-fault
+enum-known-fault c = search needs
 
 number-requires : tie.Need-number-requires
 number-requires c κs = search needs
@@ -24,7 +24,7 @@ returns : tie.Need-returns
 returns c =
     let d = c .before .before .before .before in
     let e = sym (c .before .used .given .1) ∙ d .decode .ensures .0 in
-    (ap decodeSaid e, (d .decode .ensures .1, ap countOf e))
+    record { answer = ap decodeSaid e; content = d .decode .ensures .1; told = ap countOf e }
 
 same-length-2 : tie.Need-same-length-2
 same-length-2 c = search needs
@@ -32,8 +32,8 @@ same-length-2 c = search needs
 returns-2 : tie.Need-returns-2
 returns-2 c =
     let d = c .before .before .before .before .before in
-    let e = sym (c .before .before .why .given .1) ∙ d .decode .ensures .0 in
-    (c .number .ensures ∙ ap decodeSaid e, (d .decode .ensures .1, ap countOf e))
+    let e = sym (c .before .before .fault .given .1) ∙ d .decode .ensures .0 in
+    record { answer = c .number .ensures ∙ ap decodeSaid e; content = d .decode .ensures .1; told = ap countOf e }
 
 pub decode-into-spec : {M : Type 1} → statement M
 decode-into-spec =
@@ -41,7 +41,7 @@ decode-into-spec =
     (tie.spec
     decode-requires
     enum-known-used
-    enum-known-why
+    enum-known-fault
     number-requires
     same-length
     returns

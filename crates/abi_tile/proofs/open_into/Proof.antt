@@ -21,8 +21,8 @@ open-requires c κs = search needs
 enum-known-c : tie.Need-enum-known-c
 enum-known-c c = search needs
 
-enum-known-why : tie.Need-enum-known-why
-enum-known-why c = search needs
+enum-known-fault : tie.Need-enum-known-fault
+enum-known-fault c = search needs
 
 number-requires : tie.Need-number-requires
 number-requires c κs = search needs
@@ -33,15 +33,18 @@ returns c =
     let to = c .before .before .c .given .0 .0 in
     let fits : toZ w32 (ofZ w32 (to .last)) ≡ to .last = search needs in
     let e = sym (c .before .before .c .given .1) ∙ k .«open» .ensures in
-    (ap openSaid e, ap (cursorOf (to .bit) (to .done)) fits ∙ ap (λ (x : Opened). cursorAfter x (was k)) e)
+    record {
+      answer = ap openSaid e;
+      place = ap (cursorOf (to .bit) (to .done)) fits ∙ ap (λ (x : Opened). cursorAfter x (was k)) e;
+    }
 
 returns-2 : tie.Need-returns-2
 returns-2 c =
     let k = c .before .before .before .before in
-    let e = sym (c .before .before .why .given .1) ∙ k .«open» .ensures in
-    (c .number .ensures ∙ ap openSaid e, ap (λ (x : Opened). cursorAfter x (was k)) e)
+    let e = sym (c .before .before .fault .given .1) ∙ k .«open» .ensures in
+    record { answer = c .number .ensures ∙ ap openSaid e; place = ap (λ (x : Opened). cursorAfter x (was k)) e }
 
 pub open-into-spec : {M : Type 1} → statement M
 open-into-spec =
     tie.close
-    (tie.spec open-requires enum-known-c enum-known-why number-requires returns returns-2)
+    (tie.spec open-requires enum-known-c enum-known-fault number-requires returns returns-2)

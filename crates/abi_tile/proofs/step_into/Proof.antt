@@ -4,7 +4,7 @@ use mir.Syntax.{w32}
 use mir.Val.{toZ, ofZ}
 use Rattle.rice.specs.declared.Cursor.{Cursor}
 use Rattle.rice.specs.declared.Stepped.{Stepped}
-use Rattle.rice.specs.Blocks.{Outcome}
+use Rattle.rice.specs.Blocks.{StepOutcome}
 use Rattle.rice.specs.Steps.{stepOf}
 use Rattle.abi_tile.specs.Tiles.{cursorOf, stepSaid, steppedTo, writtenAfter}
 use borrow.Author.Needs.{needs}
@@ -19,7 +19,7 @@ abbrev was : tie.After-step → Cursor
 was k = cursorOf (start k .args .bit .now) (start k .args .done .now) (start k .args .last .now)
 
 -- the step from it
-abbrev made : tie.After-step → Cursor → Outcome
+abbrev made : tie.After-step → Cursor → StepOutcome
 made k c =
     let a = start k .args in
     stepOf (a .tile .now) (a .nx) (a .nblock) (a .bits) c (a .pixels .now)
@@ -45,8 +45,8 @@ enum-told c = search needs
 enum-known-n : tie.Need-enum-known-n
 enum-known-n c = search needs
 
-enum-known-why : tie.Need-enum-known-why
-enum-known-why c = search needs
+enum-known-fault : tie.Need-enum-known-fault
+enum-known-fault c = search needs
 
 number-requires : tie.Need-number-requires
 number-requires c κs = search needs
@@ -57,13 +57,13 @@ same-length c = search needs
 returns : tie.Need-returns
 returns c =
     let k = c .before .before .before in
-    let e = sym (c .enum-told .given .1) ∙ answer-is k in (
-      ap stepSaid e,
-      (
-        ap (λ (x : Stepped). steppedTo x (was k)) e,
-        (content-is k, ap (λ (x : Stepped). writtenAfter x (start k .args .written .now)) e),
-      ),
-    )
+    let e = sym (c .enum-told .given .1) ∙ answer-is k in
+    record {
+      answer = ap stepSaid e;
+      place = ap (λ (x : Stepped). steppedTo x (was k)) e;
+      content = content-is k;
+      told = ap (λ (x : Stepped). writtenAfter x (start k .args .written .now)) e;
+    }
 
 same-length-2 : tie.Need-same-length-2
 same-length-2 c = search needs
@@ -73,13 +73,13 @@ returns-2 c =
     let k = c .before .before .before .before .before in
     let to = c .before .before .n .given .0 .0 in
     let fits : toZ w32 (ofZ w32 (to .last)) ≡ to .last = search needs in
-    let e = sym (c .before .before .n .given .1) ∙ answer-is k in (
-      ap stepSaid e,
-      (
-        ap (cursorOf (to .bit) (to .done)) fits ∙ ap (λ (x : Stepped). steppedTo x (was k)) e,
-        (content-is k, ap (λ (x : Stepped). writtenAfter x (start k .args .written .now)) e),
-      ),
-    )
+    let e = sym (c .before .before .n .given .1) ∙ answer-is k in
+    record {
+      answer = ap stepSaid e;
+      place = ap (cursorOf (to .bit) (to .done)) fits ∙ ap (λ (x : Stepped). steppedTo x (was k)) e;
+      content = content-is k;
+      told = ap (λ (x : Stepped). writtenAfter x (start k .args .written .now)) e;
+    }
 
 same-length-3 : tie.Need-same-length-3
 same-length-3 c = search needs
@@ -87,13 +87,13 @@ same-length-3 c = search needs
 returns-3 : tie.Need-returns-3
 returns-3 c =
     let k = c .before .before .before .before .before in
-    let e = sym (c .before .before .why .given .1) ∙ answer-is k in (
-      c .number .ensures ∙ ap stepSaid e,
-      (
-        ap (λ (x : Stepped). steppedTo x (was k)) e,
-        (content-is k, ap (λ (x : Stepped). writtenAfter x (start k .args .written .now)) e),
-      ),
-    )
+    let e = sym (c .before .before .fault .given .1) ∙ answer-is k in
+    record {
+      answer = c .number .ensures ∙ ap stepSaid e;
+      place = ap (λ (x : Stepped). steppedTo x (was k)) e;
+      content = content-is k;
+      told = ap (λ (x : Stepped). writtenAfter x (start k .args .written .now)) e;
+    }
 
 pub step-into-spec : {M : Type 1} → statement M
 step-into-spec =
@@ -102,7 +102,7 @@ step-into-spec =
     step-requires
     enum-told
     enum-known-n
-    enum-known-why
+    enum-known-fault
     number-requires
     same-length
     returns
