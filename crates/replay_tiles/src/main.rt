@@ -7,7 +7,7 @@ ghost use mathlib.Core.Bool.{true};
 ghost use Prim.Native.Nat.{_+_, _/_, _<_};
 ghost use lib.ListN.{take};
 use libc::STDIN_FILENO;
-use refusal::Refusal;
+use refusal::Fault;
 use rice::Cursor;
 use rice::Decoded;
 use rice::Opened;
@@ -120,8 +120,8 @@ fn put_whole(tile: &[u8], t: Stored, pixels: &mut [i32]) {
             put(b"\npixels");
             put_pixels(pixels);
         }
-        Decoded::Refused(why, written) => {
-            put_refused(why, written);
+        Decoded::Refused { fault, written } => {
+            put_refused(fault, written);
             put(b"\npixels");
             put_pixels(first_of(pixels, written));
         }
@@ -144,7 +144,7 @@ fn first_of(pixels: &[i32], n: usize) -> &[i32]
 fn put_blocks(tile: &[u8], t: Stored, pixels: &mut [i32]) {
     put(b"blocks");
     match rice::open(tile, t.nx, t.nblock, t.bits) {
-        Opened::Refused(why) => put_refused(why, 0),
+        Opened::Refused(fault) => put_refused(fault, 0),
         Opened::At(start) => put_steps(start, tile, t, pixels),
     }
 }
@@ -159,8 +159,8 @@ fn put_steps(start: Cursor, tile: &[u8], t: Stored, pixels: &mut [i32]) {
             Stepped::Done => {
                 return;
             }
-            Stepped::Refused(why, written) => {
-                put_refused(why, written);
+            Stepped::Refused { fault, written } => {
+                put_refused(fault, written);
                 return;
             }
             Stepped::Next(next) => {
@@ -206,9 +206,9 @@ fn whole_bytes(bits: usize) -> usize
     }
 }
 
-fn put_refused(why: Refusal, written: usize) {
+fn put_refused(fault: Fault, written: usize) {
     put(b" refused ");
-    put_number(why.number() as usize);
+    put_number(fault.number() as usize);
     put_space();
     put_number(written);
 }

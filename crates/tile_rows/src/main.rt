@@ -1,7 +1,7 @@
 // Decodes the tiles of document 01's "Readings at the edges", whole and block by block, with nblock 32, and prints a line for each: the
 // tile's bytes, its width and number of pixels, and its pixels with the bits used, or the refusal with the pixels written.
 use libc::STDOUT_FILENO;
-use refusal::Refusal;
+use refusal::Fault;
 use rice::Decoded;
 use rice::Opened;
 use rice::Stepped;
@@ -56,8 +56,8 @@ fn row(tile: &[u8], bits: usize, nx: usize, pixels: &mut [i32]) {
             put_number(used);
             put(b" bits");
         }
-        Decoded::Refused(why, written) => {
-            put_refusal(why, written);
+        Decoded::Refused { fault, written } => {
+            put_refusal(fault, written);
             put_pixels(pixels);
         }
     }
@@ -91,9 +91,9 @@ fn put_tile(tile: &[u8]) {
     }
 }
 
-fn put_refusal(why: Refusal, written: usize) {
+fn put_refusal(fault: Fault, written: usize) {
     put(b" refused ");
-    put_number(why.number() as usize);
+    put_number(fault.number() as usize);
     put(b" after ");
     put_number(written);
     put(b", left");

@@ -32,8 +32,8 @@ same-length c = search needs
 returns : tie.Need-returns Inv-loop μ-loop
 returns c = search needs
 
-enum-known-why : tie.Need-enum-known-why Inv-loop μ-loop
-enum-known-why c = search needs
+enum-known-fault : tie.Need-enum-known-fault Inv-loop μ-loop
+enum-known-fault c = search needs
 
 put-refused-requires : tie.Need-put-refused-requires Inv-loop μ-loop
 put-refused-requires c κs = search needs
@@ -75,7 +75,7 @@ put-steps-spec =
     enum-told
     same-length
     returns
-    enum-known-why
+    enum-known-fault
     put-refused-requires
     same-length-2
     returns-2
