@@ -23,5 +23,5 @@ abbrev pub fieldOf : List ℕ → ℕ → ℕ → Field
 fieldOf s p n = seen (takeOf s (atPlace p) n)
 
 -- the number of zeros from place p on, and the place after the one that ends them
-abbrev pub runOf : List ℕ → ℕ → Field
-runOf s p = seen (skipOf s (atPlace p))
+abbrev pub zerosOf : List ℕ → ℕ → Field
+zerosOf s p = seen (skipOf s (atPlace p))

@@ -1,2 +1,2 @@
--- What the contracts of `reader` cite.
+-- What the contracts of `reader` cite. Public promises cite all of it.
 pub mod Fields

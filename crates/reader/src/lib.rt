@@ -1,6 +1,7 @@
-// A reader over a tile's bytes that remembers its bit. Its functions are thin: each takes the struct apart and calls a function on the slice and the numbers.
+// A reader over a tile's bytes that remembers its bit. Its functions are thin: each takes the struct apart and calls a function on the
+// slice and the numbers.
 ghost use mathlib.Core.Path.{_≡_};
-ghost use Rattle.reader.specs.Fields.{atPlace, fieldOf, runOf};
+ghost use Rattle.reader.specs.Fields.{atPlace, fieldOf, zerosOf};
 use rice::Cursor;
 use rice::Taken;
 
@@ -39,7 +40,7 @@ pub fn take_bits<'a>(r: Reader<'a>, n: usize) -> Field
 
 // Past the zeros that come next and the one after them, with the number of zeros.
 pub fn skip_zeros<'a>(r: Reader<'a>) -> Field
-    ensures { λ f. ⌜ f ≡ runOf (now (r .entry .tile)) (r .entry .bit) ⌝ }
+    ensures { λ f. ⌜ f ≡ zerosOf (now (r .entry .tile)) (r .entry .bit) ⌝ }
 {
     zeros_at(r.tile, r.bit)
 }
@@ -74,7 +75,7 @@ fn bits_at(tile: &[u8], bit: usize, n: usize) -> Field
 
 // The work of `skip_zeros`, by a cursor at the place.
 fn zeros_at(tile: &[u8], bit: usize) -> Field
-    ensures { λ r. ⌜ r ≡ runOf (now (tile .entry)) bit ⌝ }
+    ensures { λ r. ⌜ r ≡ zerosOf (now (tile .entry)) bit ⌝ }
 {
     match at(bit).skip_zeros(tile) {
         Taken::Bits(n, next) => Field::Bits(n, next.bit),

@@ -1,0 +1,2 @@
+-- What the proofs of `reader` cite.
+pub mod Apart
