@@ -23,17 +23,17 @@ pub record Change (A : Type 0) : Type 0 where
   pub left : A
 
 -- a parameter that is lent, as a contract has it
-abbrev pub Lent : Type 0 → Type 0
-Lent A = Both (RefT A) (RefT A)
+abbrev pub Passed : Type 0 → Type 0
+Passed A = Both (RefT A) (RefT A)
 
-abbrev pub change : {A : Type 0} → Lent A → Change A
-change x = record { was = now (x .entry); left = now (x .exit) }
+abbrev pub changeOf : {A : Type 0} → Passed A → Change A
+changeOf x = record { was = now (x .entry); left = now (x .exit) }
 
 -- a cursor in three numbers
 abbrev pub cursorOf : ℕ → ℕ → ℤ → Cursor
 cursorOf bit done last = record { bit = bit; done = done; last = last }
 
-abbrev pub cursorIn : Lent ℕ → Lent ℕ → Lent ℤ → Change Cursor
+abbrev pub cursorIn : Passed ℕ → Passed ℕ → Passed ℤ → Change Cursor
 cursorIn bit done last = record {
   was = cursorOf (now (bit .entry)) (now (done .entry)) (now (last .entry));
   left = cursorOf (now (bit .exit)) (now (done .exit)) (now (last .exit));

@@ -12,7 +12,7 @@ use base.Fml.{Lft, Share, Fml, ftrue, flft}
 use prog.Wp.{Heap}
 use ghost.Atoms.{Atoms, sem}
 use contract.Lifetimes.{Lfts}
-use types.Kit.{Item, Goal, Step, Given, ‵, _⊛_, given, _$_, _∵_, !, qed, step, move, drop, use1, split, learn, fjoin, frame, done}
+use types.Kit.{Item, Goal, Step, Given, ‵, _⊛_, given, _$_, _∵_, !, qed, move, drop, use1, split, learn, frame, done}
 use denote.RattleType.{RattleType}
 use denote.Laws.{Is}
 use denote.Plain.{uint-makes}

@@ -7,7 +7,7 @@ ghost use Rattle.header.specs.Answers.{lookupOf, entryOf};
 ghost use Rattle.listing.specs.Listing.{listOf};
 ghost use Rattle.abi_header.specs.Headers.{isFit, entryAnswer, entryText, entryComment, entryDigits, entryNumbers, entryNumber};
 ghost use Rattle.abi_header.specs.Headers.{isRoom, listAnswer, listFirst, listLast, listCount};
-ghost use Rattle.abi_tile.specs.Tiles.{change, cursorIn, OpenLeft, StepLeft, DecodeLeft};
+ghost use Rattle.abi_tile.specs.Tiles.{changeOf, cursorIn, OpenLeft, StepLeft, DecodeLeft};
 
 // The version of this boundary.
 #[no_mangle]
@@ -138,7 +138,7 @@ pub extern "C" fn widrekas_step(
     pixels: &mut [i32],
     written: &mut usize,
 ) -> u8
-    ensures { λ r. ⌜ StepLeft (now (tile .entry)) nx nblock bits (cursorIn bit done last) (change pixels) (change written) r ⌝ }
+    ensures { λ r. ⌜ StepLeft (now (tile .entry)) nx nblock bits (cursorIn bit done last) (changeOf pixels) (changeOf written) r ⌝ }
 {
     abi_tile::step_into(tile, nx, nblock, bits, bit, done, last, pixels, written)
 }
@@ -153,7 +153,7 @@ pub extern "C" fn widrekas_decode(
     pixels: &mut [i32],
     count: &mut usize,
 ) -> u8
-    ensures { λ r. ⌜ DecodeLeft (now (tile .entry)) nx nblock bits (change pixels) (change count) r ⌝ }
+    ensures { λ r. ⌜ DecodeLeft (now (tile .entry)) nx nblock bits (changeOf pixels) (changeOf count) r ⌝ }
 {
     abi_tile::decode_into(tile, nx, nblock, bits, pixels, count)
 }

@@ -1,5 +1,5 @@
 -- `abi_tile::decode_into` meets its contract: by what decoding came to.
-use mathlib.Core.Path.{_≡_, sym, ap, _∙_}
+use mathlib.Core.Path.{sym, ap, _∙_}
 use Rattle.abi_tile.specs.Tiles.{decodeSaid, countOf}
 use borrow.Author.Needs.{needs}
 use Rattle.abi_tile.proofs.decode_into.Statement.{statement}

@@ -1,5 +1,5 @@
 -- `rice::Cursor::level`: i pixels of the block's run are stored, each the last one. Assumes nothing.
-use mathlib.Core.Path.{_≡_, refl, ap₂, subst, sym, _∙_}
+use mathlib.Core.Path.{_≡_, refl, ap₂, sym, _∙_}
 use mathlib.Core.Bool.{true}
 use mathlib.Core.List.{List}
 use Prim.Native.Nat.{ℕ, _+_, _-_, _≤_, _<_}

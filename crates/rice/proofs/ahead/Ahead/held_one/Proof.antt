@@ -1,10 +1,8 @@
 -- `rice::ahead::Ahead::held_one`: one way for each code. Assumes nothing.
 use mathlib.Core.Path.{ap, subst, sym}
-use mathlib.Core.List.{List}
-use Prim.Native.Nat.{ℕ}
 use borrow.Author.Needs.{needs}
 use Rattle.rice.specs.Reads.{diffRead}
-use Rattle.rice.specs.Held.{CodeFits, Holds, Found}
+use Rattle.rice.specs.Held.{CodeFits, Found}
 use Rattle.rice.specs.declared.width.Code.{Code}
 use Rattle.rice.proofs.ahead.Ahead.held_one.Statement.{statement}
 use Rattle.rice.proofs.ahead.Ahead.held_one.Tie as tie
