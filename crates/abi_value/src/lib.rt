@@ -26,7 +26,7 @@ pub fn value_told(value: Value) -> Told
             flag: false,
             number: z,
         },
-        Value::Float(minus, size) => size_told(minus, size),
+        Value::Float { minus, size } => size_told(minus, size),
         Value::Logical(t) => Told {
             kind: 5,
             flag: t,

@@ -225,7 +225,7 @@ fn put_value(value: Value, text: Text) {
             put(b"integer ");
             put_integer(z);
         }
-        Value::Float(minus, size) => put_decimal(minus, size, text),
+        Value::Float { minus, size } => put_decimal(minus, size, text),
         Value::Logical(truth) => put_truth(truth),
         Value::String => {
             put(b"string ");

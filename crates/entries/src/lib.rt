@@ -288,7 +288,7 @@ fn has_text(value: Value) -> bool
 {
     match value {
         Value::Integer(_) => false,
-        Value::Float(_, _) => false,
+        Value::Float { minus: _, size: _ } => false,
         Value::Logical(_) => false,
         Value::String => true,
         Value::Undefined => false,
@@ -300,7 +300,7 @@ fn has_text(value: Value) -> bool
 fn digits_of(value: Value, own: Text) -> Text
     ensures { λ r. ⌜ r ≡ textOf (cond (hasDigits value) (bytesOf own) []) ⌝ }
 {
-    let Value::Float(_, _) = value else {
+    let Value::Float { minus: _, size: _ } = value else {
         return text::empty_text();
     };
     let bytes = own.bytes;

@@ -142,7 +142,7 @@ fn is_string(value: Value) -> bool
 {
     match value {
         Value::Integer(_) => false,
-        Value::Float(_, _) => false,
+        Value::Float { minus: _, size: _ } => false,
         Value::Logical(_) => false,
         Value::String => true,
         Value::Undefined => false,

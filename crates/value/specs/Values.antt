@@ -18,7 +18,7 @@ use Rattle.splitting.specs.Split.{splitOf}
 use Rattle.splitting.specs.Strings.{stringOf}
 use Rattle.numbers.specs.declared.Value.{Value}
 use Rattle.numbers.specs.declared.Value.the-variants.{Integer, Float, Logical, String, Undefined, Invalid}
-use Rattle.numbers.specs.Numbers.{numberOf}
+use Rattle.numbers.specs.Numbers.{readNumber}
 use Rattle.value.specs.declared.ValueAnswer.the-variants.{Read, Refused}
 use Rattle.value.specs.declared.ValueRead.{ValueRead}
 use Rattle.value.specs.declared.Start.{Start}
@@ -70,7 +70,7 @@ ofString v commented comment = let r = stringOf (bytesOf v) in byQuotes (r .answ
 
 -- a value text that begins as a number does
 unfoldable pub ofNumber : Text → Bool → Text → ValueRead
-ofNumber v commented comment = let r = numberOf (bytesOf v) in valueAs (r .value) (r .text) commented comment
+ofNumber v commented comment = let r = readNumber (bytesOf v) in valueAs (r .value) (r .text) commented comment
 
 -- by what the first byte of the value text v says; an invalid value holds the whole raw text
 abbrev pub byStart : Start → Text → List ℕ → Bool → Text → ValueRead

@@ -120,7 +120,7 @@ fn keeps_comment(value: Value) -> bool
         Value::Undefined => false,
         Value::Invalid => false,
         Value::Integer(_) => true,
-        Value::Float(_, _) => true,
+        Value::Float { minus: _, size: _ } => true,
         Value::Logical(_) => true,
         Value::String => true,
     }
