@@ -1,82 +1,78 @@
 -- What is answered and left in lent memory, by what was read.
 use Prim.Native.Nat.{ℕ}
-use mathlib.Core.Path.{_≡_, refl}
+use mathlib.Core.Path.{_≡_, sym, ap, _∙_}
 use mathlib.Core.Bool.{Bool, true, false}
 use mathlib.Core.List.{List}
 use lib.IntN.{ℤ}
+use Rattle.laws.specs.Lending.{Lent}
 use Rattle.abi_value.specs.Telling.{wrongLength}
-use Rattle.header.specs.declared.Header.{Header}
-use Rattle.header.specs.declared.LookupAnswer.{LookupAnswer}
-use Rattle.header.specs.declared.Looked.{Looked}
-use Rattle.header.specs.Answers.{Outcome}
+use Rattle.finding.specs.declared.Header.{Header}
+use Rattle.entries.specs.declared.LookupAnswer.{LookupAnswer}
+use Rattle.entries.specs.declared.Looked.{Looked}
+use Rattle.entries.specs.Answers.{LookupOutcome, leftBy}
 use Rattle.listing.specs.declared.Listing.{Listing}
-use Rattle.abi_header.specs.Headers.{said, numbersAfter, digitsAfter, numberAfter}
-use Rattle.abi_header.specs.Headers.{entryAnswer, entryText, entryComment, entryDigits, entryNumbers, entryNumber}
-use Rattle.abi_header.specs.Headers.{listSaid, placesAfter, countAfter, listAnswer, listFirst, listLast, listCount}
+use Rattle.abi_header.specs.Headers.{EntryOutcome, entryTold, entryFits, entryInto, EntryLeft}
+use Rattle.abi_header.specs.Headers.{ListOutcome, listTold, listFits, listInto, ListLeft}
+use Rattle.abi_header.specs.Writing.{EntryWritten, ListWritten}
+
+-- lent memory that stays
+abbrev same : {A : Type 0} → A → Lent A
+same x = record { was = x; left = x }
 
 -- ---- an entry
 
--- what is written where a is the answer
-abbrev pub Written : LookupAnswer → Looked → List ℕ → List ℕ → ℤ → ℕ → List ℕ → List ℕ → ℤ → Type 0
-Written a l d o z r d′ o′ z′ =
-    (r ≡ said a) × ((d′ ≡ digitsAfter a l d) × ((o′ ≡ numbersAfter a l o) × (z′ ≡ numberAfter a z)))
+-- the answer that an arm knows is the answer
+pub by : (l : Looked) (digits out : Lent (List ℕ)) (number : Lent ℤ) (r : ℕ) {a b : LookupAnswer} → a ≡ b
+    → EntryWritten b l digits out number r → EntryWritten a l digits out number r
+by l digits out number r e w = rw e w
 
--- what is left where the lengths are those asked for or not
-abbrev pub Left : Bool → Outcome → List ℕ → List ℕ → List ℕ → List ℕ → ℤ
-    → ℕ → List ℕ → List ℕ → List ℕ → List ℕ → ℤ → Type 0
-Left fit x t c d o z r t′ c′ d′ o′ z′ =
-    (r ≡ entryAnswer fit x)
-    × ((t′ ≡ entryText fit x t)
-    × ((c′ ≡ entryComment fit x c)
-    × ((d′ ≡ entryDigits fit x d) × ((o′ ≡ entryNumbers fit x o) × (z′ ≡ entryNumber fit x z)))))
+module _ (read : List ℕ → List ℕ → LookupOutcome) (text comment digits out : Lent (List ℕ)) (number : Lent ℤ) where
+  abbrev fit : Bool
+  fit = entryFits (digits .was) (out .was)
 
-module _ (l : Looked) (d o : List ℕ) (z : ℤ) where
-  -- the answer that an arm knows is the answer
-  pub by : {a b : LookupAnswer} {r : ℕ} {d′ o′ : List ℕ} {z′ : ℤ} → a ≡ b
-      → Written b l d o z r d′ o′ z′ → Written a l d o z r d′ o′ z′
-  by e w = rw e w
-
-module _ (fit : Bool) (x : Outcome) (t c d o : List ℕ) (z : ℤ) where
-  -- nothing is read
-  pub unread : fit ≡ false → Left fit x t c d o z wrongLength t c d o z
-  unread e = rw e (refl, (refl, (refl, (refl, (refl, refl)))))
+  abbrev into : Bool → EntryOutcome
+  into b = entryInto b (read (text .was) (comment .was)) (text .was) (comment .was) (digits .was) (out .was) (number .was)
 
   -- what was read is written
-  pub read : {l : Looked} {r : ℕ} {t′ c′ d′ o′ : List ℕ} {z′ : ℤ} → fit ≡ true
-      → (l ≡ x .answer) × ((t′ ≡ x .text) × (c′ ≡ x .comment))
-      → Written (l .answer) l d o z r d′ o′ z′
-      → Left fit x t c d o z r t′ c′ d′ o′ z′
-  read e g w =
-      let v = rw (g .0) at w in
-      rw e (v .0, (g .1 .0, (g .1 .1, v .1)))
+  pub told : {l : Looked} (r : ℕ) → fit ≡ true
+      → leftBy l (text .left) (comment .left) ≡ read (text .was) (comment .was)
+      → EntryWritten (l .answer) l digits out number r
+      → EntryLeft read text comment digits out number r
+  told {l} r e g w =
+      (λ j. record {
+        answer = w .said j;
+        text = text .left;
+        comment = comment .left;
+        digits = w .in-digits j;
+        numbers = w .in-numbers j;
+        number = w .in-number j;
+      })
+      ∙ ap (λ (x : LookupOutcome). entryTold x (digits .was) (out .was) (number .was)) g
+      ∙ sym (ap into e)
+
+-- nothing is read
+pub unread : (read : List ℕ → List ℕ → LookupOutcome) (text comment digits out : List ℕ) (number : ℤ) → entryFits digits out ≡ false
+    → EntryLeft read (same text) (same comment) (same digits) (same out) (same number) wrongLength
+unread read text comment digits out number e =
+    sym (ap (λ (b : Bool). entryInto b (read text comment) text comment digits out number) e)
 
 -- ---- a list of names
 
--- what is written where h is the header's answer
-abbrev pub ListWritten : Header → Listing → List ℕ → List ℕ → ℕ → List ℕ → List ℕ → ℕ → Type 0
-ListWritten h l f g r f′ g′ n′ =
-    (r ≡ listSaid h)
-    × ((f′ ≡ placesAfter h (l .first) f) × ((g′ ≡ placesAfter h (l .last) g) × (n′ ≡ countAfter h (l .count))))
+-- the answer that an arm knows is the answer
+pub list-by : (l : Listing) (first last : Lent (List ℕ)) (count : Lent ℕ) (r : ℕ) {a b : Header} → a ≡ b
+    → ListWritten b l first last count r → ListWritten a l first last count r
+list-by l first last count r e w = w ∙ sym (ap (λ (x : Header). listTold x l (first .was) (last .was)) e)
 
--- what is left where the lengths are those asked for or not
-abbrev pub ListLeft : Bool → Listing → List ℕ → List ℕ → ℕ → ℕ → List ℕ → List ℕ → ℕ → Type 0
-ListLeft fit x f g n r f′ g′ n′ =
-    (r ≡ listAnswer fit x) × ((f′ ≡ listFirst fit x f) × ((g′ ≡ listLast fit x g) × (n′ ≡ listCount fit x n)))
+-- what was listed is written
+pub listed : (x : Listing) (first last : Lent (List ℕ)) (count : Lent ℕ) {l : Listing} (r : ℕ)
+    → listFits (first .was) (last .was) ≡ true → l ≡ x
+    → ListWritten (l .header) l first last count r → ListLeft x first last count r
+listed x first last count r e g w =
+    w
+    ∙ ap (λ (y : Listing). listTold (y .header) y (first .was) (last .was)) g
+    ∙ sym (ap (λ (b : Bool). listInto b x (first .was) (last .was) (count .was)) e)
 
-module _ (l : Listing) (f g : List ℕ) where
-  -- the answer that an arm knows is the answer
-  pub list-by : {h k : Header} {r : ℕ} {f′ g′ : List ℕ} {n′ : ℕ} → h ≡ k
-      → ListWritten k l f g r f′ g′ n′ → ListWritten h l f g r f′ g′ n′
-  list-by e w = rw e w
-
-module _ (fit : Bool) (x : Listing) (f g : List ℕ) (n : ℕ) where
-  -- nothing is read
-  pub unlisted : fit ≡ false → ListLeft fit x f g n wrongLength f g n
-  unlisted e = rw e (refl, (refl, (refl, refl)))
-
-  -- what was listed is written
-  pub listed : {l : Listing} {r : ℕ} {f′ g′ : List ℕ} {n′ : ℕ} → fit ≡ true → l ≡ x
-      → ListWritten (l .header) l f g r f′ g′ n′ → ListLeft fit x f g n r f′ g′ n′
-  listed e same w =
-      let v = rw same at w in
-      rw e v
+-- nothing is read
+pub unlisted : (x : Listing) (first last : List ℕ) (count : ℕ) → listFits first last ≡ false
+    → ListLeft x (same first) (same last) (same count) wrongLength
+unlisted x first last count e = sym (ap (λ (b : Bool). listInto b x first last count) e)

@@ -1,20 +1,22 @@
 -- What the C boundary writes of a header: an entry in bytes and seven numbers, and the list of its names.
 use Prim.Native.Nat.{ℕ}
+use mathlib.Core.Path.{_≡_}
 use mathlib.Core.Bool.{Bool, cond, _&&_}
 use mathlib.Core.List.{List, [], _∷_}
 use lib.Dec.{eqb}
 use lib.IntN.{ℤ}
 use lib.ListN.{length, set}
+use Rattle.laws.specs.Lending.{Lent}
 use Rattle.refusal.specs.Numbers.{numberOf}
 use Rattle.text.specs.Text.{size}
 use Rattle.abi_value.specs.declared.Told.{Told}
 use Rattle.abi_value.specs.Telling.{valueTold, bitOf, wrongLength}
-use Rattle.header.specs.declared.Header.{Header}
-use Rattle.header.specs.declared.Header.the-variants.{Accepted, Refused}
-use Rattle.header.specs.declared.LookupAnswer.{LookupAnswer}
-use Rattle.header.specs.declared.LookupAnswer.the-variants as L
-use Rattle.header.specs.declared.Looked.{Looked}
-use Rattle.header.specs.Answers.{Outcome}
+use Rattle.finding.specs.declared.Header.{Header}
+use Rattle.finding.specs.declared.Header.the-variants.{Accepted, Refused}
+use Rattle.entries.specs.declared.LookupAnswer.{LookupAnswer}
+use Rattle.entries.specs.declared.LookupAnswer.the-variants as L
+use Rattle.entries.specs.declared.Looked.{Looked}
+use Rattle.entries.specs.Answers.{LookupOutcome}
 use Rattle.listing.specs.declared.Listing.{Listing}
 use Rattle.listing.specs.Listing.{places}
 
@@ -29,82 +31,95 @@ abbrev pub numbersOf : Told → Looked → List ℕ
 numbersOf t r = 0 ∷ t .kind ∷ bitOf (t .flag) ∷ bitOf (r .commented) ∷ r .text ∷ r .comment ∷ r .digits .len ∷ []
 
 -- 0, or the refusal's number
-abbrev pub said : LookupAnswer → ℕ
-said (L.Found v) = 0
-said (L.Header why i) = numberOf why
-said (L.Refused why) = numberOf why
+abbrev pub entrySaid : LookupAnswer → ℕ
+entrySaid (L.Found v) = 0
+entrySaid (L.Header s) = numberOf (s .fault .why)
+entrySaid (L.Refused f) = numberOf (f .why)
 
 -- a refused header leaves the card's number in the first place; any other refusal leaves all as it was
 abbrev pub numbersAfter : LookupAnswer → Looked → List ℕ → List ℕ
 numbersAfter (L.Found v) r o = numbersOf (valueTold v) r
-numbersAfter (L.Header why i) r o = set o 0 i
-numbersAfter (L.Refused why) r o = o
+numbersAfter (L.Header s) r o = set o 0 (s .card)
+numbersAfter (L.Refused f) r o = o
 
 -- a decimal's digits, then zeros; a refusal leaves all as it was
 abbrev pub digitsAfter : LookupAnswer → Looked → List ℕ → List ℕ
 digitsAfter (L.Found v) r d = r .digits .bytes
-digitsAfter (L.Header why i) r d = d
-digitsAfter (L.Refused why) r d = d
+digitsAfter (L.Header s) r d = d
+digitsAfter (L.Refused f) r d = d
 
 -- the integer or the power of ten; a refusal leaves it as it was
 abbrev pub numberAfter : LookupAnswer → ℤ → ℤ
 numberAfter (L.Found v) z = valueTold v .number
-numberAfter (L.Header why i) z = z
-numberAfter (L.Refused why) z = z
+numberAfter (L.Header s) z = z
+numberAfter (L.Refused f) z = z
+
+-- an answer, and the lent memory after it
+pub record EntryOutcome : Type 0 where
+  pub answer : ℕ
+  pub text : List ℕ
+  pub comment : List ℕ
+  pub digits : List ℕ
+  pub numbers : List ℕ
+  pub number : ℤ
+
+-- what was read of an entry, told to lent digits, numbers and a number
+abbrev pub entryTold : LookupOutcome → List ℕ → List ℕ → ℤ → EntryOutcome
+entryTold x digits out number =
+    record {
+      answer = entrySaid (x .answer .answer);
+      text = x .text;
+      comment = x .comment;
+      digits = digitsAfter (x .answer .answer) (x .answer) digits;
+      numbers = numbersAfter (x .answer .answer) (x .answer) out;
+      number = numberAfter (x .answer .answer) number;
+    }
 
 -- the lengths that are asked for: those of digits and numbers
-abbrev pub isFit : List ℕ → List ℕ → Bool
-isFit d o = eqb (length d) size && eqb (length o) numberCount
+abbrev pub entryFits : List ℕ → List ℕ → Bool
+entryFits digits out = eqb (length digits) size && eqb (length out) numberCount
 
--- what is answered, and left in lent memory: with other lengths nothing is read
-abbrev pub entryAnswer : Bool → Outcome → ℕ
-entryAnswer fit x = cond fit (said (x .answer .answer)) wrongLength
+-- with other lengths nothing is read, and all stays as it was
+abbrev pub entryInto : Bool → LookupOutcome → List ℕ → List ℕ → List ℕ → List ℕ → ℤ → EntryOutcome
+entryInto fit x text comment digits out number =
+    cond fit (entryTold x digits out number)
+    (record { answer = wrongLength; text = text; comment = comment; digits = digits; numbers = out; number = number })
 
-abbrev pub entryText : Bool → Outcome → List ℕ → List ℕ
-entryText fit x t = cond fit (x .text) t
-
-abbrev pub entryComment : Bool → Outcome → List ℕ → List ℕ
-entryComment fit x c = cond fit (x .comment) c
-
-abbrev pub entryDigits : Bool → Outcome → List ℕ → List ℕ
-entryDigits fit x d = cond fit (digitsAfter (x .answer .answer) (x .answer) d) d
-
-abbrev pub entryNumbers : Bool → Outcome → List ℕ → List ℕ
-entryNumbers fit x o = cond fit (numbersAfter (x .answer .answer) (x .answer) o) o
-
-abbrev pub entryNumber : Bool → Outcome → ℤ → ℤ
-entryNumber fit x z = cond fit (numberAfter (x .answer .answer) z) z
+-- what looking a name up, or reading an entry, leaves: `read` says what is read with the lent buffers, and r is the answer
+abbrev pub EntryLeft : (List ℕ → List ℕ → LookupOutcome)
+    → Lent (List ℕ) → Lent (List ℕ) → Lent (List ℕ) → Lent (List ℕ) → Lent ℤ → ℕ → Type 0
+EntryLeft read text comment digits out number r =
+    _≡_ {A = EntryOutcome}
+    (record { answer = r; text = text .left; comment = comment .left; digits = digits .left; numbers = out .left; number = number .left })
+    (entryInto (entryFits (digits .was) (out .was)) (read (text .was) (comment .was)) (text .was) (comment .was) (digits .was) (out .was)
+    (number .was))
 
 -- ---- a list of names
 
--- 0, or the refusal's number
-abbrev pub listSaid : Header → ℕ
-listSaid (Accepted end) = 0
-listSaid (Refused why i) = numberOf why
+-- an answer, and the lent memory after it
+pub record ListOutcome : Type 0 where
+  pub answer : ℕ
+  pub first : List ℕ
+  pub last : List ℕ
+  pub count : ℕ
 
--- an accepted header's places; a refused one leaves what was there
-abbrev pub placesAfter : Header → List ℕ → List ℕ → List ℕ
-placesAfter (Accepted end) new old = new
-placesAfter (Refused why i) new old = old
-
--- the number of names, or the refused card's number
-abbrev pub countAfter : Header → ℕ → ℕ
-countAfter (Accepted end) n = n
-countAfter (Refused why i) n = i
+-- 0, with the places and the number of names; or the refusal's number, with the card's number as the count
+abbrev pub listTold : Header → Listing → List ℕ → List ℕ → ListOutcome
+listTold (Accepted end) x first last = record { answer = 0; first = x .first; last = x .last; count = x .count }
+listTold (Refused s) x first last = record { answer = numberOf (s .fault .why); first = first; last = last; count = s .card }
 
 -- the lengths that are asked for: those of first cards and last entries
-abbrev pub isRoom : List ℕ → List ℕ → Bool
-isRoom first last = eqb (length first) places && eqb (length last) places
+abbrev pub listFits : List ℕ → List ℕ → Bool
+listFits first last = eqb (length first) places && eqb (length last) places
 
--- what is answered, and left in lent memory: with other lengths nothing is read
-abbrev pub listAnswer : Bool → Listing → ℕ
-listAnswer fit x = cond fit (listSaid (x .header)) wrongLength
+-- with other lengths nothing is read, and all stays as it was
+abbrev pub listInto : Bool → Listing → List ℕ → List ℕ → ℕ → ListOutcome
+listInto fit x first last count =
+    cond fit (listTold (x .header) x first last) (record { answer = wrongLength; first = first; last = last; count = count })
 
-abbrev pub listFirst : Bool → Listing → List ℕ → List ℕ
-listFirst fit x old = cond fit (placesAfter (x .header) (x .first) old) old
-
-abbrev pub listLast : Bool → Listing → List ℕ → List ℕ
-listLast fit x old = cond fit (placesAfter (x .header) (x .last) old) old
-
-abbrev pub listCount : Bool → Listing → ℕ → ℕ
-listCount fit x old = cond fit (countAfter (x .header) (x .count)) old
+-- what listing leaves, where x is the list and r the answer
+abbrev pub ListLeft : Listing → Lent (List ℕ) → Lent (List ℕ) → Lent ℕ → ℕ → Type 0
+ListLeft x first last count r =
+    _≡_ {A = ListOutcome}
+    (record { answer = r; first = first .left; last = last .left; count = count .left })
+    (listInto (listFits (first .was) (last .was)) x (first .was) (last .was) (count .was))

@@ -1,2 +1,5 @@
--- What the contracts of `abi_header` cite.
+-- What public promises cite.
 pub mod Headers
+
+-- What private contracts cite alone.
+pub mod Writing

@@ -3,8 +3,8 @@ use Prim.Native.Nat.{ℕ}
 use mathlib.Core.Path.{_≡_}
 use mathlib.Core.List.{List}
 use lib.IntN.{ℤ}
-use denote.Ref.{RefT, now}
-use denote.Triple.Both.{Both}
+use denote.Ref.{now}
+use Rattle.laws.specs.Lending.{Lent, Passed}
 use Rattle.refusal.specs.Numbers.{numberOf}
 use Rattle.rice.specs.Steps.{openOf, stepOf, decodeOf}
 use Rattle.rice.specs.declared.Cursor.{Cursor}
@@ -15,25 +15,11 @@ use Rattle.rice.specs.declared.Stepped.the-variants as S
 use Rattle.rice.specs.declared.Decoded.{Decoded}
 use Rattle.rice.specs.declared.Decoded.the-variants as D
 
--- ---- what is lent
-
--- what a value was on entry, and what it is left as
-pub record Change (A : Type 0) : Type 0 where
-  pub was : A
-  pub left : A
-
--- a parameter that is lent, as a contract has it
-abbrev pub Passed : Type 0 → Type 0
-Passed A = Both (RefT A) (RefT A)
-
-abbrev pub changeOf : {A : Type 0} → Passed A → Change A
-changeOf x = record { was = now (x .entry); left = now (x .exit) }
-
 -- a cursor in three numbers
 abbrev pub cursorOf : ℕ → ℕ → ℤ → Cursor
 cursorOf bit done last = record { bit = bit; done = done; last = last }
 
-abbrev pub cursorIn : Passed ℕ → Passed ℕ → Passed ℤ → Change Cursor
+abbrev pub cursorIn : Passed ℕ → Passed ℕ → Passed ℤ → Lent Cursor
 cursorIn bit done last = record {
   was = cursorOf (now (bit .entry)) (now (done .entry)) (now (last .entry));
   left = cursorOf (now (bit .exit)) (now (done .exit)) (now (last .exit));
@@ -52,7 +38,7 @@ cursorAfter (O.At c) was = c
 cursorAfter (O.Refused fault) was = was
 
 -- what opening a tile leaves: its answer r, and the cursor
-pub record OpenLeft (tile : List ℕ) (nx nblock bits : ℕ) (cursor : Change Cursor) (r : ℕ) : Type 0 where
+pub record OpenLeft (tile : List ℕ) (nx nblock bits : ℕ) (cursor : Lent Cursor) (r : ℕ) : Type 0 where
   pub answer : r ≡ openSaid (openOf tile nx nblock bits)
   pub place : cursor .left ≡ cursorAfter (openOf tile nx nblock bits) (cursor .was)
 
@@ -81,8 +67,8 @@ writtenAfter (S.Next c) was = was
 writtenAfter (S.Refused fault n) was = n
 
 -- what a step leaves: its answer r, the cursor, the pixels, and how many of them were written
-pub record StepLeft (tile : List ℕ) (nx nblock bits : ℕ) (cursor : Change Cursor) (pixels : Change (List ℤ))
-    (written : Change ℕ) (r : ℕ) : Type 0 where
+pub record StepLeft (tile : List ℕ) (nx nblock bits : ℕ) (cursor : Lent Cursor) (pixels : Lent (List ℤ))
+    (written : Lent ℕ) (r : ℕ) : Type 0 where
   pub answer : r ≡ stepSaid (stepOf tile nx nblock bits (cursor .was) (pixels .was) .answer)
   pub place : cursor .left ≡ steppedTo (stepOf tile nx nblock bits (cursor .was) (pixels .was) .answer) (cursor .was)
   pub content : pixels .left ≡ stepOf tile nx nblock bits (cursor .was) (pixels .was) .content
@@ -101,7 +87,7 @@ countOf (D.Whole used) = used
 countOf (D.Refused fault n) = n
 
 -- what whole decoding leaves: its answer r, the pixels, and the count
-pub record DecodeLeft (tile : List ℕ) (nx nblock bits : ℕ) (pixels : Change (List ℤ)) (count : Change ℕ) (r : ℕ) : Type 0 where
+pub record DecodeLeft (tile : List ℕ) (nx nblock bits : ℕ) (pixels : Lent (List ℤ)) (count : Lent ℕ) (r : ℕ) : Type 0 where
   pub answer : r ≡ decodeSaid (decodeOf tile nx nblock bits (pixels .was) .answer)
   pub content : pixels .left ≡ decodeOf tile nx nblock bits (pixels .was) .content
   pub told : count .left ≡ countOf (decodeOf tile nx nblock bits (pixels .was) .answer)

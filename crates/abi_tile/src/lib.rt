@@ -1,5 +1,6 @@
 // A tile as the C boundary gives it: its cursor and its counts in numbers.
-ghost use Rattle.abi_tile.specs.Tiles.{changeOf, cursorIn, OpenLeft, StepLeft, DecodeLeft};
+ghost use Rattle.laws.specs.Lending.{lentOf};
+ghost use Rattle.abi_tile.specs.Tiles.{cursorIn, OpenLeft, StepLeft, DecodeLeft};
 use rice::Cursor;
 use rice::Decoded;
 use rice::Opened;
@@ -47,7 +48,7 @@ pub fn step_into(
     pixels: &mut [i32],
     written: &mut usize,
 ) -> u8
-    ensures { λ r. ⌜ StepLeft (now (tile .entry)) nx nblock bits (cursorIn bit done last) (changeOf pixels) (changeOf written) r ⌝ }
+    ensures { λ r. ⌜ StepLeft (now (tile .entry)) nx nblock bits (cursorIn bit done last) (lentOf pixels) (lentOf written) r ⌝ }
 {
     let b = *bit;
     let d = *done;
@@ -84,7 +85,7 @@ pub fn decode_into(
     pixels: &mut [i32],
     count: &mut usize,
 ) -> u8
-    ensures { λ r. ⌜ DecodeLeft (now (tile .entry)) nx nblock bits (changeOf pixels) (changeOf count) r ⌝ }
+    ensures { λ r. ⌜ DecodeLeft (now (tile .entry)) nx nblock bits (lentOf pixels) (lentOf count) r ⌝ }
 {
     match rice::decode(tile, nx, nblock, bits, pixels) {
         Decoded::Whole(used) => {

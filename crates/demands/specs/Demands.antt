@@ -1,10 +1,10 @@
 -- The three demands.
 --
 -- 1. Every header, name, tile and buffer, however damaged, gets an answer that ends. No public function has a `requires`, and a
---    check proves of each that it returns and stays within its slices: `header::lookup`, `header::read_entry`, `card::read_card`,
+--    check proves of each that it returns and stays within its slices: `entries::lookup`, `entries::read_entry`, `card::read_card`,
 --    `rice::decode` and the others that docs/PROMISES.md lists.
--- 2. Each answer, and each lent buffer after it, is a definition's: `lookupOf` for a lookup (crates/header/specs/Answers.antt), whose
---    contract has three equations, for the answer and for the two buffers.
+-- 2. Each answer, and each lent buffer after it, is a definition's: `lookupOf` for a lookup (crates/entries/specs/Answers.antt), whose
+--    contract is one equation for the answer and the two buffers.
 -- 3. Isolation, stated here: no card of K touches what another name is answered.
 use Prim.Native.Nat.{ℕ}
 use mathlib.Core.Path.{_≡_}
@@ -12,10 +12,10 @@ use mathlib.Core.Bool.{Bool, false}
 use mathlib.Core.List.{List, []}
 use lib.ListN.{length, getD}
 use Rattle.joining.specs.Belonging.{belongs}
-use Rattle.header.specs.declared.Header.the-variants.{Accepted}
 use Rattle.roles.specs.Cards.{cardsOf, rolesOf}
-use Rattle.header.specs.Reading.{headerOf}
-use Rattle.header.specs.Answers.{lookupOf}
+use Rattle.finding.specs.declared.Header.the-variants.{Accepted}
+use Rattle.finding.specs.Finding.{headerOf}
+use Rattle.entries.specs.Answers.{lookupOf}
 
 -- the header h is accepted: its END stands at some card
 pub record IsAccepted (h : List ℕ) : Type 0 where

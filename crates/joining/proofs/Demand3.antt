@@ -7,9 +7,9 @@ use mathlib.Core.List.{List, [], _∷_, map}
 use mathlib.Core.Option.{Option}
 use lib.ListN.{length, getD, length-map, List·getD-map}
 use Rattle.text.specs.Same.{same}
-use Rattle.roles.specs.Roles.{Held, Role, entry, more, neutral, last, refused}
-use Rattle.joining.specs.Lookup.{isOpen, joined, lookup}
-use Rattle.joining.specs.Belonging.{Entry, Open, ended, idle, held, Effect, gives, nothing, stops, does, leaves, effects, bears, belongs}
+use Rattle.roles.specs.Roles.{Role}
+use Rattle.joining.specs.Lookup.{lookup}
+use Rattle.joining.specs.Belonging.{Open, idle, Effect, gives, nothing, stops, does, leaves, effects, bears, belongs}
 use Rattle.joining.proofs.Names.{others, answer, answer-others}
 use Rattle.joining.proofs.Answers.{by-effects}
 use Rattle.joining.proofs.Owning.{Own, own-after, like-idle}
@@ -25,7 +25,8 @@ module _ (k : List ℕ) where
     owned : {q r : Open} → Own k q → Own k r → Alike q r
 
   -- so an equal card that does not bear K does the same in both headers, and leaves them alike
-  effect : {q r : Open} → Alike q r → (c : Role) → bears k (does q c) ≡ false → bears k (does r c) ≡ false → does q c ≡ does r c
+  effect : {q r : Open} → Alike q r → (c : Role) → bears k (does q c) ≡ false → bears k (does r c) ≡ false
+      → does q c ≡ does r c
   effect equal c a b = refl
   effect (owned x y) c a b = like-idle k x c a ∙ sym (like-idle k y c b)
 
@@ -44,12 +45,19 @@ module _ (k : List ℕ) where
   others-same z q r s [] (d ∷ h) long places cards = absurd (omega arith)
   others-same z q r s (c ∷ g) [] long places cards = absurd (omega arith)
   others-same z q r s (c ∷ g) (d ∷ h) long places cards =
-      go (bears k (does q c)) refl (λ s′. others-same z (leaves q (does q c)) (leaves r (does r d)) s′ g h (omega arith) (λ p. places (suc p)) (λ p. cards (suc p)))
+      go (bears k (does q c)) refl (λ s′. others-same z q₁ r₁ s′ g h (omega arith) (λ p. places (suc p)) (λ p. cards (suc p)))
     where
-      Rest : Type 0
-      Rest = others k (effects (leaves q (does q c)) g) ≡ others k (effects (leaves r (does r d)) h)
+      -- what stands open behind the two cards
+      q₁ : Open
+      q₁ = leaves q (does q c)
 
-      go : (b : Bool) → bears k (does q c) ≡ b → (Alike (leaves q (does q c)) (leaves r (does r d)) → Rest) → others k (effects q (c ∷ g)) ≡ others k (effects r (d ∷ h))
+      r₁ : Open
+      r₁ = leaves r (does r d)
+
+      Rest : Type 0
+      Rest = others k (effects q₁ g) ≡ others k (effects r₁ h)
+
+      go : (b : Bool) → bears k (does q c) ≡ b → (Alike q₁ r₁ → Rest) → others k (effects q (c ∷ g)) ≡ others k (effects r (d ∷ h))
       go true e rest =
           let e′ : bears k (does r d) ≡ true = sym (places zero) ∙ e in
           rw (e, e′) (rest (owned (own-after k q (does q c) e) (own-after k r (does r d) e′)))
@@ -57,14 +65,19 @@ module _ (k : List ℕ) where
           let e′ : bears k (does r d) ≡ false = sym (places zero) ∙ e in
           let is : c ≡ d = cards zero e in
           let one : does q c ≡ does r d = ap (does q) is ∙ effect s d (subst (λ (x : Role). bears k (does q x) ≡ false) is e) e′ in
-          rw (e, e′) (ap₂ _∷_ one (rest (subst (λ (f : Effect). Alike (leaves q (does q c)) (leaves r f)) one (after q r s (does q c)))))
+          let alike : Alike q₁ r₁ = subst (λ (f : Effect). Alike q₁ (leaves r f)) one (after q r s (does q c)) in
+          rw (e, e′) (ap₂ _∷_ one (rest alike))
 
   pub demand-3 : (z : Role) (n : List ℕ) → (k ≡ n → ⊥) → (g h : List Role) → length g ≡ length h
       → ((p : ℕ) → belongs k g p ≡ belongs k h p)
       → ((p : ℕ) → belongs k g p ≡ false → getD g p z ≡ getD h p z)
       → lookup n g ≡ lookup n h
   demand-3 z n other g h long places cards =
-      by-effects n g ∙ sym (answer-others k n other (effects idle g)) ∙ ap (answer n) (others-same z idle idle equal g h long places cards) ∙ answer-others k n other (effects idle h) ∙ sym (by-effects n h)
+      by-effects n g
+      ∙ sym (answer-others k n other (effects idle g))
+      ∙ ap (answer n) (others-same z idle idle equal g h long places cards)
+      ∙ answer-others k n other (effects idle h)
+      ∙ sym (by-effects n h)
 
 -- The same of headers by their bytes, whatever reads a card.
 pub demand-3-bytes : (read : List ℕ → Role) (k n : List ℕ) → (k ≡ n → ⊥) → (g h : List (List ℕ)) → length g ≡ length h

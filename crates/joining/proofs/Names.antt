@@ -19,7 +19,8 @@ same-eq [] (b ∷ t) e = absurd (false≢true e)
 same-eq (a ∷ s) [] e = absurd (false≢true e)
 same-eq (a ∷ s) (b ∷ t) e = go (eqb a b) refl e (same-eq s t)
   where
-    go : (u : Bool) → eqb a b ≡ u → (u && same s t) ≡ true → (same s t ≡ true → s ≡ t) → _≡_ {A = List ℕ} (a ∷ s) (b ∷ t)
+    go : (u : Bool) → eqb a b ≡ u → (u && same s t) ≡ true → (same s t ≡ true → s ≡ t)
+        → _≡_ {A = List ℕ} (a ∷ s) (b ∷ t)
     go true d r h = ap₂ _∷_ (eqb-true a b d) (h r)
     go false d r h = absurd (false≢true r)
 
@@ -58,7 +59,8 @@ module _ (k : List ℕ) where
   answer-others n other [] = refl
   answer-others n other (f ∷ fs) = go (bears k f) refl (answer-others n other fs)
     where
-      go : (b : Bool) → bears k f ≡ b → answer n (others k fs) ≡ answer n fs → answer n (cond (bears k f) (others k fs) (f ∷ others k fs)) ≡ orElse (answer n fs) (valueFor n f)
+      go : (b : Bool) → bears k f ≡ b → answer n (others k fs) ≡ answer n fs
+          → answer n (cond (bears k f) (others k fs) (f ∷ others k fs)) ≡ orElse (answer n fs) (valueFor n f)
       go true d h = rw (d, silent n other f d, or-none) h
       go false d h = rw (d, h)
 
@@ -73,6 +75,7 @@ module _ (k : List ℕ) where
       unanswered nothing d = refl
       unanswered stops d = refl
 
-      go : (b : Bool) → bears k f ≡ b → answer k (others k fs) ≡ none → answer k (cond (bears k f) (others k fs) (f ∷ others k fs)) ≡ none
+      go : (b : Bool) → bears k f ≡ b → answer k (others k fs) ≡ none
+          → answer k (cond (bears k f) (others k fs) (f ∷ others k fs)) ≡ none
       go true d h = rw d h
       go false d h = rw (d, h) (unanswered f d)

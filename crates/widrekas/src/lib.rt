@@ -3,11 +3,11 @@ ghost use mathlib.Core.Path.{_≡_};
 ghost use Rattle.value.specs.Units.{unitOf};
 ghost use Rattle.abi_value.specs.Telling.{unitEnd};
 ghost use Rattle.abi_card.specs.Records.{answerOf, leftOf, numberLeft};
-ghost use Rattle.header.specs.Answers.{lookupOf, entryOf};
+ghost use Rattle.entries.specs.Answers.{lookupOf, entryOf};
 ghost use Rattle.listing.specs.Listing.{listOf};
-ghost use Rattle.abi_header.specs.Headers.{isFit, entryAnswer, entryText, entryComment, entryDigits, entryNumbers, entryNumber};
-ghost use Rattle.abi_header.specs.Headers.{isRoom, listAnswer, listFirst, listLast, listCount};
-ghost use Rattle.abi_tile.specs.Tiles.{changeOf, cursorIn, OpenLeft, StepLeft, DecodeLeft};
+ghost use Rattle.abi_header.specs.Headers.{EntryLeft, ListLeft};
+ghost use Rattle.laws.specs.Lending.{lentOf};
+ghost use Rattle.abi_tile.specs.Tiles.{cursorIn, OpenLeft, StepLeft, DecodeLeft};
 
 // The version of this boundary.
 #[no_mangle]
@@ -55,12 +55,10 @@ pub extern "C" fn widrekas_lookup(
     out: &mut [usize],
     number: &mut i64,
 ) -> u8
-    ensures { λ r. ⌜ r ≡ entryAnswer (isFit (now (digits .entry)) (now (out .entry))) (lookupOf (now (header .entry)) (now (name .entry)) (now (text .entry)) (now (comment .entry))) ⌝ }
-    ensures { λ _. ⌜ now (text .exit) ≡ entryText (isFit (now (digits .entry)) (now (out .entry))) (lookupOf (now (header .entry)) (now (name .entry)) (now (text .entry)) (now (comment .entry))) (now (text .entry)) ⌝ }
-    ensures { λ _. ⌜ now (comment .exit) ≡ entryComment (isFit (now (digits .entry)) (now (out .entry))) (lookupOf (now (header .entry)) (now (name .entry)) (now (text .entry)) (now (comment .entry))) (now (comment .entry)) ⌝ }
-    ensures { λ _. ⌜ now (digits .exit) ≡ entryDigits (isFit (now (digits .entry)) (now (out .entry))) (lookupOf (now (header .entry)) (now (name .entry)) (now (text .entry)) (now (comment .entry))) (now (digits .entry)) ⌝ }
-    ensures { λ _. ⌜ now (out .exit) ≡ entryNumbers (isFit (now (digits .entry)) (now (out .entry))) (lookupOf (now (header .entry)) (now (name .entry)) (now (text .entry)) (now (comment .entry))) (now (out .entry)) ⌝ }
-    ensures { λ _. ⌜ now (number .exit) ≡ entryNumber (isFit (now (digits .entry)) (now (out .entry))) (lookupOf (now (header .entry)) (now (name .entry)) (now (text .entry)) (now (comment .entry))) (now (number .entry)) ⌝ }
+    ensures {
+        λ r. ⌜ EntryLeft (lookupOf (now (header .entry)) (now (name .entry)))
+            (lentOf text) (lentOf comment) (lentOf digits) (lentOf out) (lentOf number) r ⌝
+    }
 {
     abi_header::lookup_into(header, name, text, comment, digits, out, number)
 }
@@ -76,12 +74,10 @@ pub extern "C" fn widrekas_entry(
     out: &mut [usize],
     number: &mut i64,
 ) -> u8
-    ensures { λ r. ⌜ r ≡ entryAnswer (isFit (now (digits .entry)) (now (out .entry))) (entryOf (now (header .entry)) card (now (text .entry)) (now (comment .entry))) ⌝ }
-    ensures { λ _. ⌜ now (text .exit) ≡ entryText (isFit (now (digits .entry)) (now (out .entry))) (entryOf (now (header .entry)) card (now (text .entry)) (now (comment .entry))) (now (text .entry)) ⌝ }
-    ensures { λ _. ⌜ now (comment .exit) ≡ entryComment (isFit (now (digits .entry)) (now (out .entry))) (entryOf (now (header .entry)) card (now (text .entry)) (now (comment .entry))) (now (comment .entry)) ⌝ }
-    ensures { λ _. ⌜ now (digits .exit) ≡ entryDigits (isFit (now (digits .entry)) (now (out .entry))) (entryOf (now (header .entry)) card (now (text .entry)) (now (comment .entry))) (now (digits .entry)) ⌝ }
-    ensures { λ _. ⌜ now (out .exit) ≡ entryNumbers (isFit (now (digits .entry)) (now (out .entry))) (entryOf (now (header .entry)) card (now (text .entry)) (now (comment .entry))) (now (out .entry)) ⌝ }
-    ensures { λ _. ⌜ now (number .exit) ≡ entryNumber (isFit (now (digits .entry)) (now (out .entry))) (entryOf (now (header .entry)) card (now (text .entry)) (now (comment .entry))) (now (number .entry)) ⌝ }
+    ensures {
+        λ r. ⌜ EntryLeft (entryOf (now (header .entry)) card)
+            (lentOf text) (lentOf comment) (lentOf digits) (lentOf out) (lentOf number) r ⌝
+    }
 {
     abi_header::entry_into(header, card, text, comment, digits, out, number)
 }
@@ -96,10 +92,7 @@ pub extern "C" fn widrekas_list(
     last: &mut [usize],
     count: &mut usize,
 ) -> u8
-    ensures { λ r. ⌜ r ≡ listAnswer (isRoom (now (first .entry)) (now (last .entry))) (listOf (now (header .entry))) ⌝ }
-    ensures { λ _. ⌜ now (first .exit) ≡ listFirst (isRoom (now (first .entry)) (now (last .entry))) (listOf (now (header .entry))) (now (first .entry)) ⌝ }
-    ensures { λ _. ⌜ now (last .exit) ≡ listLast (isRoom (now (first .entry)) (now (last .entry))) (listOf (now (header .entry))) (now (last .entry)) ⌝ }
-    ensures { λ _. ⌜ now (count .exit) ≡ listCount (isRoom (now (first .entry)) (now (last .entry))) (listOf (now (header .entry))) (now (count .entry)) ⌝ }
+    ensures { λ r. ⌜ ListLeft (listOf (now (header .entry))) (lentOf first) (lentOf last) (lentOf count) r ⌝ }
 {
     abi_header::list_into(header, first, last, count)
 }
@@ -138,7 +131,7 @@ pub extern "C" fn widrekas_step(
     pixels: &mut [i32],
     written: &mut usize,
 ) -> u8
-    ensures { λ r. ⌜ StepLeft (now (tile .entry)) nx nblock bits (cursorIn bit done last) (changeOf pixels) (changeOf written) r ⌝ }
+    ensures { λ r. ⌜ StepLeft (now (tile .entry)) nx nblock bits (cursorIn bit done last) (lentOf pixels) (lentOf written) r ⌝ }
 {
     abi_tile::step_into(tile, nx, nblock, bits, bit, done, last, pixels, written)
 }
@@ -153,7 +146,7 @@ pub extern "C" fn widrekas_decode(
     pixels: &mut [i32],
     count: &mut usize,
 ) -> u8
-    ensures { λ r. ⌜ DecodeLeft (now (tile .entry)) nx nblock bits (changeOf pixels) (changeOf count) r ⌝ }
+    ensures { λ r. ⌜ DecodeLeft (now (tile .entry)) nx nblock bits (lentOf pixels) (lentOf count) r ⌝ }
 {
     abi_tile::decode_into(tile, nx, nblock, bits, pixels, count)
 }

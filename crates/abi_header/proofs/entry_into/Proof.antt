@@ -1,12 +1,14 @@
 -- `abi_header::entry_into` meets its contract: with other lengths nothing is read; otherwise what is read is written.
 use lib.ListN.{length}
-use Rattle.header.specs.Answers.{entryOf}
-use Rattle.abi_header.specs.Headers.{isFit}
+use Rattle.entries.specs.Answers.{entryOf}
 use Rattle.abi_header.proofs.Fitting.{both}
-use Rattle.abi_header.proofs.Leaving.{unread, read}
+use Rattle.abi_header.proofs.Leaving.{unread, told}
 use borrow.Author.Needs.{needs}
 use Rattle.abi_header.proofs.entry_into.Statement.{statement}
 use Rattle.abi_header.proofs.entry_into.Tie as tie
+
+abbrev start : tie.Then1 → tie.Start
+start c = c .before .before .before .before .before .before
 
 read-entry-requires : tie.Need-read-entry-requires
 read-entry-requires c κs = search needs
@@ -14,7 +16,7 @@ read-entry-requires c κs = search needs
 write-looked-requires : tie.Need-write-looked-requires
 write-looked-requires c κs =
     let tested = c .before .before .before .before .before .before .before .before .before .before in
-    let a = tested .before .before .before .before .before .before .args in
+    let a = start tested .args in
     both (length (a .digits .now)) 80 (length (a .out .now)) 7 (tested .if1 .taken)
 
 same-length : tie.Need-same-length
@@ -34,20 +36,14 @@ returns c =
     let written = c .before .before .before .before in
     let got = written .before .before .before .before .before .before .before .before in
     let tested = got .before .before .before in
-    let a = tested .before .before .before .before .before .before .args in
-    let d = a .digits .now in
-    let o = a .out .now in
-    let x = entryOf (a .header .now) (a .card) (a .text .now) (a .comment .now) in
-    read (isFit d o) x (a .text .now) (a .comment .now) d o (a .number .now)
+    let a = start tested .args in
+    told (entryOf (a .header .now) (a .card)) _ _ _ _ _ (written .write-looked .result)
     (tested .if1 .taken) (got .read-entry .ensures) (written .write-looked .ensures)
 
 returns-2 : tie.Need-returns-2
 returns-2 c =
     let a = c .before .before .before .before .before .before .args in
-    let d = a .digits .now in
-    let o = a .out .now in
-    let x = entryOf (a .header .now) (a .card) (a .text .now) (a .comment .now) in
-    unread (isFit d o) x (a .text .now) (a .comment .now) d o (a .number .now) (c .if1 .left)
+    unread (entryOf (a .header .now) (a .card)) (a .text .now) (a .comment .now) (a .digits .now) (a .out .now) (a .number .now) (c .if1 .left)
 
 pub entry-into-spec : {M : Type 1} → statement M
 entry-into-spec =

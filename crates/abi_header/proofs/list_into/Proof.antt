@@ -1,7 +1,6 @@
 -- `abi_header::list_into` meets its contract: with other lengths nothing is read; otherwise what is listed is written.
 use lib.ListN.{length}
 use Rattle.listing.specs.Listing.{listOf}
-use Rattle.abi_header.specs.Headers.{isRoom}
 use Rattle.abi_header.proofs.Fitting.{both}
 use Rattle.abi_header.proofs.Leaving.{unlisted, listed}
 use borrow.Author.Needs.{needs}
@@ -29,17 +28,13 @@ returns c =
     let got = written .before .before .before .before in
     let tested = got .before in
     let a = tested .before .before .before .before .args in
-    let f = a .first .now in
-    let g = a .last .now in
-    listed (isRoom f g) (listOf (a .header .now)) f g (a .count .now)
-    (tested .if1 .taken) (got .list .ensures) (written .write-listing .ensures)
+    listed (listOf (a .header .now)) _ _ _ (written .write-listing .result) (tested .if1 .taken) (got .list .ensures)
+    (written .write-listing .ensures)
 
 returns-2 : tie.Need-returns-2
 returns-2 c =
     let a = c .before .before .before .before .args in
-    let f = a .first .now in
-    let g = a .last .now in
-    unlisted (isRoom f g) (listOf (a .header .now)) f g (a .count .now) (c .if1 .left)
+    unlisted (listOf (a .header .now)) (a .first .now) (a .last .now) (a .count .now) (c .if1 .left)
 
 pub list-into-spec : {M : Type 1} → statement M
 list-into-spec =

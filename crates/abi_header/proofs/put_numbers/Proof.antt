@@ -1,25 +1,30 @@
--- `abi_header::put_numbers` meets its contract: after i turns the first i numbers are pasted.
-use Prim.Native.Nat.{ℕ, _+_, _-_, _≤_}
+-- `abi_header::put_numbers` meets its contract: what is left to store gives the whole.
+use Prim.Native.Nat.{ℕ, _+_, _-_, _≤_, _<_}
 use native.Mathlib.Numerals.{add-one}
-use native.Mathlib.Nat.{zero-add}
 use native.Mathlib.Omega.{arith}
 use mathlib.Core.Path.{_≡_, refl, sym, ap, _∙_}
-use mathlib.Core.List.{List, _++_}
+use mathlib.Core.List.{List}
 use borrow.Author.Needs.{needs}
-use lib.ListN.{length, drop, getD, set, length-set}
-use lib.Seq.{paste, paste-zero, paste-suc, take-length}
-use Rattle.overlay.proofs.Laying.{over-all}
+use lib.ListN.{length, drop, getD, set, drop-of-length-le, length-set}
+use lib.Seq.{sets}
+use Rattle.text.proofs.Trimming.{at-next}
+use Rattle.text.proofs.Laying.{sets-all}
 use Rattle.abi_header.proofs.put_numbers.Statement.{statement}
 use Rattle.abi_header.proofs.put_numbers.Tie as tie
 
 abbrev Inv-loop : tie.InvT-loop
-Inv-loop s out₀ i₀ out i = (i ≤ length s) × (length out ≡ length out₀) × (out ≡ paste out₀ 0 s i)
+Inv-loop s out₀ i₀ out i = (i ≤ length s) × (length out ≡ length out₀) × (sets out i (drop i s) ≡ sets out₀ 0 s)
 
 abbrev μ-loop : tie.MeasureT-loop
 μ-loop s out₀ i₀ out i = length s - i
 
+-- one number is stored, and the rest is left
+step : (s d : List ℕ) (i : ℕ) → i < length s → sets (set d i (getD s i 0)) (i + 1) (drop (i + 1) s) ≡ sets d i (drop i s)
+step s d i h =
+    ap (λ (k : ℕ). sets (set d i (getD s i 0)) k (drop (i + 1) s)) (add-one i) ∙ sym (ap (sets d i) (at-next s i h))
+
 loop-holds : tie.Need-loop-holds Inv-loop μ-loop
-loop-holds c = (omega arith, refl, paste-zero (c .args .out .now) 0 (c .args .s .now))
+loop-holds c = (omega arith, refl, refl)
 
 mul-out : tie.Need-mul-out Inv-loop μ-loop
 mul-out c = search needs
@@ -42,15 +47,12 @@ loop-less c = search needs
 loop-again : tie.Need-loop-again Inv-loop μ-loop
 loop-again c =
     let at-loop = c .before .before in
-    let d = at-loop .before .args .out .now in
     let s = at-loop .before .args .s .now in
     let i = at-loop .loop .i in
-    let put = ap (λ (l : List ℕ). set l i (getD s i 0)) (at-loop .loop .inv .2) in
-    let place = ap (λ (k : ℕ). set (paste d 0 s i) k (getD s i 0)) (sym (zero-add i)) in
-    let more = paste-suc d 0 s i 0 (omega arith) (omega arith) ∙ ap (paste d 0 s) (sym (add-one i)) in (
+    let d = at-loop .loop .out in (
       omega arith,
       simp length-set (at-loop .loop .inv .1),
-      put ∙ place ∙ more,
+      step s d i (omega arith) ∙ at-loop .loop .inv .2,
     )
 
 same-length : tie.Need-same-length Inv-loop μ-loop
@@ -59,10 +61,13 @@ same-length c = search needs
 returns : tie.Need-returns Inv-loop μ-loop
 returns c =
     let at-loop = c .before in
-    let d = at-loop .before .args .out .now in
-    let s = at-loop .before .args .s .now in
-    let all : at-loop .loop .i ≡ length s = omega arith in
-    at-loop .loop .inv .2 ∙ ap (paste d 0 s) all ∙ ap (λ (l : List ℕ). l ++ drop (0 + length s) d) (take-length s) ∙ over-all d s (at-loop .before .pre)
+    let a = at-loop .before .args in
+    let s = a .s .now in
+    let d = at-loop .loop .out in
+    let past : length s ≤ at-loop .loop .i = omega arith in
+    sym (ap (sets d (at-loop .loop .i)) (drop-of-length-le s past))
+    ∙ at-loop .loop .inv .2
+    ∙ sets-all s (a .out .now) (at-loop .before .pre)
 
 pub put-numbers-spec : {M : Type 1} → statement M
 put-numbers-spec =

@@ -1,5 +1,4 @@
 -- `abi_header::write_listing` meets its contract: by the answer that an arm knows.
-use mathlib.Core.Path.{refl}
 use Rattle.abi_header.proofs.Leaving.{list-by}
 use borrow.Author.Needs.{needs}
 use Rattle.abi_header.proofs.write_listing.Statement.{statement}
@@ -27,15 +26,21 @@ slice-aggregate-put-numbers-2 c = search needs
 
 put-numbers-requires-2 : tie.Need-put-numbers-requires-2
 put-numbers-requires-2 c κs =
-    let start = c .before .before .before .before .before .before .before .before .before .before .before .before .before in
+    let first = c .before .before .before .before .before in
+    let start = first .before .before .before .before .before .before .before .before in
     rw (start .pre .1) (search needs)
 
 returns : tie.Need-returns
 returns c =
-    let known = c .before .before in
+    let known = c .before .before .before in
     let a = known .before .before .before .before .args in
-    list-by (a .read) (a .first .now) (a .last .now) (known .answer .given .1)
-    (c .number .ensures, (refl, (refl, refl)))
+    list-by (a .read) _ _ _ _ (known .answer .given .1)
+    (λ j. record {
+      answer = c .number .ensures j;
+      first = a .first .now;
+      last = a .last .now;
+      count = known .answer .given .0 .0 .card;
+    })
 
 same-length : tie.Need-same-length
 same-length c = search needs
@@ -49,8 +54,13 @@ returns-2 c =
     let first = second .before .before .before .before .before in
     let known = first .before .before .before .before .before in
     let a = known .before .before .before .before .args in
-    list-by (a .read) (a .first .now) (a .last .now) (known .enum-told .given .1)
-    (refl, (first .put-numbers .ensures, (second .put-numbers2 .ensures, refl)))
+    list-by (a .read) _ _ _ _ (known .enum-told .given .1)
+    (λ j. record {
+      answer = 0;
+      first = first .put-numbers .ensures j;
+      last = second .put-numbers2 .ensures j;
+      count = a .read .count;
+    })
 
 pub write-listing-spec : {M : Type 1} → statement M
 write-listing-spec =

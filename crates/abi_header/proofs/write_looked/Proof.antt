@@ -1,12 +1,11 @@
 -- `abi_header::write_looked` meets its contract: by the answer that an arm knows.
-use native.Mathlib.Omega.{arith}
 use mathlib.Core.Path.{_≡_, refl, sym, ap, _∙_}
 use lib.ListN.{length}
 use mir.Syntax.{w64}
 use mir.Val.{toZ, ofZ}
 use Rattle.abi_value.specs.declared.Told.{Told}
 use Rattle.abi_header.specs.Headers.{numbersOf}
-use Rattle.overlay.proofs.Laying.{fits, over-all}
+use Rattle.text.proofs.Laying.{sets-all}
 use Rattle.abi_header.proofs.Leaving.{by}
 use borrow.Author.Needs.{needs}
 use Rattle.abi_header.proofs.write_looked.Statement.{statement}
@@ -66,17 +65,17 @@ number-fits c = search needs
 
 returns : tie.Need-returns
 returns c =
-    let known = c .before .before in
+    let known = c .before .before .before in
     let a = known .before .before .before .before .args in
-    by (a .read) (a .digits .now) (a .out .now) (a .number .now) (known .answer .given .1)
-    (c .number .ensures, (refl, (refl, refl)))
+    by (a .read) _ _ _ _ (known .answer .given .1)
+    (record { said = c .number .ensures; in-digits = refl; in-numbers = refl; in-number = refl })
 
 returns-2 : tie.Need-returns-2
 returns-2 c =
     let known = c .before .before in
     let a = known .before .before .before .before .args in
-    by (a .read) (a .digits .now) (a .out .now) (a .number .now) (known .answer2 .given .1)
-    (c .number2 .ensures, (refl, (refl, refl)))
+    by (a .read) _ _ _ _ (known .answer2 .given .1)
+    (record { said = c .number2 .ensures; in-digits = refl; in-numbers = refl; in-number = refl })
 
 same-length-2 : tie.Need-same-length-2
 same-length-2 c = search needs
@@ -93,11 +92,13 @@ returns-3 c =
     let known = told .before .before in
     let a = known .before .before .before .before .args in
     let same = told .value-told .ensures in
-    let digits = copied .put-at .ensures ∙ fits (a .digits .now) 0 (a .read .digits .bytes) (omega (arith, long (copied .before))) ∙ over-all (a .digits .now) (a .read .digits .bytes) (long (copied .before)) in
-    let numbers = put .put-numbers .ensures ∙ numbered .numbers-of .ensures ∙ ap (λ (t : Told). numbersOf t (a .read)) same in
-    let number = number-fits told ∙ ap (λ (t : Told). t .number) same in
-    by (a .read) (a .digits .now) (a .out .now) (a .number .now) (known .answer3 .given .1)
-    (refl, (digits, (numbers, number)))
+    by (a .read) _ _ _ _ (known .answer3 .given .1)
+    (record {
+      said = refl;
+      in-digits = copied .put-at .ensures ∙ sets-all (a .read .digits .bytes) (a .digits .now) (long (copied .before));
+      in-numbers = put .put-numbers .ensures ∙ numbered .numbers-of .ensures ∙ ap (λ (t : Told). numbersOf t (a .read)) same;
+      in-number = number-fits told ∙ ap (λ (t : Told). t .number) same;
+    })
 
 pub write-looked-spec : {M : Type 1} → statement M
 write-looked-spec =
