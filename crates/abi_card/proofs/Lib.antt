@@ -1,3 +1,2 @@
 -- Laws that the proofs of `abi_card` share.
-pub mod Laying
 pub mod Fitting

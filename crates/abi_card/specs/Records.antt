@@ -1,5 +1,6 @@
 -- What the C boundary writes: a card as a record of 248 bytes and a number.
 use Prim.Native.Nat.{ℕ, min}
+use mathlib.Core.Path.{_≡_}
 use mathlib.Core.Bool.{Bool, false, cond, _&&_}
 use mathlib.Core.List.{List, [], _∷_, _++_}
 use lib.Dec.{eqb}
@@ -49,39 +50,39 @@ abbrev pub byteOf : ℕ → ℕ
 byteOf n = min n 255
 
 -- the eight numbers in front
-abbrev pub headOf : CardRead → ℕ → Told → List ℕ
-headOf r class t =
-    class ∷ t .kind ∷ bitOf (t .flag) ∷ bitOf (r .commented) ∷ byteOf (r .name .len) ∷ byteOf (r .text .len) ∷ byteOf (r .comment .len) ∷ 0 ∷ []
+abbrev pub recordHead : CardRead → ℕ → Told → List ℕ
+recordHead r class t =
+    class ∷ t .kind ∷ bitOf (t .flag) ∷ bitOf (r .commented)
+    ∷ byteOf (r .name .len) ∷ byteOf (r .text .len) ∷ byteOf (r .comment .len) ∷ 0 ∷ []
 
 -- then the name, the text and the comment, 80 bytes each
 abbrev pub recordOf : Card → CardRead → List ℕ
-recordOf c r = headOf r (classNumber c) (cardTold c) ++ r .name .bytes ++ r .text .bytes ++ r .comment .bytes
+recordOf c r = recordHead r (classNumber c) (cardTold c) ++ r .name .bytes ++ r .text .bytes ++ r .comment .bytes
 
 -- ---- what reading a card answers, and leaves in lent memory
 
--- 0, or the refusal's number
-abbrev pub said : CardAnswer → ℕ
-said (Read c) = 0
-said (Refused why) = numberOf why
+-- an answer, and the lent record and number after it
+pub record CardOutcome : Type 0 where
+  pub answer : ℕ
+  pub content : List ℕ
+  pub number : ℤ
 
--- a refusal leaves all as it was
-abbrev pub recordAfter : CardAnswer → CardRead → List ℕ → List ℕ
-recordAfter (Read c) r o = recordOf c r
-recordAfter (Refused why) r o = o
+abbrev pub cardOutcome : ℕ → List ℕ → ℤ → CardOutcome
+cardOutcome answer content number = record { answer = answer; content = content; number = number }
 
-abbrev pub numberAfter : CardAnswer → ℤ → ℤ
-numberAfter (Read c) z = cardTold c .number
-numberAfter (Refused why) z = z
+-- 0, with the card's record and number; a refusal answers its own number and leaves all as it was
+abbrev pub recordedAs : CardAnswer → CardRead → List ℕ → ℤ → CardOutcome
+recordedAs (Read c) r out number = cardOutcome 0 (recordOf c r) (cardTold c .number)
+recordedAs (Refused fault) r out number = cardOutcome (numberOf (fault .why)) out number
 
 -- the lengths that are asked for: a card's and a record's
-unfoldable pub isFit : List ℕ → List ℕ → Bool
-isFit card o = eqb (length card) 80 && eqb (length o) 248
+unfoldable pub isCardFit : List ℕ → List ℕ → Bool
+isCardFit card out = eqb (length card) 80 && eqb (length out) 248
 
-abbrev pub answerOf : List ℕ → List ℕ → ℕ
-answerOf card o = cond (isFit card o) (said (cardOf card .answer)) wrongLength
+abbrev pub cardInto : List ℕ → List ℕ → ℤ → CardOutcome
+cardInto card out number =
+    cond (isCardFit card out) (recordedAs (cardOf card .answer) (cardOf card) out number) (cardOutcome wrongLength out number)
 
-abbrev pub leftOf : List ℕ → List ℕ → List ℕ
-leftOf card o = cond (isFit card o) (recordAfter (cardOf card .answer) (cardOf card) o) o
-
-abbrev pub numberLeft : List ℕ → List ℕ → ℤ → ℤ
-numberLeft card o z = cond (isFit card o) (numberAfter (cardOf card .answer) z) z
+-- what is left of a record and a number that were lent, and the answer r
+abbrev pub CardLeft : List ℕ → ℕ → List ℕ → List ℕ → ℤ → ℤ → Type 0
+CardLeft card r out out′ number number′ = cardOutcome r out′ number′ ≡ cardInto card out number

@@ -5,7 +5,7 @@ ghost use mathlib.Core.Bool.{false};
 ghost use lib.IntN.{pos};
 ghost use lib.ListN.{length};
 ghost use Rattle.abi_value.specs.Telling.{told};
-ghost use Rattle.abi_card.specs.Records.{classNumber, cardTold, byteOf, headOf, recordOf, said, recordAfter, numberAfter, answerOf, leftOf, numberLeft};
+ghost use Rattle.abi_card.specs.Records.{classNumber, cardTold, byteOf, recordHead, recordOf, cardOutcome, recordedAs, CardLeft};
 use abi_value::Told;
 use card::Card;
 use card::CardAnswer;
@@ -27,9 +27,7 @@ const COMMENT: usize = 168;
 // Reads a card of 80 bytes into a record of 248 bytes and a number, and answers 0.
 // Otherwise it answers the refusal's number, or 255 where a slice has another length, and both stay as they are.
 pub fn read_into(card: &[u8], out: &mut [u8], number: &mut i64) -> u8
-    ensures { λ r. ⌜ r ≡ answerOf (now (card .entry)) (now (out .entry)) ⌝ }
-    ensures { λ _. ⌜ now (out .exit) ≡ leftOf (now (card .entry)) (now (out .entry)) ⌝ }
-    ensures { λ _. ⌜ now (number .exit) ≡ numberLeft (now (card .entry)) (now (out .entry)) (now (number .entry)) ⌝ }
+    ensures { λ r. ⌜ CardLeft (now (card .entry)) r (now (out .entry)) (now (out .exit)) (now (number .entry)) (now (number .exit)) ⌝ }
 {
     if card.len() != CARD {
         return abi_value::WRONG_LENGTH;
@@ -100,7 +98,7 @@ fn byte(n: usize) -> u8
 
 // The eight numbers in front of a record.
 fn head(read: CardRead, class: u8, value: Told) -> [u8; 8]
-    ensures { λ r. ⌜ r ≡ headOf read class value ⌝ }
+    ensures { λ r. ⌜ r ≡ recordHead read class value ⌝ }
 {
     let name = read.name;
     let text = read.text;
@@ -135,13 +133,12 @@ fn write_record(card: Card, read: CardRead, out: &mut [u8])
 // What a card was read as, in lent memory.
 fn write_card(read: CardRead, out: &mut [u8], number: &mut i64) -> u8
     requires { ⌜ length (now out) ≡ 248 ⌝ }
-    ensures { λ r. ⌜ r ≡ said (read .answer) ⌝ }
-    ensures { λ _. ⌜ now (out .exit) ≡ recordAfter (read .answer) read (now (out .entry)) ⌝ }
-    ensures { λ _. ⌜ now (number .exit) ≡ numberAfter (read .answer) (now (number .entry)) ⌝ }
+    ensures { λ r. ⌜ cardOutcome r (now (out .exit)) (now (number .exit))
+        ≡ recordedAs (read .answer) read (now (out .entry)) (now (number .entry)) ⌝ }
 {
     let answer = read.answer;
     match answer {
-        CardAnswer::Refused(why) => why.number(),
+        CardAnswer::Refused(fault) => fault.number(),
         CardAnswer::Read(c) => {
             write_record(c, read, out);
             let value = card_told(c);
@@ -157,8 +154,8 @@ fn fill(out: &mut [u8], front: &[u8; 8], name: &[u8; 80], text: &[u8; 80], comme
     requires { ⌜ length (now out) ≡ 248 ⌝ }
     ensures { λ _. ⌜ now (out .exit) ≡ now (front .entry) ++ now (name .entry) ++ now (text .entry) ++ now (comment .entry) ⌝ }
 {
-    overlay::put_at(front, out, 0);
-    overlay::put_at(name, out, NAME);
-    overlay::put_at(text, out, TEXT);
-    overlay::put_at(comment, out, COMMENT);
+    text::put_at(front, out, 0);
+    text::put_at(name, out, NAME);
+    text::put_at(text, out, TEXT);
+    text::put_at(comment, out, COMMENT);
 }

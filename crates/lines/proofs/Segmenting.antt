@@ -1,9 +1,8 @@
 -- A line is its segments and a line feed, and is laid segment by segment.
 use Prim.Native.Char.{code}
 use Prim.Native.Nat.{ℕ, suc, _+_, _≤_, _<_}
-use native.Mathlib.Nat.{zero-add}
 use native.Mathlib.Omega.{arith}
-use mathlib.Core.Path.{_≡_, refl, sym, ap, ap₂, _∙_}
+use mathlib.Core.Path.{_≡_, refl, sym, ap, _∙_}
 use mathlib.Core.Bool.{true, false}
 use mathlib.Core.List.{List, [], _∷_, _++_, append-assoc, append-nil}
 use borrow.Author.Tests.{ne-eqb, le-leb, lt-leb}
@@ -19,7 +18,6 @@ use Rattle.numbers.specs.Digits.{isEmpty}
 use Rattle.text.specs.declared.Text.{Text}
 use Rattle.text.specs.Bytes.{ascii, lineFeed}
 use Rattle.text.specs.Text.{textOf, bytesOf}
-use Rattle.text.proofs.Laying.{sets-append}
 use Rattle.text.proofs.Texts.{text-bytes}
 use Rattle.numerals.specs.Numerals.{decimalDigits, signedDigits}
 use Rattle.numerals.proofs.Decimals.{some-digits}
@@ -102,12 +100,6 @@ module _ (line d : List ℕ) where
 -- the length of five lists
 pub length-segments : (a b m e f : List ℕ) → length (a ++ b ++ m ++ e ++ f) ≡ length a + length b + length m + length e + length f
 length-segments a b m e f = simp length-append
-
--- a list stored behind another, which ends at a place
-pub stored-behind : (d a s : List ℕ) {d₁ d₂ : List ℕ} {at : ℕ} → d₁ ≡ sets d 0 a → at ≡ length a → d₂ ≡ sets d₁ at s
-    → d₂ ≡ sets d 0 (a ++ s)
-stored-behind d a s e h f =
-    f ∙ ap₂ (λ (l : List ℕ) (k : ℕ). sets l k s) e (h ∙ sym (zero-add (length a))) ∙ sym (sets-append a s d 0)
 
 -- the test of the length
 pub empty-told : (s : List ℕ) → eqb (length s) 0 ≡ isEmpty s

@@ -3,7 +3,7 @@ use Prim.Native.Nat.{ℕ, zero, suc, _+_, _≤_, _<_}
 use native.Mathlib.Numerals.{add-one}
 use native.Mathlib.Nat.{add-zero, zero-add, le-of-eq}
 use native.Mathlib.Omega.{arith}
-use mathlib.Core.Path.{_≡_, refl, sym, ap, _∙_}
+use mathlib.Core.Path.{_≡_, refl, sym, ap, ap₂, _∙_}
 use mathlib.Core.List.{List, [], _∷_, _++_, append-nil}
 use lib.ListN.{length, take, drop, getD, set, length-set, length-append, drop-of-length-le}
 use lib.Seq.{sets, sets-eq, set-out, take-at, length-take-le, drop-length}
@@ -26,6 +26,12 @@ sets-append [] b d at = sym (ap (λ (k : ℕ). sets d k b) (add-zero at))
 sets-append (x ∷ a) b d at =
     let next : suc at + length a ≡ at + suc (length a) = omega arith in
     sets-append a b (set d at x) (suc at) ∙ ap (λ (k : ℕ). sets (sets (set d at x) (suc at) a) k b) next
+
+-- a list stored behind another, which ends at a place
+pub sets-behind : (d a s : List ℕ) {d₁ d₂ : List ℕ} {at : ℕ} → d₁ ≡ sets d 0 a → at ≡ length a → d₂ ≡ sets d₁ at s
+    → d₂ ≡ sets d 0 (a ++ s)
+sets-behind d a s e h f =
+    f ∙ ap₂ (λ (l : List ℕ) (k : ℕ). sets l k s) e (h ∙ sym (zero-add (length a))) ∙ sym (sets-append a s d 0)
 
 -- the element at i is stored, and the rest is left
 pub sets-step : (s d : List ℕ) (at i : ℕ) → i < length s

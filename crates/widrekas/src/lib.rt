@@ -2,7 +2,7 @@
 ghost use mathlib.Core.Path.{_≡_};
 ghost use Rattle.value.specs.Units.{unitOf};
 ghost use Rattle.abi_value.specs.Telling.{unitEnd};
-ghost use Rattle.abi_card.specs.Records.{answerOf, leftOf, numberLeft};
+ghost use Rattle.abi_card.specs.Records.{CardLeft};
 ghost use Rattle.entries.specs.Answers.{lookupOf, entryOf};
 ghost use Rattle.listing.specs.Listing.{listOf};
 ghost use Rattle.abi_header.specs.Headers.{EntryLeft, ListLeft};
@@ -23,9 +23,7 @@ pub extern "C" fn widrekas_version() -> u32
 // Otherwise it answers the refusal's number, or 255 where a slice has another length, and both stay as they are.
 #[no_mangle]
 pub extern "C" fn widrekas_card(card: &[u8], out: &mut [u8], number: &mut i64) -> u8
-    ensures { λ r. ⌜ r ≡ answerOf (now (card .entry)) (now (out .entry)) ⌝ }
-    ensures { λ _. ⌜ now (out .exit) ≡ leftOf (now (card .entry)) (now (out .entry)) ⌝ }
-    ensures { λ _. ⌜ now (number .exit) ≡ numberLeft (now (card .entry)) (now (out .entry)) (now (number .entry)) ⌝ }
+    ensures { λ r. ⌜ CardLeft (now (card .entry)) r (now (out .entry)) (now (out .exit)) (now (number .entry)) (now (number .exit)) ⌝ }
 {
     abi_card::read_into(card, out, number)
 }

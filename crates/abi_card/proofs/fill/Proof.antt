@@ -1,13 +1,10 @@
--- `abi_card::fill` meets its contract: each part is laid where the one before it ends, and the four are as long as the record.
-use Prim.Native.Nat.{ℕ}
+-- `abi_card::fill` meets its contract: each part is stored where the one before it ends, and the four are as long as the record.
 use native.Mathlib.Omega.{arith}
-use mathlib.Core.Path.{_≡_, ap, _∙_}
-use mathlib.Core.List.{List}
-use lib.ListN.{length}
+use mathlib.Core.Path.{_≡_, _∙_}
+use mathlib.Core.List.{_++_}
+use lib.ListN.{length, length-append}
 use borrow.Author.Needs.{needs}
-use Rattle.overlay.specs.Overlay.{spliced}
-use Rattle.overlay.proofs.Laying.{fits}
-use Rattle.abi_card.proofs.Laying.{laid}
+use Rattle.text.proofs.Laying.{sets-behind, sets-all}
 use Rattle.abi_card.proofs.fill.Statement.{statement}
 use Rattle.abi_card.proofs.fill.Tie as tie
 
@@ -38,17 +35,17 @@ returns c =
     let b = start .args .name .now in
     let t = start .args .text .now in
     let d = start .args .comment .now in
-    let ea : length a ≡ 8 = search needs in
-    let eb : length b ≡ 80 = search needs in
-    let et : length t ≡ 80 = search needs in
-    let ed : length d ≡ 80 = search needs in
-    let l1 : length (first .put-at .last .1 .0) ≡ 248 = search needs in
-    let l2 : length (second .put-at2 .last .1 .0) ≡ 248 = search needs in
-    let l3 : length (third .put-at3 .last .1 .0) ≡ 248 = search needs in
-    let one = first .put-at .ensures ∙ fits o 0 a (omega arith) in
-    let two = second .put-at2 .ensures ∙ fits (first .put-at .last .1 .0) 8 b (omega arith) ∙ ap (λ (l : List ℕ). spliced l 8 b) one in
-    let three = third .put-at3 .ensures ∙ fits (second .put-at2 .last .1 .0) 88 t (omega arith) ∙ ap (λ (l : List ℕ). spliced l 88 t) two in
-    fourth .put-at4 .ensures ∙ fits (third .put-at3 .last .1 .0) 168 d (omega arith) ∙ ap (λ (l : List ℕ). spliced l 168 d) three ∙ laid o a b t d ea eb et ed (start .pre)
+    let la : 8 ≡ length a = search needs in
+    let lb : length b ≡ 80 = search needs in
+    let lt : length t ≡ 80 = search needs in
+    let ld : length d ≡ 80 = search needs in
+    let l₂ = length-append a b in
+    let l₃ = length-append (a ++ b) t in
+    let l₄ = length-append (a ++ b ++ t) d in
+    let p₂ = sets-behind o a b (first .put-at .ensures) la (second .put-at2 .ensures) in
+    let p₃ = sets-behind o (a ++ b) t p₂ (omega arith) (third .put-at3 .ensures) in
+    let p₄ = sets-behind o (a ++ b ++ t) d p₃ (omega arith) (fourth .put-at4 .ensures) in
+    p₄ ∙ sets-all (a ++ b ++ t ++ d) o (omega (arith, start .pre))
 
 pub fill-spec : {M : Type 1} → statement M
 fill-spec =

@@ -1,34 +1,27 @@
 -- `abi_card::read_into` meets its contract: a slice of another length is answered at once; otherwise the card is read and written.
 use Prim.Native.Nat.{ℕ}
 use lib.IntN.{ℤ}
-use mathlib.Core.Path.{_≡_, refl, sym, ap, _∙_}
+use mathlib.Core.Path.{_≡_, sym, ap, _∙_}
 use mathlib.Core.Bool.{Bool, true, false, cond}
 use mathlib.Core.List.{List}
-use lib.ListN.{length}
 use Rattle.text.specs.declared.Text.{Text}
 use Rattle.card.specs.declared.CardRead.{CardRead}
 use Rattle.card.specs.Cards.{cardOf}
 use Rattle.abi_value.specs.Telling.{wrongLength}
-use Rattle.abi_card.specs.Records.{said, recordAfter, numberAfter, isFit, answerOf, leftOf, numberLeft}
+use Rattle.abi_card.specs.Records.{CardOutcome, cardOutcome, recordedAs, isCardFit, cardInto}
 use Rattle.abi_card.proofs.Fitting.{wrong-card, wrong-record, fit, whole-array}
 use borrow.Author.Needs.{needs}
 use Rattle.abi_card.proofs.read_into.Statement.{statement}
 use Rattle.abi_card.proofs.read_into.Tie as tie
 
--- what is answered and left by whether the lengths are those asked for
-abbrev Left : List ℕ → List ℕ → ℤ → ℕ → List ℕ → ℤ → Type 0
-Left card o z r o′ z′ = (r ≡ answerOf card o) × ((o′ ≡ leftOf card o) × (z′ ≡ numberLeft card o z))
+-- what is left, by whether the lengths are those asked for
+module _ (card out : List ℕ) (number : ℤ) where
+  wrong : isCardFit card out ≡ false → cardOutcome wrongLength out number ≡ cardInto card out number
+  wrong e = rw e
 
-wrong : (card o : List ℕ) (z : ℤ) → isFit card o ≡ false → Left card o z wrongLength o z
-wrong card o z e = rw e (refl, (refl, refl))
-
-right : (card o : List ℕ) (z : ℤ) (read : CardRead) (r : ℕ) (o′ : List ℕ) (z′ : ℤ) → isFit card o ≡ true → read ≡ cardOf card
-    → r ≡ said (read .answer) → o′ ≡ recordAfter (read .answer) read o → z′ ≡ numberAfter (read .answer) z → Left card o z r o′ z′
-right card o z read r o′ z′ e same er eo ez =
-    rw e (
-      er ∙ ap (λ (c : CardRead). said (c .answer)) same,
-      (eo ∙ ap (λ (c : CardRead). recordAfter (c .answer) c o) same, ez ∙ ap (λ (c : CardRead). numberAfter (c .answer) z) same),
-    )
+  right : {o : CardOutcome} (read : CardRead) → isCardFit card out ≡ true → read ≡ cardOf card
+      → o ≡ recordedAs (read .answer) read out number → o ≡ cardInto card out number
+  right read e same f = f ∙ ap (λ (r : CardRead). recordedAs (r .answer) r out number) same ∙ rw e
 
 returns : tie.Need-returns
 returns c =
@@ -38,7 +31,8 @@ returns c =
 returns-2 : tie.Need-returns-2
 returns-2 c =
     let a = c .before .before .before .before .args in
-    wrong (a .card .now) (a .out .now) (a .number .now) (wrong-record (a .card .now) (a .out .now) (c .before .if1 .left) (c .if2 .taken))
+    let other = wrong-record (a .card .now) (a .out .now) (c .before .if1 .left) (c .if2 .taken) in
+    wrong (a .card .now) (a .out .now) (a .number .now) other
 
 text-of-requires : tie.Need-text-of-requires
 text-of-requires c κs = search needs
@@ -62,8 +56,9 @@ returns-3 c =
     let s = a .card .now in
     let long = tested .before .if1 .left in
     let whole = ap (λ (t : Text). t .bytes) (copied .text-of .ensures) ∙ whole-array s long in
-    right s (a .out .now) (a .number .now) (reading .read-card .result) (written .write-card .result) (written .write-card .last .1 .0) (written .write-card .last .1 .1 .0)
-    (fit s (a .out .now) long (tested .if2 .left)) (reading .read-card .ensures ∙ ap cardOf whole) (written .write-card .ensures .0) (written .write-card .ensures .1 .0) (written .write-card .ensures .1 .1)
+    let same = reading .read-card .ensures ∙ ap cardOf whole in
+    let lengths = fit s (a .out .now) long (tested .if2 .left) in
+    right s (a .out .now) (a .number .now) (reading .read-card .result) lengths same (written .write-card .ensures)
 
 pub read-into-spec : {M : Type 1} → statement M
 read-into-spec =

@@ -1,10 +1,10 @@
 -- `abi_card::write_card` meets its contract: by what the card was read as.
-use mathlib.Core.Path.{_≡_, refl, sym, ap, _∙_}
+use mathlib.Core.Path.{_≡_, sym, ap, _∙_}
 use mir.Syntax.{w64}
 use mir.Val.{toZ, ofZ}
 use Rattle.abi_value.specs.declared.Told.{Told}
 use Rattle.card.specs.declared.CardAnswer.{CardAnswer}
-use Rattle.abi_card.specs.Records.{said, recordAfter, numberAfter}
+use Rattle.abi_card.specs.Records.{cardOutcome, recordedAs}
 use borrow.Author.Needs.{needs}
 use Rattle.abi_card.proofs.write_card.Statement.{statement}
 use Rattle.abi_card.proofs.write_card.Tie as tie
@@ -28,10 +28,8 @@ returns : tie.Need-returns
 returns c =
     let known = c .before .before in
     let a = known .before .before .before .args in
-    let e = sym (known .answer .given .1) in (
-      c .number .ensures ∙ ap said e,
-      (ap (λ (x : CardAnswer). recordAfter x (a .read) (a .out .now)) e, ap (λ (x : CardAnswer). numberAfter x (a .number .now)) e),
-    )
+    (λ j. cardOutcome (c .number .ensures j) (a .out .now) (a .number .now))
+    ∙ sym (ap (λ (x : CardAnswer). recordedAs x (a .read) (a .out .now) (a .number .now)) (known .answer .given .1))
 
 same-length : tie.Need-same-length
 same-length c = search needs
@@ -44,10 +42,8 @@ returns-2 c =
     let z = c .before .card-told .result .number in
     let fits : toZ w64 (ofZ w64 z) ≡ z = search needs in
     let stored = fits ∙ ap (λ (t : Told). t .number) (c .before .card-told .ensures) in
-    let e = sym (known .answer2 .given .1) in (
-      ap said e,
-      (written .write-record .ensures ∙ ap (λ (x : CardAnswer). recordAfter x (a .read) (a .out .now)) e, stored ∙ ap (λ (x : CardAnswer). numberAfter x (a .number .now)) e),
-    )
+    (λ j. cardOutcome 0 (written .write-record .ensures j) (stored j))
+    ∙ sym (ap (λ (x : CardAnswer). recordedAs x (a .read) (a .out .now) (a .number .now)) (known .answer2 .given .1))
 
 pub write-card-spec : {M : Type 1} → statement M
 write-card-spec =

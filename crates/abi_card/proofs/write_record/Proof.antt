@@ -2,7 +2,7 @@
 use Prim.Native.Nat.{ℕ}
 use mathlib.Core.List.{List, _++_}
 use mathlib.Core.Path.{_≡_, ap, ap₂, _∙_}
-use Rattle.abi_card.specs.Records.{headOf}
+use Rattle.abi_card.specs.Records.{recordHead}
 use borrow.Author.Needs.{needs}
 use Rattle.abi_card.proofs.write_record.Statement.{statement}
 use Rattle.abi_card.proofs.write_record.Tie as tie
@@ -29,7 +29,7 @@ returns c =
     let value = front .before in
     let class = value .before in
     let r = class .before .before .args .read in
-    let e = front .head .ensures ∙ ap₂ (headOf r) (class .class-number .ensures) (value .card-told .ensures) in
+    let e = front .head .ensures ∙ ap₂ (recordHead r) (class .class-number .ensures) (value .card-told .ensures) in
     filled .fill .ensures ∙ ap (λ (f : List ℕ). f ++ r .name .bytes ++ r .text .bytes ++ r .comment .bytes) e
 
 pub write-record-spec : {M : Type 1} → statement M

@@ -8,9 +8,10 @@ use lib.ListN.{length, length-append}
 use lib.Seq.{sets}
 use Rattle.text.specs.Bytes.{lineFeed}
 use Rattle.text.specs.Text.{bytesOf}
+use Rattle.text.proofs.Laying.{sets-behind}
 use Rattle.lines.specs.declared.Line.the-variants.{Written}
 use Rattle.lines.specs.Lines.{lineOutcome}
-use Rattle.lines.proofs.Segmenting.{stored-behind, laid-short, laid-fits, length-segments}
+use Rattle.lines.proofs.Segmenting.{laid-short, laid-fits, length-segments}
 use Rattle.lines.proofs.put_line.Statement.{statement}
 use Rattle.lines.proofs.put_line.Tie as tie
 
@@ -105,10 +106,10 @@ returns-3 c =
     let l₃ = length-append (x ++ y) m in
     let l₄ = length-append (x ++ y ++ m) z in
     let l₅ = length-append (x ++ y ++ m ++ z) (lineFeed ∷ []) in
-    let p₂ = stored-behind d x y (at-a .put-text .ensures) (omega arith) (at-b .put-text2 .ensures) in
-    let p₃ = stored-behind d (x ++ y) m p₂ (omega arith) (at-m .put-at .ensures) in
-    let p₄ = stored-behind d (x ++ y ++ m) z p₃ (omega arith) (at-d .put-text3 .ensures) in
-    let p₅ = stored-behind d (x ++ y ++ m ++ z) (lineFeed ∷ []) p₄ (omega arith) (at-f .put-at2 .ensures) in
+    let p₂ = sets-behind d x y (at-a .put-text .ensures) (omega arith) (at-b .put-text2 .ensures) in
+    let p₃ = sets-behind d (x ++ y) m p₂ (omega arith) (at-m .put-at .ensures) in
+    let p₄ = sets-behind d (x ++ y ++ m) z p₃ (omega arith) (at-d .put-text3 .ensures) in
+    let p₅ = sets-behind d (x ++ y ++ m ++ z) (lineFeed ∷ []) p₄ (omega arith) (at-f .put-at2 .ensures) in
     let n : end h + 1 ≡ length (line s) = omega (arith, line-length s) in
     (λ j. lineOutcome (Written (n j)) (p₅ j)) ∙ laid-fits (line s) d (omega (arith, line-length s))
 
