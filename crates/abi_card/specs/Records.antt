@@ -7,7 +7,6 @@ use lib.Dec.{eqb}
 use lib.IntN.{ℤ, pos}
 use lib.ListN.{length}
 use Rattle.refusal.specs.Numbers.{numberOf}
-use Rattle.text.specs.declared.Text.{Text}
 use Rattle.card.specs.declared.Card.{Card}
 use Rattle.card.specs.declared.Card.the-variants as C
 use Rattle.card.specs.declared.CardAnswer.{CardAnswer}

@@ -1,6 +1,6 @@
 -- A line is its segments and a line feed, and is laid segment by segment.
 use Prim.Native.Char.{code}
-use Prim.Native.Nat.{ℕ, suc, _+_, _≤_, _<_}
+use Prim.Native.Nat.{ℕ, _+_, _≤_, _<_}
 use native.Mathlib.Omega.{arith}
 use mathlib.Core.Path.{_≡_, refl, sym, ap, _∙_}
 use mathlib.Core.Bool.{true, false}
@@ -10,7 +10,6 @@ use lib.Dec.{eqb}
 use lib.IntN.{ℤ, pos, negsuc}
 use lib.ListN.{length, length-append}
 use lib.Seq.{sets}
-use Rattle.numbers.specs.declared.Size.{Size}
 use Rattle.numbers.specs.declared.Size.the-variants.{Finite, Infinite, Nan}
 use Rattle.numbers.specs.declared.Value.{Value}
 use Rattle.numbers.specs.declared.Value.the-variants.{Integer, Float, Logical, String, Undefined, Invalid}

@@ -5,7 +5,7 @@ ghost use mathlib.Core.List.{[]};
 ghost use Prim.Native.Nat.{_+_, _*_, _≤_, _<_, _^_, min};
 ghost use lib.IntN.{pos, _+ℤ_, _-ℤ_};
 ghost use lib.ListN.{length};
-ghost use Rattle.text.specs.Text.{size, textOf, bytesOf};
+ghost use Rattle.text.specs.Text.{size, bytesOf};
 ghost use Rattle.numbers.specs.Signs.{isSign, isNegative, unsigned, signedOf, fits64};
 ghost use Rattle.numbers.specs.Digits.{isDigits, digitOf, digitsValue};
 ghost use Rattle.numbers.specs.Answers.{wholeOf, decimal, invalid, isRead};

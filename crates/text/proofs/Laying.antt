@@ -1,12 +1,11 @@
 -- A list stored over another, element by element from a place on.
 use Prim.Native.Nat.{ℕ, zero, suc, _+_, _≤_, _<_}
-use native.Mathlib.Numerals.{add-one}
 use native.Mathlib.Nat.{add-zero, zero-add, le-of-eq}
 use native.Mathlib.Omega.{arith}
 use mathlib.Core.Path.{_≡_, refl, sym, ap, ap₂, _∙_}
 use mathlib.Core.List.{List, [], _∷_, _++_, append-nil}
 use lib.ListN.{length, take, drop, getD, set, length-set, length-append, drop-of-length-le}
-use lib.Seq.{sets, sets-eq, set-out, take-at, length-take-le, drop-length}
+use lib.Seq.{sets, sets-eq, set-out, take-at, length-take-le}
 use Rattle.text.proofs.Trimming.{at-next}
 
 -- past the end nothing is stored

@@ -1,14 +1,14 @@
 -- Trimming, a byte at a time, at either end.
 use Prim.Native.Char.{code}
 use Prim.Native.Nat.{ℕ, zero, suc, _+_, _-_, _<_, _≤_}
-use native.Mathlib.Nat.{le-of-suc-le-suc, not-suc-le-zero}
+use native.Mathlib.Nat.{not-suc-le-zero}
 use native.Mathlib.Numerals.{add-one}
 use native.Mathlib.Omega.{arith}
 use mathlib.Core.Path.{_≡_, refl, sym, ap, ap₂, _∙_}
 use mathlib.Core.Bool.{Bool, true, false, cond, true≢false}
 use mathlib.Core.List.{List, [], _∷_, _++_, map}
 use lib.ListN.{drop-of-length-le, length-append, length-drop, length, take, drop, getD}
-use lib.Seq.{drop-cons, drop-length, take-suc, take-length, take-at}
+use lib.Seq.{drop-cons, take-suc, take-length, take-at}
 use Rattle.text.specs.Trim.{leading, trimStart, trimEnd, trim, consTrimmed}
 use Rattle.text.specs.Bytes.{isSpace, isPrintable, shown, delete}
 use lib.Dec.{eqb}

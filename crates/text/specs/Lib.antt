@@ -1,4 +1,4 @@
--- What the contracts of `text` cite.
+-- What the contracts of `text` cite: its public promises rest on all of it but `Ends`, which other crates cite.
 pub mod Bytes
 pub mod Trim
 pub mod Same

@@ -1,8 +1,8 @@
 // Bytes and texts: classes of bytes, trimming, comparing, laying bytes over lent memory, and texts held in arrays.
 ghost use mathlib.Core.Path.{_≡_};
-ghost use Prim.Native.Nat.{_+_, _≤_, _<_, min};
+ghost use Prim.Native.Nat.{_+_, _<_, min};
 ghost use mathlib.Core.List.{[], _++_, map};
-ghost use lib.ListN.{length, take, drop};
+ghost use lib.ListN.{take, drop};
 ghost use lib.Seq.{sets};
 ghost use Rattle.text.specs.Bytes.{isBlank, isPrintable, isDigit, shown, dToE};
 ghost use Rattle.text.specs.Trim.{trimStart, trimEnd, trim, leading, cutOf};

@@ -1,8 +1,8 @@
 -- `abi_card::read_into` meets its contract: a slice of another length is answered at once; otherwise the card is read and written.
 use Prim.Native.Nat.{ℕ}
 use lib.IntN.{ℤ}
-use mathlib.Core.Path.{_≡_, sym, ap, _∙_}
-use mathlib.Core.Bool.{Bool, true, false, cond}
+use mathlib.Core.Path.{_≡_, ap, _∙_}
+use mathlib.Core.Bool.{true, false}
 use mathlib.Core.List.{List}
 use Rattle.text.specs.declared.Text.{Text}
 use Rattle.card.specs.declared.CardRead.{CardRead}

@@ -1,7 +1,7 @@
 -- `abi_card::write_record` meets its contract: the front is what its function says, and the texts stand behind it.
 use Prim.Native.Nat.{ℕ}
 use mathlib.Core.List.{List, _++_}
-use mathlib.Core.Path.{_≡_, ap, ap₂, _∙_}
+use mathlib.Core.Path.{ap, ap₂, _∙_}
 use Rattle.abi_card.specs.Records.{recordHead}
 use borrow.Author.Needs.{needs}
 use Rattle.abi_card.proofs.write_record.Statement.{statement}

@@ -1,6 +1,5 @@
 -- `abi_value::size_told` meets its contract: by the size that an arm knows.
-use lib.IntN.{ℤ}
-use mathlib.Core.Path.{_≡_, sym, ap, _∙_}
+use mathlib.Core.Path.{sym, ap, _∙_}
 use mir.Facts.{toZ-ofZ}
 use Rattle.abi_value.specs.Telling.{told, sizeTold}
 use borrow.Author.Needs.{needs}

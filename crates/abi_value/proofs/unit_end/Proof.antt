@@ -1,5 +1,5 @@
 -- `abi_value::unit_end` meets its contract: by the place that an arm knows.
-use mathlib.Core.Path.{_≡_, sym, ap, _∙_}
+use mathlib.Core.Path.{sym, ap, _∙_}
 use Rattle.abi_value.specs.Telling.{unitEnd}
 use borrow.Author.Needs.{needs}
 use Rattle.abi_value.proofs.unit_end.Statement.{statement}

@@ -1,6 +1,6 @@
 -- `abi_value::value_told` meets its contract: by the kind that an arm knows.
 use mathlib.Core.Bool.{false}
-use mathlib.Core.Path.{_≡_, sym, ap, _∙_}
+use mathlib.Core.Path.{sym, ap, _∙_}
 use mir.Facts.{toZ-ofZ}
 use Rattle.abi_value.specs.Telling.{told, valueTold}
 use borrow.Author.Needs.{needs}

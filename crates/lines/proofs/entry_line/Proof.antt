@@ -9,7 +9,7 @@ use Rattle.text.specs.Text.{textOf, bytesOf}
 use Rattle.numbers.specs.Digits.{isEmpty}
 use Rattle.lines.specs.declared.Middle.{Middle}
 use Rattle.lines.specs.Lines.{laid, entryLine}
-use Rattle.lines.specs.Segments.{lineHead, middleOf, middleBytes, readingTail}
+use Rattle.lines.specs.Segments.{lineHead, middleBytes, readingTail}
 use Rattle.lines.proofs.Segmenting.{entry-segments}
 use Rattle.lines.proofs.entry_line.Statement.{statement}
 use Rattle.lines.proofs.entry_line.Tie as tie

@@ -1,6 +1,5 @@
 -- `lines::held` meets its contract: a length beyond the array takes all of it.
 use native.Mathlib.Omega.{arith}
-use Prim.Native.Nat.{_≤_}
 use mathlib.Core.Path.{_≡_}
 use borrow.Author.Needs.{needs}
 use lib.ListN.{length, length-take}

@@ -1,5 +1,5 @@
 -- `lines::one_of` meets its contract: a text that fits is copied whole.
-use mathlib.Core.Path.{_≡_, sym, ap, _∙_}
+use mathlib.Core.Path.{sym, ap, _∙_}
 use native.Mathlib.Omega.{arith}
 use mathlib.Core.Bool.{Bool, cond}
 use borrow.Author.Needs.{needs}

@@ -1,11 +1,10 @@
 -- `lines::put_line` meets its contract: each segment is stored behind those before it, where all of them fit.
-use Prim.Native.Nat.{ℕ, _+_, _≤_, _<_}
+use Prim.Native.Nat.{ℕ, _+_}
 use native.Mathlib.Omega.{arith}
-use mathlib.Core.Path.{_≡_, ap, _∙_}
+use mathlib.Core.Path.{_≡_, _∙_}
 use mathlib.Core.List.{List, [], _∷_, _++_}
 use borrow.Author.Needs.{needs}
 use lib.ListN.{length, length-append}
-use lib.Seq.{sets}
 use Rattle.text.specs.Bytes.{lineFeed}
 use Rattle.text.specs.Text.{bytesOf}
 use Rattle.text.proofs.Laying.{sets-behind}

@@ -1,7 +1,7 @@
 -- `numerals::size_of` meets its contract: a negative z is -1 - k, and its size is k + 1.
 use mathlib.Core.Path.{ap, sym, _∙_}
 use native.Mathlib.Omega.{arith}
-use Prim.Native.Nat.{ℕ, _+_}
+use Prim.Native.Nat.{_+_}
 use mir.Syntax.{w64}
 use lib.IntN.{natAbs}
 use Rattle.laws.proofs.Signs.{Negative, is-negative, Positive, is-positive}

@@ -1,6 +1,5 @@
 -- `test_output::put_pixels` is safe and ends: the place is within the slice.
 use Prim.Native.Nat.{_-_, _≤_}
-use native.Mathlib.Omega.{arith}
 use lib.ListN.{length}
 use borrow.Author.Needs.{needs}
 use Rattle.test_output.proofs.put_pixels.Statement.{statement}

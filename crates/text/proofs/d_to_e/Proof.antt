@@ -1,5 +1,5 @@
 use Rattle.text.specs.Bytes.{dToE}
-use borrow.Author.Tests.{eq-eqb, ne-eqb, le-leb, lt-leb}
+use borrow.Author.Tests.{eq-eqb, ne-eqb}
 use Rattle.text.proofs.d_to_e.Statement.{statement}
 use Rattle.text.proofs.d_to_e.Tie as tie
 

@@ -1,9 +1,8 @@
 -- `text::put_at` meets its contract: the bytes up to i are stored, and storing the rest of the part gives the whole.
-use Prim.Native.Nat.{ℕ, _+_, _-_, _≤_}
+use Prim.Native.Nat.{_+_, _-_, _≤_}
 use native.Mathlib.Nat.{add-zero}
 use native.Mathlib.Omega.{arith}
 use mathlib.Core.Path.{_≡_, refl, sym, ap, _∙_}
-use mathlib.Core.List.{List}
 use borrow.Author.Needs.{needs}
 use lib.ListN.{length, take, drop, length-set, length-take, drop-of-length-le}
 use lib.Seq.{sets}

@@ -1,5 +1,5 @@
 -- `text::rest_of` meets its contract: beyond the end nothing follows.
-use mathlib.Core.Path.{_≡_, sym}
+use mathlib.Core.Path.{sym}
 use lib.ListN.{drop-of-length-le}
 use Rattle.text.proofs.Trimming.{take-rest}
 use borrow.Author.Needs.{needs}
