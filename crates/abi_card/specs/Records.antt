@@ -6,6 +6,7 @@ use mathlib.Core.List.{List, [], _∷_, _++_}
 use lib.Dec.{eqb}
 use lib.IntN.{ℤ, pos}
 use lib.ListN.{length}
+use Rattle.laws.specs.Lending.{Lent}
 use Rattle.refusal.specs.Numbers.{numberOf}
 use Rattle.card.specs.declared.Card.{Card}
 use Rattle.card.specs.declared.Card.the-variants as C
@@ -82,6 +83,6 @@ abbrev pub cardInto : List ℕ → List ℕ → ℤ → CardOutcome
 cardInto card out number =
     cond (isCardFit card out) (recordedAs (cardOf card .answer) (cardOf card) out number) (cardOutcome wrongLength out number)
 
--- what is left of a record and a number that were lent, and the answer r
-abbrev pub CardLeft : List ℕ → ℕ → List ℕ → List ℕ → ℤ → ℤ → Type 0
-CardLeft card r out out′ number number′ = cardOutcome r out′ number′ ≡ cardInto card out number
+-- what reading a card leaves of a record and a number that are lent, where r is the answer
+abbrev pub CardLeft : List ℕ → Lent (List ℕ) → Lent ℤ → ℕ → Type 0
+CardLeft card out number r = cardOutcome r (out .left) (number .left) ≡ cardInto card (out .was) (number .was)

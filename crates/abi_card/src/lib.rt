@@ -4,6 +4,7 @@ ghost use mathlib.Core.List.{_++_};
 ghost use mathlib.Core.Bool.{false};
 ghost use lib.IntN.{pos};
 ghost use lib.ListN.{length};
+ghost use Rattle.laws.specs.Lending.{lentOf};
 ghost use Rattle.abi_value.specs.Telling.{told};
 ghost use Rattle.abi_card.specs.Records.{classNumber, cardTold, byteOf, recordHead, recordOf, cardOutcome, recordedAs, CardLeft};
 use abi_value::Told;
@@ -27,7 +28,7 @@ const COMMENT: usize = 168;
 // Reads a card of 80 bytes into a record of 248 bytes and a number, and answers 0.
 // Otherwise it answers the refusal's number, or 255 where a slice has another length, and both stay as they are.
 pub fn read_into(card: &[u8], out: &mut [u8], number: &mut i64) -> u8
-    ensures { λ r. ⌜ CardLeft (now (card .entry)) r (now (out .entry)) (now (out .exit)) (now (number .entry)) (now (number .exit)) ⌝ }
+    ensures { λ r. ⌜ CardLeft (now (card .entry)) (lentOf out) (lentOf number) r ⌝ }
 {
     if card.len() != CARD {
         return abi_value::WRONG_LENGTH;

@@ -23,7 +23,7 @@ pub extern "C" fn widrekas_version() -> u32
 // Otherwise it answers the refusal's number, or 255 where a slice has another length, and both stay as they are.
 #[no_mangle]
 pub extern "C" fn widrekas_card(card: &[u8], out: &mut [u8], number: &mut i64) -> u8
-    ensures { λ r. ⌜ CardLeft (now (card .entry)) r (now (out .entry)) (now (out .exit)) (now (number .entry)) (now (number .exit)) ⌝ }
+    ensures { λ r. ⌜ CardLeft (now (card .entry)) (lentOf out) (lentOf number) r ⌝ }
 {
     abi_card::read_into(card, out, number)
 }
