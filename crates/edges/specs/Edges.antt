@@ -8,11 +8,11 @@ use mathlib.Core.Bool.{Bool, false}
 use mathlib.Core.List.{List, [], _∷_, _++_, map}
 use lib.IntN.{ℤ, pos}
 use lib.ListN.{replicate, take}
-use Rattle.refusal.specs.Numbers.{numberOf as refusalNumber}
+use Rattle.refusal.specs.Numbers.{numberOf}
 use Rattle.text.specs.Bytes.{ascii, isSpace, isBlank, isPrintable, isDigit, isZero, shown, dToE}
 use Rattle.text.specs.Trim.{trimStart, leading, consTrimmed, trimEnd, trim}
 use Rattle.text.specs.Same.{same}
-use Rattle.text.specs.Ends.{stem as textStem, endsWith}
+use Rattle.text.specs.Ends.{stem, endsWith}
 use Rattle.text.specs.Text.{bytesOf, filled}
 use Rattle.splitting.specs.Scan.{after, scanFrom, byteClass}
 use Rattle.splitting.specs.Split.{splitOf}
@@ -22,32 +22,32 @@ use Rattle.numbers.specs.declared.Size.the-variants.{Finite, Infinite, Nan}
 use Rattle.numbers.specs.declared.Value.{Value}
 use Rattle.numbers.specs.declared.Value.the-variants.{Integer, Float, Logical, String as Str, Undefined, Invalid}
 use Rattle.numbers.specs.Signs.{isSign, isNegative, unsigned}
-use Rattle.numbers.specs.Digits.{isDigits, valueFrom}
+use Rattle.numbers.specs.Digits.{isDigits, digitsValueFrom}
 use Rattle.numbers.specs.Integers.{integerOf}
 use Rattle.numbers.specs.Decimals.{fractionOf, afterFraction, isMark, writtenOf, exponentOf, scaled, finiteOf, lowered, isWord, decimalOf}
-use Rattle.numbers.specs.Numbers.{numberOf}
+use Rattle.numbers.specs.Numbers.{readNumber}
 use Rattle.value.specs.Values.{startsNumber, startOf, ofString, ofNumber, valueWith, valueOf}
 use Rattle.card.specs.declared.Card.{Card}
 use Rattle.card.specs.declared.Card.the-variants as C
 use Rattle.card.specs.declared.CardAnswer.{CardAnswer}
 use Rattle.card.specs.declared.CardAnswer.the-variants.{Read, Refused}
 use Rattle.card.specs.declared.CardRead.{CardRead}
-use Rattle.card.specs.Keywords.{hasHigh, classOf as keywordClass}
+use Rattle.card.specs.Keywords.{hasHigh, classOf}
 use Rattle.card.specs.Cards.{otherOf, continuationOf, cardOf}
-use Rattle.joining.specs.Words.{endsOpen, stem, addsNothing, joinText, joinComment, opens, joinWords}
+use Rattle.joining.specs.Words.{endsOpen, addsNothing, joinText, joinComment, opens, joinWords}
 use Rattle.joining.specs.Lookup.{joinOn, lookup}
-use Rattle.header.specs.declared.LookupAnswer.{LookupAnswer}
-use Rattle.header.specs.declared.LookupAnswer.the-variants as L
-use Rattle.roles.specs.Cards.{pieces, isBadLength}
-use Rattle.header.specs.Reading.{headerFrom, headerOf}
-use Rattle.header.specs.Answers.{Outcome, written, lookupOf}
+use Rattle.roles.specs.Cards.{cardsIn, isBadLength}
+use Rattle.finding.specs.Finding.{headerFrom, headerOf}
+use Rattle.entries.specs.declared.LookupAnswer.{LookupAnswer}
+use Rattle.entries.specs.declared.LookupAnswer.the-variants as L
+use Rattle.entries.specs.Answers.{LookupOutcome, written, lookupOf}
 use Rattle.rice.specs.declared.Decoded.{Decoded}
 use Rattle.rice.specs.declared.Decoded.the-variants as D
 use Rattle.rice.specs.Tile.{bitAt, fieldAt, zerosAt}
 use Rattle.rice.specs.Widths.{pixelOf, inWidth, modulo, wrap, difference}
 use Rattle.rice.specs.Reads.{fieldRead, runRead, diffRead}
 use Rattle.rice.specs.Blocks.{runOf, codeOf, blockOf}
-use Rattle.rice.specs.Steps.{inLimits, widthOf, planOf, stands, stepOf, openOf, stepsOf, Finished, decodeOf}
+use Rattle.rice.specs.Steps.{inLimits, widthOf, planOf, stands, stepOf, openOf, stepsOf, DecodeOutcome, decodeOf}
 
 -- ---- what is read
 
@@ -112,7 +112,7 @@ byCard C.Undefined text = other
 
 abbrev pub byCardAnswer : CardAnswer → List ℕ → Reading
 byCardAnswer (Read c) text = byCard c text
-byCardAnswer (Refused fault) text = refusal (refusalNumber (fault .why))
+byCardAnswer (Refused fault) text = refusal (numberOf (fault .why))
 
 abbrev pub ofCard : CardRead → Reading
 ofCard r = byCardAnswer (r .answer) (bytesOf (r .text))
@@ -120,25 +120,25 @@ ofCard r = byCardAnswer (r .answer) (bytesOf (r .text))
 -- a lookup's, with its text in the lent buffer
 abbrev pub byLookup : LookupAnswer → List ℕ → Reading
 byLookup (L.Found v) text = byValue v text
-byLookup (L.Header why i) text = refusal (refusalNumber why)
-byLookup (L.Refused why) text = refusal (refusalNumber why)
+byLookup (L.Header stop) text = refusal (numberOf (stop .fault .why))
+byLookup (L.Refused fault) text = refusal (numberOf (fault .why))
 
-abbrev pub ofOutcome : Outcome → Reading
-ofOutcome o = byLookup (o .answer .answer) (take (o .answer .text) (o .text))
+abbrev pub ofLookup : LookupOutcome → Reading
+ofLookup o = byLookup (o .answer .answer) (take (o .answer .text) (o .text))
 
 -- a tile's, with its pixels in the lent slice
 abbrev pub byDecoded : Decoded → List ℤ → Reading
 byDecoded (D.Whole bits) content = pixels content bits
-byDecoded (D.Refused why n) content = stopped (refusalNumber why) n content
+byDecoded (D.Refused fault n) content = stopped (numberOf (fault .why)) n content
 
-abbrev pub ofFinished : Finished → Reading
-ofFinished f = byDecoded (f .answer) (f .content)
+abbrev pub ofDecoding : DecodeOutcome → Reading
+ofDecoding f = byDecoded (f .answer) (f .content)
 
 -- what the definitions give; lent bytes are 0 and lent pixels 7 beforehand
 abbrev pub reading : Input → Reading
 reading (card keyword text) = ofCard (cardOf (cardBytes keyword text))
-reading (header texts) = ofOutcome (lookupOf (headerBytes texts) (ascii "KIT") (replicate 80 0) (replicate 80 0))
-reading (tile bits nx bytes) = ofFinished (decodeOf bytes nx 32 bits (replicate nx (pos 7)))
+reading (header texts) = ofLookup (lookupOf (headerBytes texts) (ascii "KIT") (replicate 80 0) (replicate 80 0))
+reading (tile bits nx bytes) = ofDecoding (decodeOf bytes nx 32 bits (replicate nx (pos 7)))
 
 -- ---- the table
 
@@ -172,11 +172,11 @@ table =
 
 -- each input has its row's reading
 pub edges : map (λ (r : Row). reading (r .input)) table ≡ map (λ (r : Row). r .reading) table
-unfolding isSpace isBlank isPrintable isDigit isZero shown dToE trimStart leading consTrimmed trimEnd trim same textStem endsWith filled
-    after scanFrom byteClass splitOf settledOf opened unopened stringOf isSign isNegative unsigned isDigits valueFrom
-    integerOf fractionOf afterFraction isMark writtenOf exponentOf scaled finiteOf lowered isWord decimalOf numberOf
-    startsNumber startOf ofString ofNumber valueWith valueOf hasHigh keywordClass otherOf continuationOf cardOf
-    endsOpen stem addsNothing joinText joinComment opens joinWords joinOn lookup pieces isBadLength headerFrom headerOf written lookupOf
+unfolding isSpace isBlank isPrintable isDigit isZero shown dToE trimStart leading consTrimmed trimEnd trim same stem endsWith filled
+    after scanFrom byteClass splitOf settledOf opened unopened stringOf isSign isNegative unsigned isDigits digitsValueFrom
+    integerOf fractionOf afterFraction isMark writtenOf exponentOf scaled finiteOf lowered isWord decimalOf readNumber
+    startsNumber startOf ofString ofNumber valueWith valueOf hasHigh classOf otherOf continuationOf cardOf
+    endsOpen addsNothing joinText joinComment opens joinWords joinOn lookup cardsIn isBadLength headerFrom headerOf written lookupOf
     decodeOf stepsOf stepOf openOf planOf inLimits widthOf stands blockOf codeOf runOf diffRead runRead fieldRead pixelOf inWidth modulo
     wrap difference bitAt fieldAt zerosAt
 edges = refl
