@@ -1,4 +1,5 @@
--- What the contracts of `listing` cite.
+-- What public promises cite.
 pub mod Listing
 pub mod Inserting
+-- What private contracts cite alone.
 pub mod Marks

@@ -4,17 +4,18 @@ use mathlib.Core.Bool.{cond}
 use mathlib.Core.List.{List, [], _∷_, _++_}
 use lib.Dec.{ltb}
 use lib.ListN.{length, getD, set, take}
-use Rattle.refusal.specs.Numbers.{refusal}
+use Rattle.refusal.specs.declared.Refusal.the-variants as R
+use Rattle.refusal.specs.Numbers.{faultOf}
 use Rattle.text.specs.declared.Place.{Place}
 use Rattle.text.specs.declared.Place.the-variants.{At, Nowhere}
 use Rattle.text.specs.Same.{same}
 use Rattle.text.specs.Text.{filled}
-use Rattle.joining.specs.Roles.{Role, entry, more, neutral, last}
-use Rattle.header.specs.declared.Header.{Header}
-use Rattle.header.specs.declared.Header.the-variants.{Accepted, Refused}
+use Rattle.roles.specs.Roles.{Role, entry, more, neutral, last, refused}
 use Rattle.roles.specs.Cards.{rolesOf}
-use Rattle.header.specs.Reading.{headerOf}
-use Rattle.header.specs.Answers.{Outcome, entryOf}
+use Rattle.finding.specs.declared.Header.{Header}
+use Rattle.finding.specs.declared.Header.the-variants.{Accepted, Refused}
+use Rattle.finding.specs.Finding.{stopAt, headerOf}
+use Rattle.entries.specs.Answers.{LookupOutcome, entryOf}
 use Rattle.listing.specs.declared.Listing.{Listing}
 
 -- the places of the table, and the mark of a free one: no card has this number
@@ -38,6 +39,7 @@ nameOf (entry n v) = n
 nameOf (more t c) = []
 nameOf neutral = []
 nameOf last = []
+nameOf (refused f) = []
 
 -- the place, from k on, whose first card bears the name
 unfoldable pub placeIn : List Role → List ℕ → List ℕ → ℕ → Place
@@ -50,15 +52,22 @@ pub data Listed : Type 0 where
   full : ℕ → Listed
 
 -- of equal names the last entry counts, at the first one's place; a new name takes the next free place
+abbrev pub putAgain : Table → ℕ → ℕ → Table
+putAgain t k i = record { first = t .first; last = set (t .last) k i }
+
+abbrev pub putNew : Table → ℕ → Table
+putNew t i = record { first = t .first ++ i ∷ []; last = t .last ++ i ∷ [] }
+
 abbrev pub put : Place → ℕ → Table → (Table → Listed) → Listed
-put (At k) i t rest = rest (record { first = t .first; last = set (t .last) k i })
-put Nowhere i t rest = cond (ltb (length (t .first)) places) (rest (record { first = t .first ++ i ∷ []; last = t .last ++ i ∷ [] })) (full i)
+put (At k) i t rest = rest (putAgain t k i)
+put Nowhere i t rest = cond (ltb (length (t .first)) places) (rest (putNew t i)) (full i)
 
 abbrev pub putRole : List Role → Role → ℕ → Table → (Table → Listed) → Listed
 putRole roles (entry n v) i t rest = put (placeIn roles n (t .first) 0) i t rest
 putRole roles (more s c) i t rest = rest t
 putRole roles neutral i t rest = rest t
 putRole roles last i t rest = rest t
+putRole roles (refused f) i t rest = rest t
 
 -- cards, the first of which has number i, put into a table
 unfoldable pub listFrom : List Role → List Role → ℕ → Table → Listed
@@ -67,20 +76,21 @@ listFrom roles (r ∷ rs) i t = putRole roles r i t (listFrom roles rs (suc i))
 
 -- the arrays: the table, then free marks
 abbrev pub tabled : Header → Table → Listing
-tabled x t = record { header = x; first = filled free places (t .first); last = filled free places (t .last); count = length (t .first) }
+tabled x t =
+    record { header = x; first = filled free places (t .first); last = filled free places (t .last); count = length (t .first) }
 
 abbrev pub byListed : ℕ → Listed → Listing
 byListed end (listed t) = tabled (Accepted end) t
-byListed end (full i) = tabled (Refused (refusal 11) i) empty
+byListed end (full i) = tabled (Refused (stopAt (faultOf R.TableFull) i)) empty
 
 abbrev pub byHeader : Header → List Role → Listing
 byHeader (Accepted end) roles = byListed end (listFrom roles (take end roles) 0 empty)
-byHeader (Refused why i) roles = tabled (Refused why i) empty
+byHeader (Refused s) roles = tabled (Refused s) empty
 
 -- the names of a header; where it is refused all places are free
 unfoldable pub listOf : List ℕ → Listing
 listOf h = byHeader (headerOf h) (rolesOf h)
 
 -- the entry at a place of a table of last entries, which may be made up; a place that it lacks is free
-unfoldable pub placeOfEntry : List ℕ → List ℕ → ℕ → List ℕ → List ℕ → Outcome
+unfoldable pub placeOfEntry : List ℕ → List ℕ → ℕ → List ℕ → List ℕ → LookupOutcome
 placeOfEntry h lasts k text comment = entryOf h (getD lasts k free) text comment

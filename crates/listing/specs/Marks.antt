@@ -1,14 +1,14 @@
 -- Marks of names, which are compared before the names.
 use Prim.Native.Nat.{ℕ, zero, suc, _+_, _*_, _/_, _%_, _<_, _≤_}
 use mathlib.Core.Path.{_≡_}
-use mathlib.Core.Bool.{true, false, cond}
+use mathlib.Core.Bool.{Bool, true, false, cond}
 use mathlib.Core.List.{List, [], _∷_}
 use lib.Dec.{eqb}
 use lib.ListN.{length, getD}
 use Rattle.listing.specs.declared.Inserted.{Inserted}
 use Rattle.listing.specs.declared.Inserted.the-variants.{Names, Full}
 use Rattle.listing.specs.Listing.{places}
-use Rattle.listing.specs.Inserting.{bearsOf}
+use Rattle.listing.specs.Inserting.{bearsOf, Insertion, insertOf}
 
 -- a mark has 64 bits: its lower half is multiplied by the factor, and its upper half is added
 abbrev pub factor : ℕ
@@ -44,6 +44,10 @@ unfoldable pub lastIn : List ℕ → ℕ → ℕ → ℕ
 lastIn marks b zero = 0
 lastIn marks b (suc n) = cond (eqb (getD marks n 0 % buckets) b) (suc n) (lastIn marks b n)
 
+-- the card at place k bears the name
+abbrev pub bearsAt : List ℕ → List ℕ → ℕ → List ℕ → Bool
+bearsAt h first k name = bearsOf h (getD first k 0) name
+
 -- the first count places of a table, found by the marks of their names
 pub record Marked (h first marks heads links : List ℕ) (count : ℕ) : Type 0 where
   pub few : count ≤ places
@@ -52,9 +56,22 @@ pub record Marked (h first marks heads links : List ℕ) (count : ℕ) : Type 0 
   pub heads-long : length heads ≡ buckets
   pub links-long : length links ≡ places
   -- a place has the mark of whatever name its card bears
-  pub each : (k : ℕ) → k < count → (name : List ℕ) → bearsOf h (getD first k 0) name ≡ true → getD marks k 0 ≡ markOf name
+  pub each : (k : ℕ) → k < count → (name : List ℕ) → bearsAt h first k name ≡ true → getD marks k 0 ≡ markOf name
   -- no two bear one name
-  pub alone : (k : ℕ) → k < count → (name : List ℕ) → bearsOf h (getD first k 0) name ≡ true → (j : ℕ) → j < k → bearsOf h (getD first j 0) name ≡ false
+  pub alone : (k : ℕ) → k < count → (name : List ℕ) → bearsAt h first k name ≡ true
+      → (j : ℕ) → j < k → bearsAt h first j name ≡ false
   -- a bucket leads to its last place, and a place to the one before it in its bucket
   pub head : (b : ℕ) → b < buckets → getD heads b 0 ≡ lastIn marks b count
   pub link : (k : ℕ) → k < count → getD links k 0 ≡ lastIn marks (getD marks k 0 % buckets) k
+
+-- the entry of card i, which bears the name, is to be put into a table that has a free place
+pub record Ready (h name : List ℕ) (i count : ℕ) (first last marks heads links : List ℕ) : Type 0 where
+  pub own : Bears h i name
+  pub marked : Marked h first marks heads links count
+  pub last-long : length last ≡ places
+  pub room : count < places
+
+-- it was put into the table, and the places are found by their marks then
+pub record Entered (h name : List ℕ) (i count : ℕ) (first last : List ℕ) (n : Insertion) (marks heads links : List ℕ) : Type 0 where
+  pub inserted : n ≡ insertOf h name i count first last
+  pub marked : Marked h (n .first) marks heads links (namesIn (n .answer))

@@ -1,15 +1,17 @@
 // The names of a header in the order of their first cards, each with its last entry.
 ghost use mathlib.Core.Path.{_≡_};
-ghost use Prim.Native.Nat.{_+_, _*_, _/_, _<_};
-ghost use lib.ListN.{length, take};
+ghost use lib.ListN.{take};
 ghost use Rattle.text.specs.Text.{bytesOf};
-ghost use Rattle.listing.specs.Listing.{places, empty, tabled, listOf, placeOfEntry};
-ghost use Rattle.listing.specs.Inserting.{bearsOf, placeBy, insertAt, insertOf};
-ghost use Rattle.listing.specs.Marks.{markOf, Bears, namesIn, Marked};
-use header::Header;
-use header::Looked;
+ghost use Rattle.entries.specs.Answers.{leftBy};
+ghost use Rattle.listing.specs.Listing.{empty, tabled, listOf, placeOfEntry};
+ghost use Rattle.listing.specs.Inserting.{bearsOf, placeBy, insertionBy, insertAt, insertOf};
+ghost use Rattle.listing.specs.Marks.{markOf, Marked, Ready, Entered};
+use card::CARD;
+use entries::Looked;
+use finding::Header;
+use finding::Stop;
 use refusal::Refusal;
-use roles::Part;
+use roles::Role;
 use text::Cut;
 use text::Place;
 use text::Text;
@@ -32,9 +34,6 @@ pub enum Inserted {
 // What stands at a free place: no card has this number.
 const FREE: usize = 720;
 
-// The bytes of a card.
-const CARD: usize = 80;
-
 // The bytes of a keyword.
 const KEYWORD: usize = 8;
 
@@ -52,7 +51,8 @@ pub fn list(header: &[u8]) -> Listing
 {
     let cards = roles::card_count(header);
     if cards == 0 {
-        return refused(Refusal::HeaderLength, 0);
+        let fault = refusal::fault_of(Refusal::HeaderLength);
+        return refused(finding::stop_at(fault, 0));
     }
     let mut first = [FREE; 720];
     let mut last = [FREE; 720];
@@ -62,14 +62,14 @@ pub fn list(header: &[u8]) -> Listing
     let mut count: usize = 0;
     let mut i: usize = 0;
     'cards: while i < cards {
-        let named = roles::named_at(header, i);
-        let part = named.part;
-        let name = named.name;
-        match part {
-            Part::Refused(why) => {
-                return refused(why, i);
+        let card = roles::role_at(header, i);
+        let role = card.role;
+        let name = card.name;
+        match role {
+            Role::Refused(fault) => {
+                return refused(finding::stop_at(fault, i));
             }
-            Part::Last => {
+            Role::Last => {
                 return Listing {
                     header: Header::Accepted(i),
                     first: first,
@@ -77,7 +77,7 @@ pub fn list(header: &[u8]) -> Listing
                     count: count,
                 };
             }
-            Part::Entry => {
+            Role::Entry { value: _, joins: _ } => {
                 let Inserted::Names(n) = enter(
                     header,
                     name,
@@ -89,17 +89,22 @@ pub fn list(header: &[u8]) -> Listing
                     &mut heads,
                     &mut links,
                 ) else {
-                    return refused(Refusal::TableFull, i);
+                    let fault = refusal::fault_of(Refusal::TableFull);
+                    return refused(finding::stop_at(fault, i));
                 };
                 count = n;
                 i += 1;
             }
-            Part::Other => {
+            Role::More => {
+                i += 1;
+            }
+            Role::Neutral => {
                 i += 1;
             }
         }
     }
-    refused(Refusal::NoEnd, cards)
+    let fault = refusal::fault_of(Refusal::NoEnd);
+    refused(finding::stop_at(fault, cards))
 }
 
 // The entry at a place of a listing's last entries, joined and read into the lent buffers. A place that the listing lacks is free.
@@ -110,14 +115,13 @@ pub fn entry(
     text: &mut [u8],
     comment: &mut [u8],
 ) -> Looked
-    ensures { λ r. ⌜ r ≡ placeOfEntry (now (header .entry)) (now (lasts .entry)) place (now (text .entry)) (now (comment .entry)) .answer ⌝ }
-    ensures { λ _. ⌜ now (text .exit) ≡ placeOfEntry (now (header .entry)) (now (lasts .entry)) place (now (text .entry)) (now (comment .entry)) .text ⌝ }
-    ensures { λ _. ⌜ now (comment .exit) ≡ placeOfEntry (now (header .entry)) (now (lasts .entry)) place (now (text .entry)) (now (comment .entry)) .comment ⌝ }
+    ensures { λ r. ⌜ leftBy r (now (text .exit)) (now (comment .exit))
+        ≡ placeOfEntry (now (header .entry)) (now (lasts .entry)) place (now (text .entry)) (now (comment .entry)) ⌝ }
 {
     if place < lasts.len() {
-        return header::read_entry(header, lasts[place], text, comment);
+        return entries::read_entry(header, lasts[place], text, comment);
     }
-    header::read_entry(header, FREE, text, comment)
+    entries::read_entry(header, FREE, text, comment)
 }
 
 // The entry of card i put at its name's place among the first count, or behind them where a place is free.
@@ -129,20 +133,19 @@ pub fn insert(
     first: &mut [usize],
     last: &mut [usize],
 ) -> Inserted
-    ensures { λ r. ⌜ r ≡ insertOf (now (header .entry)) (now (name .entry)) i count (now (first .entry)) (now (last .entry)) .answer ⌝ }
-    ensures { λ _. ⌜ now (first .exit) ≡ insertOf (now (header .entry)) (now (name .entry)) i count (now (first .entry)) (now (last .entry)) .first ⌝ }
-    ensures { λ _. ⌜ now (last .exit) ≡ insertOf (now (header .entry)) (now (name .entry)) i count (now (first .entry)) (now (last .entry)) .last ⌝ }
+    ensures { λ r. ⌜ insertionBy r (now (first .exit)) (now (last .exit))
+        ≡ insertOf (now (header .entry)) (now (name .entry)) i count (now (first .entry)) (now (last .entry)) ⌝ }
 {
     let place = find_place(header, name, first, count);
     insert_at(place, i, count, first, last)
 }
 
 // The listing of a refused header: all places are free.
-fn refused(why: Refusal, i: usize) -> Listing
-    ensures { λ r. ⌜ r ≡ tabled (Header.Refused why i) empty ⌝ }
+fn refused(stop: Stop) -> Listing
+    ensures { λ r. ⌜ r ≡ tabled (Header.Refused stop) empty ⌝ }
 {
     Listing {
-        header: Header::Refused(why, i),
+        header: Header::Refused(stop),
         first: [FREE; 720],
         last: [FREE; 720],
         count: 0,
@@ -157,7 +160,7 @@ fn bears(header: &[u8], i: usize, name: &[u8]) -> bool
         let at = i * CARD;
         let word = text::trimmed(text::first_of(&header[at..], KEYWORD), Cut::Blanks);
         if text::same_bytes(word, b"HIERARCH") {
-            let own = roles::named_at(header, i);
+            let own = roles::role_at(header, i);
             let dotted = own.name;
             let bytes = dotted.bytes;
             return text::same_bytes(text::first_of(&bytes, dotted.len), name);
@@ -189,9 +192,8 @@ fn insert_at(
     first: &mut [usize],
     last: &mut [usize],
 ) -> Inserted
-    ensures { λ r. ⌜ r ≡ insertAt place i count (now (first .entry)) (now (last .entry)) .answer ⌝ }
-    ensures { λ _. ⌜ now (first .exit) ≡ insertAt place i count (now (first .entry)) (now (last .entry)) .first ⌝ }
-    ensures { λ _. ⌜ now (last .exit) ≡ insertAt place i count (now (first .entry)) (now (last .entry)) .last ⌝ }
+    ensures { λ r. ⌜ insertionBy r (now (first .exit)) (now (last .exit))
+        ≡ insertAt place i count (now (first .entry)) (now (last .entry)) ⌝ }
 {
     match place {
         Place::At(k) => {
@@ -238,13 +240,9 @@ fn enter(
     heads: &mut [usize],
     links: &mut [usize],
 ) -> Inserted
-    requires { ⌜ Bears (now header) i (bytesOf text) ⌝ }
-    requires { ⌜ Marked (now header) (now first) (now marks) (now heads) (now links) count ⌝ }
-    requires { ⌜ (length (now last) ≡ places) × (count < places) ⌝ }
-    ensures { λ r. ⌜ r ≡ insertOf (now (header .entry)) (bytesOf text) i count (now (first .entry)) (now (last .entry)) .answer ⌝ }
-    ensures { λ _. ⌜ now (first .exit) ≡ insertOf (now (header .entry)) (bytesOf text) i count (now (first .entry)) (now (last .entry)) .first ⌝ }
-    ensures { λ _. ⌜ now (last .exit) ≡ insertOf (now (header .entry)) (bytesOf text) i count (now (first .entry)) (now (last .entry)) .last ⌝ }
-    ensures { λ r. ⌜ Marked (now (header .entry)) (now (first .exit)) (now (marks .exit)) (now (heads .exit)) (now (links .exit)) (namesIn r) ⌝ }
+    requires { ⌜ Ready (now header) (bytesOf text) i count (now first) (now last) (now marks) (now heads) (now links) ⌝ }
+    ensures { λ r. ⌜ Entered (now (header .entry)) (bytesOf text) i count (now (first .entry)) (now (last .entry))
+        (insertionBy r (now (first .exit)) (now (last .exit))) (now (marks .exit)) (now (heads .exit)) (now (links .exit)) ⌝ }
 {
     let bytes = text.bytes;
     let name = text::first_of(&bytes, text.len);
@@ -261,8 +259,8 @@ fn enter(
     answer
 }
 
-// The place among the first count whose card bears the name: of its bucket, from the last place on, only where the mark is the name's
-// is the card asked. A place is told by its end, and 0 is none.
+// The place among the first count whose card bears the name: its bucket is walked from the last place on, and a card is compared
+// only if the marks agree. Heads and links hold a place + 1; 0 ends the chain.
 fn find_marked(
     header: &[u8],
     name: &[u8],

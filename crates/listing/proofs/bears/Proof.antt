@@ -11,8 +11,11 @@ use Rattle.text.specs.Same.{same}
 use Rattle.text.specs.Text.{bytesOf}
 use Rattle.text.proofs.Trimming.{take-rest}
 use Rattle.card.specs.Keywords.{keywordOf}
-use Rattle.roles.specs.declared.Named.{Named}
-use Rattle.listing.proofs.Bearing.{name-told, bears-past, bears-dotted, bears-plain}
+use Rattle.card.specs.declared.CardRead.{CardRead}
+use Rattle.roles.specs.declared.CardRole.{CardRole}
+use Rattle.roles.specs.Cards.{cardNo}
+use Rattle.roles.proofs.Counting.{card-here}
+use Rattle.listing.proofs.Bearing.{bears-past, bears-dotted, bears-plain}
 use borrow.Author.Needs.{needs}
 use Rattle.listing.proofs.bears.Statement.{statement}
 use Rattle.listing.proofs.bears.Tie as tie
@@ -23,13 +26,19 @@ start c = c .before .before .before
 abbrev first : tie.After-same-bytes → tie.After-first-of
 first c = c .before .before .before
 
-word-is : (c : tie.After-trimmed) → let a = start (c .before .before .before) .args in c .trimmed .result .now ≡ keywordOf (take 80 (drop (a .i * 80) (a .header .now)))
+-- the keyword, and whether it is HIERARCH
+abbrev keyword : tie.After-trimmed → List ℕ
+keyword c = let a = start (c .before .before .before) .args in keywordOf (cardNo (a .header .now) (a .i))
+
+word-is : (c : tie.After-trimmed) → c .trimmed .result .now ≡ keyword c
 word-is c =
     let a = start (c .before .before .before) .args in
     let l = drop (a .i * 80) (a .header .now) in
-    c .trimmed .ensures ∙ ap (trim isBlank) (c .before .first-of .ensures ∙ ap (take 8) (take-rest (a .header .now) (a .i * 80)) ∙ sym (take-take 8 80 l (omega arith)))
+    c .trimmed .ensures
+    ∙ ap (trim isBlank)
+    (c .before .first-of .ensures ∙ ap (take 8) (take-rest (a .header .now) (a .i * 80)) ∙ sym (take-take 8 80 l (omega arith)))
 
-dotted-so : (c : tie.After-same-bytes) → let a = start (first c .before .before) .args in c .same-bytes .result ≡ same (keywordOf (take 80 (drop (a .i * 80) (a .header .now)))) (ascii "HIERARCH")
+dotted-so : (c : tie.After-same-bytes) → c .same-bytes .result ≡ same (keyword (c .before .before)) (ascii "HIERARCH")
 dotted-so c = c .same-bytes .ensures ∙ ap (λ (l : List ℕ). same l (ascii "HIERARCH")) (word-is (c .before .before))
 
 mul-at : tie.Need-mul-at
@@ -56,8 +65,8 @@ slice-aggregate-same-bytes c = search needs
 same-bytes-requires : tie.Need-same-bytes-requires
 same-bytes-requires c κs = search needs
 
-named-at-requires : tie.Need-named-at-requires
-named-at-requires c κs = search needs
+role-at-requires : tie.Need-role-at-requires
+role-at-requires c κs = search needs
 
 slice-aggregate-first-of : tie.Need-slice-aggregate-first-of
 slice-aggregate-first-of c = search needs
@@ -76,7 +85,10 @@ returns c =
     let a = start inside .args in
     let h = a .header .now in
     c .same-bytes2 .ensures
-    ∙ ap (λ (l : List ℕ). same l (a .name .now)) (c .before .first-of2 .ensures ∙ ap (λ (n : Named). bytesOf (n .name)) (own .named-at .ensures) ∙ name-told h (a .i) (inside .if1 .taken))
+    ∙ ap (λ (l : List ℕ). same l (a .name .now))
+    (c .before .first-of2 .ensures
+    ∙ ap (λ (n : CardRole). bytesOf (n .name)) (own .role-at .ensures)
+    ∙ ap (λ (r : CardRead). bytesOf (r .name)) (card-here h (a .i) (inside .if1 .taken)))
     ∙ bears-dotted h (a .i) (a .name .now) (inside .if1 .taken) (sym (dotted-so test) ∙ own .before .if2 .taken)
 
 same-bytes-requires-3 : tie.Need-same-bytes-requires-3
@@ -87,7 +99,9 @@ returns-2 c =
     let test = c .before .before in
     let inside = first test .before .before in
     let a = start inside .args in
-    c .same-bytes3 .ensures ∙ ap (λ (l : List ℕ). same l (a .name .now)) (word-is (test .before .before)) ∙ bears-plain (a .header .now) (a .i) (a .name .now) (inside .if1 .taken) (sym (dotted-so test) ∙ c .before .if2 .left)
+    c .same-bytes3 .ensures
+    ∙ ap (λ (l : List ℕ). same l (a .name .now)) (word-is (test .before .before))
+    ∙ bears-plain (a .header .now) (a .i) (a .name .now) (inside .if1 .taken) (sym (dotted-so test) ∙ c .before .if2 .left)
 
 returns-3 : tie.Need-returns-3
 returns-3 c =
@@ -106,7 +120,7 @@ bears-spec =
     trimmed-requires
     slice-aggregate-same-bytes
     same-bytes-requires
-    named-at-requires
+    role-at-requires
     slice-aggregate-first-of
     first-of-requires-2
     same-bytes-requires-2

@@ -3,11 +3,11 @@ use Prim.Native.Nat.{ℕ, _+_, _%_, _<_}
 use native.Mathlib.Omega.{arith}
 use mathlib.Core.Path.{_≡_, sym, ap, subst, _∙_}
 use mathlib.Core.List.{List}
-use lib.ListN.{take, set, getD}
+use lib.ListN.{length, take, set, getD}
 use Rattle.text.specs.declared.Place.{Place}
 use Rattle.text.specs.declared.Place.the-variants.{At, Nowhere}
 use Rattle.text.specs.Text.{bytesOf}
-use Rattle.listing.specs.Inserting.{placeBy, Insertion, insertAt, insertOf}
+use Rattle.listing.specs.Inserting.{placeBy, Insertion, insertionBy, insertAt, insertOf}
 use Rattle.listing.specs.Marks.{buckets, markOf, namesIn, Marked}
 use Rattle.listing.proofs.Bearing.{new-name, put-behind}
 use Rattle.listing.proofs.Marking.{marked-put}
@@ -15,48 +15,72 @@ use borrow.Author.Needs.{needs}
 use Rattle.listing.proofs.enter.Statement.{statement}
 use Rattle.listing.proofs.enter.Tie as tie
 
-abbrev start : tie.After-insert-at → tie.Start
-start c = c .before .before .before .before .before .before .before .before .before .before .before .before .before .before .before .before .before .before
-
+-- before inserting: the name, its mark, its place
 abbrev found : tie.After-insert-at → tie.After-find-marked
 found c = c .before .before .before
 
 abbrev marking : tie.After-insert-at → tie.After-mark
 marking c = found c .before .before .before .before .before
 
--- in the table's last branch: what inserting gave, and where it began
+abbrev naming : tie.After-insert-at → tie.After-first-of
+naming c = marking c .before
+
+abbrev start : tie.After-insert-at → tie.Start
+start c = naming c .before .before .before .before .before .before .before .before .before
+
+-- in the table's last branch: what inserting gave
 abbrev ins : tie.After-enum-told → tie.After-insert-at
 ins c = c .before .before .before .before .before .before
 
-all : (c : tie.After-insert-at) → let a = start c .args in Marked (a .header .now) (a .first .now) (a .marks .now) (a .heads .now) (a .links .now) (a .count)
-all c = start c .pre .1 .0
+module _ (c : tie.After-insert-at) where
+  abbrev h : List ℕ
+  h = start c .args .header .now
 
-room : (c : tie.After-insert-at) → start c .args .count < 720
-room c = start c .pre .1 .1 .1
+  abbrev name : List ℕ
+  name = bytesOf (start c .args .text)
 
--- the name, its mark, its place
-name-so : (c : tie.After-insert-at) → marking c .before .first-of .result .now ≡ bytesOf (start c .args .text)
-name-so c = marking c .before .first-of .ensures
+  abbrev first : List ℕ
+  first = start c .args .first .now
 
-mark-so : (c : tie.After-insert-at) → marking c .mark .result ≡ markOf (bytesOf (start c .args .text))
-mark-so c = marking c .mark .ensures ∙ ap markOf (name-so c)
+  abbrev last : List ℕ
+  last = start c .args .last .now
 
-place-so : (c : tie.After-insert-at) → let a = start c .args in found c .find-marked .result ≡ placeBy (a .header .now) (bytesOf (a .text)) (take (a .count) (a .first .now)) 0
-place-so c = let a = start c .args in found c .find-marked .ensures ∙ ap (λ (l : List ℕ). placeBy (a .header .now) l (take (a .count) (a .first .now)) 0) (name-so c)
+  abbrev marks : List ℕ
+  marks = start c .args .marks .now
 
--- what inserting gave
-abbrev insertion : tie.After-insert-at → Insertion
-insertion c = record { answer = c .insert-at .result; first = c .insert-at .last .1 .1 .1 .0; last = c .insert-at .last .1 .1 .1 .1 .0 }
+  abbrev heads : List ℕ
+  heads = start c .args .heads .now
 
-inserted : (c : tie.After-insert-at) (p : Place) → found c .find-marked .result ≡ p → let a = start c .args in insertion c ≡ insertAt p (a .i) (a .count) (a .first .now) (a .last .now)
-inserted c p e =
-    let a = start c .args in
-    (λ j. record { answer = c .insert-at .ensures .0 j; first = c .insert-at .ensures .1 .0 j; last = c .insert-at .ensures .1 .1 j })
-    ∙ ap (λ (q : Place). insertAt q (a .i) (a .count) (a .first .now) (a .last .now)) e
+  abbrev links : List ℕ
+  links = start c .args .links .now
 
-whole : (c : tie.After-insert-at) → let a = start c .args in insertion c ≡ insertOf (a .header .now) (bytesOf (a .text)) (a .i) (a .count) (a .first .now) (a .last .now)
-unfolding insertOf
-whole c = inserted c (placeBy (start c .args .header .now) (bytesOf (start c .args .text)) (take (start c .args .count) (start c .args .first .now)) 0) (place-so c)
+  all : Marked h first marks heads links (start c .args .count)
+  all = start c .pre .marked
+
+  room : start c .args .count < 720
+  room = start c .pre .room
+
+  -- the name, its mark, its place
+  name-so : naming c .first-of .result .now ≡ name
+  name-so = naming c .first-of .ensures
+
+  mark-so : marking c .mark .result ≡ markOf name
+  mark-so = marking c .mark .ensures ∙ ap markOf name-so
+
+  place-so : found c .find-marked .result ≡ placeBy h name (take (start c .args .count) first) 0
+  place-so = found c .find-marked .ensures ∙ ap (λ (l : List ℕ). placeBy h l (take (start c .args .count) first) 0) name-so
+
+  -- what inserting gave
+  abbrev insertion : Insertion
+  insertion = insertionBy (c .insert-at .result) (c .insert-at .last .1 .1 .1 .0) (c .insert-at .last .1 .1 .1 .1 .0)
+
+  inserted : (p : Place) → found c .find-marked .result ≡ p → insertion ≡ insertAt p (start c .args .i) (start c .args .count) first last
+  inserted p e =
+      c .insert-at .ensures ∙ ap (λ (q : Place). insertAt q (start c .args .i) (start c .args .count) first last) e
+
+  whole : insertion ≡ insertOf h name (start c .args .i) (start c .args .count) first last
+  unfolding insertOf
+  whole = inserted (placeBy h name (take (start c .args .count) first) 0) place-so
 
 slice-aggregate-first-of : tie.Need-slice-aggregate-first-of
 slice-aggregate-first-of c = search needs
@@ -97,18 +121,12 @@ same-length-5 c = search needs
 returns : tie.Need-returns
 returns c =
     let ins = c .before .before .before .before .before .before in
-    let a = start ins .args in
-    let o = whole ins in
-    let n = inserted ins (At (c .enum-told2 .given .0 .0)) (c .enum-told2 .given .1) in (
-      ap (λ (x : Insertion). x .answer) o,
-      (
-        ap (λ (x : Insertion). x .first) o,
-        (
-          ap (λ (x : Insertion). x .last) o,
-          subst (λ (x : Insertion). Marked (a .header .now) (x .first) (a .marks .now) (a .heads .now) (a .links .now) (namesIn (x .answer))) (sym n) (all ins),
-        ),
-      ),
-    )
+    let n = inserted ins (At (c .enum-told2 .given .0 .0)) (c .enum-told2 .given .1) in
+    record {
+      inserted = whole ins;
+      marked =
+          subst (λ (x : Insertion). Marked (h ins) (x .first) (marks ins) (heads ins) (links ins) (namesIn (x .answer))) (sym n) (all ins);
+    }
 
 mul-marks : tie.Need-mul-marks
 mul-marks c = omega (arith, room (ins c))
@@ -156,23 +174,21 @@ returns-2 : tie.Need-returns-2
 returns-2 c =
     let told = c .before in
     let ins = ins told in
-    let s = start ins in
-    let a = s .args in
-    let o = whole ins in
+    let a = start ins .args in
     let m = marking ins .mark .result in
     let none : found ins .find-marked .result ≡ Nowhere = told .enum-told .given .1 in
-    let n = inserted ins Nowhere none ∙ sym (put-behind (a .i) (a .count) (a .first .now) (a .last .now) (omega (arith, room ins, all ins .first-long)) (omega (arith, room ins, s .pre .1 .1 .0))) in
-    let new = new-name (a .header .now) (bytesOf (a .text)) (a .first .now) (a .count) (omega (arith, room ins, all ins .first-long)) (sym (place-so ins) ∙ none) in (
-      ap (λ (x : Insertion). x .answer) o,
-      (
-        ap (λ (x : Insertion). x .first) o,
-        (
-          ap (λ (x : Insertion). x .last) o,
-          subst (λ (x : Insertion). Marked (a .header .now) (x .first) (set (a .marks .now) (a .count) m) (set (a .heads .now) (m % buckets) (a .count + 1)) (set (a .links .now) (a .count) (getD (a .heads .now) (m % buckets) 0)) (namesIn (x .answer))) (sym n)
-              (marked-put (all ins) (a .i) m (bytesOf (a .text)) (room ins) (s .pre .0) (mark-so ins) new),
-        ),
-      ),
-    )
+    let free-first : a .count < length (first ins) = omega (arith, room ins, all ins .first-long) in
+    let free-last : a .count < length (last ins) = omega (arith, room ins, start ins .pre .last-long) in
+    let n = inserted ins Nowhere none ∙ sym (put-behind (a .i) (a .count) (first ins) (last ins) free-first free-last) in
+    let new = new-name (h ins) (name ins) (first ins) (a .count) (omega arith) (sym (place-so ins) ∙ none) in
+    let put = marked-put (all ins) (a .i) m (name ins) (room ins) (start ins .pre .own) (mark-so ins) new in
+    let marks₁ = set (marks ins) (a .count) m in
+    let heads₁ = set (heads ins) (m % buckets) (a .count + 1) in
+    let links₁ = set (links ins) (a .count) (getD (heads ins) (m % buckets) 0) in
+    record {
+      inserted = whole ins;
+      marked = subst (λ (x : Insertion). Marked (h ins) (x .first) marks₁ heads₁ links₁ (namesIn (x .answer))) (sym n) put;
+    }
 
 pub enter-spec : {M : Type 1} → statement M
 enter-spec =

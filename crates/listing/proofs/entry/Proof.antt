@@ -3,7 +3,7 @@ use Prim.Native.Nat.{ℕ, zero, suc, _<_, _≤_}
 use mathlib.Core.Path.{_≡_, refl, sym, ap, _∙_}
 use mathlib.Core.List.{List, [], _∷_}
 use lib.ListN.{length, getD, List·getD-eq-default}
-use Rattle.header.specs.Answers.{Outcome, entryOf}
+use Rattle.entries.specs.Answers.{entryOf}
 use Rattle.listing.specs.Listing.{free, placeOfEntry}
 use native.Mathlib.Nat.{not-suc-le-zero, le-of-suc-le-suc}
 use borrow.Author.Needs.{needs}
@@ -16,13 +16,14 @@ within [] k a b p = absurd (not-suc-le-zero p)
 within (x ∷ l) zero a b p = refl
 within (x ∷ l) (suc k) a b p = within l k a b (le-of-suc-le-suc p)
 
-here : (h lasts : List ℕ) (k : ℕ) (text comment : List ℕ) → k < length lasts → entryOf h (getD lasts k 0) text comment ≡ placeOfEntry h lasts k text comment
-unfolding placeOfEntry
-here h lasts k text comment p = ap (λ (i : ℕ). entryOf h i text comment) (within lasts k 0 free p)
+module _ (h lasts : List ℕ) (k : ℕ) (text comment : List ℕ) where
+  here : k < length lasts → entryOf h (getD lasts k 0) text comment ≡ placeOfEntry h lasts k text comment
+  unfolding placeOfEntry
+  here p = ap (λ (i : ℕ). entryOf h i text comment) (within lasts k 0 free p)
 
-nowhere : (h lasts : List ℕ) (k : ℕ) (text comment : List ℕ) → length lasts ≤ k → entryOf h free text comment ≡ placeOfEntry h lasts k text comment
-unfolding placeOfEntry
-nowhere h lasts k text comment p = ap (λ (i : ℕ). entryOf h i text comment) (sym (List·getD-eq-default lasts free p))
+  nowhere : length lasts ≤ k → entryOf h free text comment ≡ placeOfEntry h lasts k text comment
+  unfolding placeOfEntry
+  nowhere p = ap (λ (i : ℕ). entryOf h i text comment) (sym (List·getD-eq-default lasts free p))
 
 mul-read-entry : tie.Need-mul-read-entry
 mul-read-entry c = search needs
@@ -44,8 +45,7 @@ returns c =
     let read = c .before .before .before .before in
     let inside = read .before .before .before .before in
     let a = inside .before .before .before .before .before .args in
-    let o = here (a .header .now) (a .lasts .now) (a .place) (a .text .now) (a .comment .now) (inside .if1 .taken) in
-    (read .read-entry .ensures .0 ∙ ap (λ (x : Outcome). x .answer) o, (read .read-entry .ensures .1 .0 ∙ ap (λ (x : Outcome). x .text) o, read .read-entry .ensures .1 .1 ∙ ap (λ (x : Outcome). x .comment) o))
+    read .read-entry .ensures ∙ here (a .header .now) (a .lasts .now) (a .place) (a .text .now) (a .comment .now) (inside .if1 .taken)
 
 read-entry-requires-2 : tie.Need-read-entry-requires-2
 read-entry-requires-2 c κs = search needs
@@ -61,8 +61,7 @@ returns-2 c =
     let read = c .before .before .before .before in
     let outside = read .before .before .before in
     let a = outside .before .before .before .before .before .args in
-    let o = nowhere (a .header .now) (a .lasts .now) (a .place) (a .text .now) (a .comment .now) (outside .if1 .left) in
-    (read .read-entry2 .ensures .0 ∙ ap (λ (x : Outcome). x .answer) o, (read .read-entry2 .ensures .1 .0 ∙ ap (λ (x : Outcome). x .text) o, read .read-entry2 .ensures .1 .1 ∙ ap (λ (x : Outcome). x .comment) o))
+    read .read-entry2 .ensures ∙ nowhere (a .header .now) (a .lasts .now) (a .place) (a .text .now) (a .comment .now) (outside .if1 .left)
 
 pub entry-spec : {M : Type 1} → statement M
 entry-spec =

@@ -19,7 +19,8 @@ abbrev μ-loop : tie.MeasureT-loop
 abbrev start : tie.At-loop Inv-loop μ-loop → tie.Start Inv-loop μ-loop
 start c = c .before .before .before .before .before .before .before .before
 
-all : (c : tie.At-loop Inv-loop μ-loop) → let a = start c .args in Marked (a .header .now) (a .first .now) (a .marks .now) (a .heads .now) (a .links .now) (a .count)
+all : (c : tie.At-loop Inv-loop μ-loop) → let a = start c .args in
+    Marked (a .header .now) (a .first .now) (a .marks .now) (a .heads .now) (a .links .now) (a .count)
 all c = start c .pre .1
 
 -- the place that the walk has come to
@@ -44,7 +45,10 @@ shared-slice-read-end c = search needs
 loop-holds : tie.Need-loop-holds Inv-loop μ-loop
 loop-holds c =
     let s = c .before .before .before .before .before .before .before in
-    subst (λ (m : ℕ). Walking (s .args .header .now) (s .args .name .now) (s .args .first .now) (s .args .marks .now) (s .args .count) (getD (s .args .heads .now) (m % buckets) 0)) (sym (s .pre .0)) (walk-start (s .pre .1) (s .args .name .now))
+    let a = s .args in
+    let walking : ℕ → Type 0 =
+    λ end. Walking (a .header .now) (a .name .now) (a .first .now) (a .marks .now) (a .count) end in
+    subst (λ (m : ℕ). walking (getD (a .heads .now) (m % buckets) 0)) (sym (s .pre .0)) (walk-start (s .pre .1) (a .name .now))
 
 sub-k : tie.Need-sub-k Inv-loop μ-loop
 sub-k c = search needs
@@ -59,7 +63,9 @@ mul-bears : tie.Need-mul-bears Inv-loop μ-loop
 mul-bears c = omega (arith, few (c .before .before))
 
 shared-slice-read-bears : tie.Need-shared-slice-read-bears Inv-loop μ-loop
-shared-slice-read-bears c = let in-loop = c .before .before .before in omega (arith, few in-loop, all (in-loop .before) .first-long)
+shared-slice-read-bears c =
+    let in-loop = c .before .before .before in
+    omega (arith, few in-loop, all (in-loop .before) .first-long)
 
 bears-requires : tie.Need-bears-requires Inv-loop μ-loop
 bears-requires c κs = search needs
@@ -68,13 +74,16 @@ returns : tie.Need-returns Inv-loop μ-loop
 returns c =
     let in-loop = c .before .before .before .before .before in
     let at = in-loop .before in
-    walk-here (all at) (start at .args .name .now) (at .loop .inv) (place in-loop) (end-so in-loop) (sym (c .before .bears .ensures) ∙ c .if2 .taken)
+    walk-here (all at) (start at .args .name .now) (at .loop .inv) (place in-loop) (end-so in-loop)
+    (sym (c .before .bears .ensures) ∙ c .if2 .taken)
 
 mul-end-2 : tie.Need-mul-end-2 Inv-loop μ-loop
 mul-end-2 c = omega (arith, few (c .before .before))
 
 shared-slice-read-end-2 : tie.Need-shared-slice-read-end-2 Inv-loop μ-loop
-shared-slice-read-end-2 c = let in-loop = c .before .before .before in omega (arith, few in-loop, all (in-loop .before) .links-long)
+shared-slice-read-end-2 c =
+    let in-loop = c .before .before .before in
+    omega (arith, few in-loop, all (in-loop .before) .links-long)
 
 loop-less : tie.Need-loop-less Inv-loop μ-loop
 loop-less c =
@@ -87,8 +96,11 @@ loop-again c =
     let in-loop = c .before .before .before in
     let at = in-loop .before in
     let s = start at in
-    walk-next (all at) (s .args .name .now) (at .loop .inv) (place in-loop) (end-so in-loop)
-    (⊎-elim (λ w. sym (w .2 .ensures) ∙ w .3 .left) (λ w. not-borne (all at) (place in-loop) (s .args .name .now) (within in-loop) (λ e. w .left (e ∙ sym (s .pre .0)))) (c .before .if1 .came))
+    let name = s .args .name .now in
+    walk-next (all at) name (at .loop .inv) (place in-loop) (end-so in-loop)
+    (⊎-elim (λ w. sym (w .2 .ensures) ∙ w .3 .left)
+    (λ w. not-borne (all at) (place in-loop) name (within in-loop) (λ e. w .left (e ∙ sym (s .pre .0))))
+    (c .before .if1 .came))
 
 returns-2 : tie.Need-returns-2 Inv-loop μ-loop
 returns-2 c =

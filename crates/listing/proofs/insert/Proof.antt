@@ -1,7 +1,7 @@
 -- `listing::insert` meets its contract: by the place of the name.
 use mathlib.Core.Path.{ap, _∙_}
 use Rattle.text.specs.declared.Place.{Place}
-use Rattle.listing.specs.Inserting.{Insertion, insertAt, insertOf}
+use Rattle.listing.specs.Inserting.{insertAt, insertOf}
 use borrow.Author.Needs.{needs}
 use Rattle.listing.proofs.insert.Statement.{statement}
 use Rattle.listing.proofs.insert.Tie as tie
@@ -24,8 +24,8 @@ returns c =
     let ins = c .before .before .before .before in
     let f = ins .before .before .before in
     let a = f .before .before .before .before .before .before .args in
-    let o = ap (λ (p : Place). insertAt p (a .i) (a .count) (a .first .now) (a .last .now)) (f .find-place .ensures) in
-    (ins .insert-at .ensures .0 ∙ ap (λ (x : Insertion). x .answer) o, (ins .insert-at .ensures .1 .0 ∙ ap (λ (x : Insertion). x .first) o, ins .insert-at .ensures .1 .1 ∙ ap (λ (x : Insertion). x .last) o))
+    ins .insert-at .ensures
+    ∙ ap (λ (p : Place). insertAt p (a .i) (a .count) (a .first .now) (a .last .now)) (f .find-place .ensures)
 
 pub insert-spec : {M : Type 1} → statement M
 insert-spec =

@@ -7,22 +7,23 @@ use lib.ListN.{length}
 use lib.Seq.{set-out}
 use Rattle.text.specs.declared.Place.{Place}
 use Rattle.text.specs.declared.Place.the-variants.{At, Nowhere}
-use Rattle.listing.specs.declared.Inserted.the-variants.{Full}
-use Rattle.listing.specs.Inserting.{Insertion, insertAt}
+use Rattle.listing.specs.declared.Inserted.the-variants.{Names, Full}
+use Rattle.listing.specs.Inserting.{insertionBy, insertAt}
 use Rattle.listing.proofs.Bearing.{put-behind}
 use borrow.Author.Needs.{needs}
 use Rattle.listing.proofs.insert_at.Statement.{statement}
 use Rattle.listing.proofs.insert_at.Tie as tie
 
 -- the place that an arm knows gives the insertion
-by : (c : tie.Start) (p : Place) → c .args .place ≡ p → let a = c .args in insertAt p (a .i) (a .count) (a .first .now) (a .last .now) ≡ insertAt (a .place) (a .i) (a .count) (a .first .now) (a .last .now)
+by : (c : tie.Start) (p : Place) → c .args .place ≡ p → let a = c .args in
+    insertAt p (a .i) (a .count) (a .first .now) (a .last .now) ≡ insertAt (a .place) (a .i) (a .count) (a .first .now) (a .last .now)
 by c p e = let a = c .args in ap (λ (q : Place). insertAt q (a .i) (a .count) (a .first .now) (a .last .now)) (sym e)
 
 module _ (i count : ℕ) (first last : List ℕ) where
-  none-behind : count < length first → length last ≤ count → _≡_ {A = Insertion} (record { answer = Full; first = first; last = last }) (insertAt Nowhere i count first last)
+  none-behind : count < length first → length last ≤ count → insertionBy Full first last ≡ insertAt Nowhere i count first last
   none-behind p q = rw (lt-ltb count (length first) p, le-ltb count (length last) q)
 
-  none-first : length first ≤ count → _≡_ {A = Insertion} (record { answer = Full; first = first; last = last }) (insertAt Nowhere i count first last)
+  none-first : length first ≤ count → insertionBy Full first last ≡ insertAt Nowhere i count first last
   none-first p = rw (le-ltb count (length first) p)
 
 enum-known-place : tie.Need-enum-known-place
@@ -62,8 +63,8 @@ returns : tie.Need-returns
 returns c =
     let told = c .before .before in
     let a = told .before .before .args in
-    let o = put-behind (a .i) (a .count) (a .first .now) (a .last .now) (c .before .if2 .taken) (c .if3 .taken) ∙ by (told .before .before) Nowhere (told .enum-told .given .1) in
-    (ap (λ (x : Insertion). x .answer) o, (ap (λ (x : Insertion). x .first) o, ap (λ (x : Insertion). x .last) o))
+    put-behind (a .i) (a .count) (a .first .now) (a .last .now) (c .before .if2 .taken) (c .if3 .taken)
+    ∙ by (told .before .before) Nowhere (told .enum-told .given .1)
 
 same-length-3 : tie.Need-same-length-3
 same-length-3 c = search needs
@@ -71,30 +72,29 @@ same-length-3 c = search needs
 returns-2 : tie.Need-returns-2
 returns-2 c =
     let at-k = c .before .before in
-    let o = by (at-k .before .before) (At (at-k .place .given .0 .0)) (at-k .place .given .1) in
-    (ap (λ (x : Insertion). x .answer) o, (ap (λ (x : Insertion). x .first) o, ap (λ (x : Insertion). x .last) o))
+    by (at-k .before .before) (At (at-k .place .given .0 .0)) (at-k .place .given .1)
 
 returns-3 : tie.Need-returns-3
 returns-3 c =
     let at-k = c .before .before in
     let a = at-k .before .before .args in
     let k = at-k .place .given .0 .0 in
-    let o = by (at-k .before .before) (At k) (at-k .place .given .1) in
-    (ap (λ (x : Insertion). x .answer) o, (ap (λ (x : Insertion). x .first) o, sym (set-out (a .last .now) k (a .i) (c .if1 .left)) ∙ ap (λ (x : Insertion). x .last) o))
+    ap (insertionBy (Names (a .count)) (a .first .now)) (sym (set-out (a .last .now) k (a .i) (c .if1 .left)))
+    ∙ by (at-k .before .before) (At k) (at-k .place .given .1)
 
 returns-4 : tie.Need-returns-4
 returns-4 c =
     let told = c .before .before in
     let a = told .before .before .args in
-    let o = none-behind (a .i) (a .count) (a .first .now) (a .last .now) (c .before .if2 .taken) (c .if3 .left) ∙ by (told .before .before) Nowhere (told .enum-told .given .1) in
-    (ap (λ (x : Insertion). x .answer) o, (ap (λ (x : Insertion). x .first) o, ap (λ (x : Insertion). x .last) o))
+    none-behind (a .i) (a .count) (a .first .now) (a .last .now) (c .before .if2 .taken) (c .if3 .left)
+    ∙ by (told .before .before) Nowhere (told .enum-told .given .1)
 
 returns-5 : tie.Need-returns-5
 returns-5 c =
     let told = c .before in
     let a = told .before .before .args in
-    let o = none-first (a .i) (a .count) (a .first .now) (a .last .now) (c .if2 .left) ∙ by (told .before .before) Nowhere (told .enum-told .given .1) in
-    (ap (λ (x : Insertion). x .answer) o, (ap (λ (x : Insertion). x .first) o, ap (λ (x : Insertion). x .last) o))
+    none-first (a .i) (a .count) (a .first .now) (a .last .now) (c .if2 .left)
+    ∙ by (told .before .before) Nowhere (told .enum-told .given .1)
 
 pub insert-at-spec : {M : Type 1} → statement M
 insert-at-spec =

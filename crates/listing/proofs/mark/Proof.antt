@@ -1,5 +1,5 @@
 -- `listing::mark` meets its contract: the mark so far, with what is left of the name, gives the whole.
-use Prim.Native.Nat.{_+_, _-_, _*_, _/_, _%_, _<_, _≤_}
+use Prim.Native.Nat.{ℕ, _+_, _-_, _*_, _/_, _%_, _<_, _≤_}
 use native.Mathlib.Omega.{arith}
 use mathlib.Core.Path.{_≡_, refl, sym, _∙_}
 use lib.ListN.{length, drop, getD}
@@ -18,8 +18,14 @@ abbrev μ-loop : tie.MeasureT-loop
 abbrev at-loop : tie.After-shared-slice-known Inv-loop μ-loop → tie.At-loop Inv-loop μ-loop
 at-loop c = c .before .before
 
-fits : (c : tie.After-shared-slice-known Inv-loop μ-loop) → let l = at-loop c .loop in l .m % half * factor + l .m / half + getD (at-loop c .before .args .name .now) (l .k) 0 < half * half
-fits c = mark-fits (at-loop c .loop .m) (getD (at-loop c .before .args .name .now) (at-loop c .loop .k) 0) (at-loop c .loop .inv .1) (omega (arith, c .shared-slice-known .given (at-loop c .loop .k))) .1
+abbrev byte : tie.After-shared-slice-known Inv-loop μ-loop → ℕ
+byte c = getD (at-loop c .before .args .name .now) (at-loop c .loop .k) 0
+
+fits : (c : tie.After-shared-slice-known Inv-loop μ-loop) → let m = at-loop c .loop .m in
+    m % half * factor + m / half + byte c < half * half
+fits c =
+    let l = at-loop c .loop in
+    mark-fits (l .m) (byte c) (l .inv .1) (omega (arith, c .shared-slice-known .given (l .k))) .1
 
 loop-holds : tie.Need-loop-holds Inv-loop μ-loop
 loop-holds c = (omega arith, omega arith, refl)
@@ -48,7 +54,8 @@ loop-less c = omega arith
 loop-again : tie.Need-loop-again Inv-loop μ-loop
 loop-again c =
     let l = at-loop c in
-    (omega arith, fits c, mark-next (l .loop .m) (l .before .args .name .now) (l .loop .k) (c .before .loop-test .taken) ∙ l .loop .inv .2)
+    let next = mark-next (l .loop .m) (l .before .args .name .now) (l .loop .k) (c .before .loop-test .taken) in
+    (omega arith, fits c, next ∙ l .loop .inv .2)
 
 returns : tie.Need-returns Inv-loop μ-loop
 returns c =
