@@ -59,9 +59,9 @@ unread read text comment digits out number e =
 -- ---- a list of names
 
 -- the answer that an arm knows is the answer
-pub list-by : (l : Listing) (first last : Lent (List ℕ)) (count : Lent ℕ) (r : ℕ) {a b : Header} → a ≡ b
-    → ListWritten b l first last count r → ListWritten a l first last count r
-list-by l first last count r e w = w ∙ sym (ap (λ (x : Header). listTold x l (first .was) (last .was)) e)
+pub list-by : (l : Listing) (first last : List ℕ) {x : ListOutcome} {a b : Header} → a ≡ b
+    → x ≡ listTold b l first last → x ≡ listTold a l first last
+list-by l first last e w = w ∙ sym (ap (λ (y : Header). listTold y l first last) e)
 
 -- what was listed is written
 pub listed : (x : Listing) (first last : Lent (List ℕ)) (count : Lent ℕ) {l : Listing} (r : ℕ)

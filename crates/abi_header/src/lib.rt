@@ -31,10 +31,8 @@ pub fn lookup_into(
     out: &mut [usize],
     number: &mut i64,
 ) -> u8
-    ensures {
-        λ r. ⌜ EntryLeft (lookupOf (now (header .entry)) (now (name .entry)))
-            (lentOf text) (lentOf comment) (lentOf digits) (lentOf out) (lentOf number) r ⌝
-    }
+    ensures { λ r. ⌜ EntryLeft (lookupOf (now (header .entry)) (now (name .entry)))
+        (lentOf text) (lentOf comment) (lentOf digits) (lentOf out) (lentOf number) r ⌝ }
 {
     if (digits.len() == DIGITS) & (out.len() == NUMBERS) {
         let read = entries::lookup(header, name, text, comment);
@@ -53,10 +51,8 @@ pub fn entry_into(
     out: &mut [usize],
     number: &mut i64,
 ) -> u8
-    ensures {
-        λ r. ⌜ EntryLeft (entryOf (now (header .entry)) card)
-            (lentOf text) (lentOf comment) (lentOf digits) (lentOf out) (lentOf number) r ⌝
-    }
+    ensures { λ r. ⌜ EntryLeft (entryOf (now (header .entry)) card)
+        (lentOf text) (lentOf comment) (lentOf digits) (lentOf out) (lentOf number) r ⌝ }
 {
     if (digits.len() == DIGITS) & (out.len() == NUMBERS) {
         let read = entries::read_entry(header, card, text, comment);

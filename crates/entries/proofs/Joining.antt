@@ -26,7 +26,8 @@ use Rattle.card.specs.Cards.{cardOf}
 use Rattle.roles.specs.declared.Role.{Role as Told}
 use Rattle.roles.specs.declared.Role.the-variants.{Entry, More, Neutral, Last, Refused}
 use Rattle.roles.specs.declared.CardRole.{CardRole}
-use Rattle.roles.specs.Roles.{Comment, Words, Role, entry, more, neutral, last, refused, isString, commentOf, wordsIn, roleBy, seenOf, roleIn}
+use Rattle.roles.specs.Roles.{Comment, Words, Role, entry, more, neutral, last, refused}
+use Rattle.roles.specs.Roles.{isString, commentOf, wordsIn, roleBy, seenOf, roleIn}
 use Rattle.roles.specs.Cards.{cardNo, roleNo, rolesOf}
 use Rattle.roles.proofs.Role as role
 use Rattle.roles.proofs.Cards.{roles-from, roles-past}

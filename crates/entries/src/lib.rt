@@ -364,7 +364,8 @@ fn join_within(
     comment: &mut [u8],
 ) -> Written
     requires { ⌜ Room (now header) i (now texts) ⌝ }
-    ensures { λ r. ⌜ WroteAt (now (header .entry)) i r (now (text .entry)) (now (comment .entry)) (now (text .exit)) (now (comment .exit)) ⌝ }
+    ensures { λ r. ⌜ WroteAt (now (header .entry)) i r
+        (now (text .entry)) (now (comment .entry)) (now (text .exit)) (now (comment .exit)) ⌝ }
 {
     let mut nowhere = [0u8; 0];
     let end = join_cards(header, i, texts, &mut nowhere);
@@ -388,7 +389,8 @@ fn join_within(
 // Uses the smaller scratch up to 108 cards: clearing the large one costs more than reading a card.
 fn write_joined(header: &[u8], i: usize, text: &mut [u8], comment: &mut [u8]) -> Written
     requires { ⌜ (i < length (now header) / 80) × (length (now header) / 80 ≤ 720) × (opens (wordsOf (roleNo (now header) i)) ≡ true) ⌝ }
-    ensures { λ r. ⌜ WroteAt (now (header .entry)) i r (now (text .entry)) (now (comment .entry)) (now (text .exit)) (now (comment .exit)) ⌝ }
+    ensures { λ r. ⌜ WroteAt (now (header .entry)) i r
+        (now (text .entry)) (now (comment .entry)) (now (text .exit)) (now (comment .exit)) ⌝ }
 {
     if header.len() / CARD <= FEW_CARDS {
         let mut few = [0u8; 8640];

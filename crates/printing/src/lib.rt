@@ -1,7 +1,7 @@
 // Prints what document 01 says of a header: its names, each with its kind and reading, and their count; or its refusal. What the
 // lines are is proved in `lines`, what is listed in `listing`.
-use header::Header;
-use header::LookupAnswer;
+use entries::LookupAnswer;
+use finding::Header;
 use libc::STDOUT_FILENO;
 use lines::Line;
 use listing::Listing;
@@ -15,9 +15,10 @@ pub fn print_header(header: &[u8]) {
     let answer = listing.header;
     match answer {
         Header::Accepted(_) => print_names(header, listing),
-        Header::Refused(why, card) => {
+        Header::Refused(stop) => {
+            let fault = stop.fault;
             let mut line = io::buffer();
-            let written = lines::refused_line(why, card, &mut line);
+            let written = lines::refused_line(fault, stop.card, &mut line);
             print_line(written, &line);
         }
     }
@@ -43,8 +44,8 @@ fn print_names(header: &[u8], listing: Listing) {
 
 // The line of an entry: its name stands on the first card that bears it, its reading on the last.
 fn print_entry(header: &[u8], first: usize, last: usize, text: &mut [u8], line: &mut [u8]) {
-    let entry = roles::named_at(header, first);
-    let looked = header::read_entry(header, last, text, line);
+    let entry = roles::role_at(header, first);
+    let looked = entries::read_entry(header, last, text, line);
     let answer = looked.answer;
     let LookupAnswer::Found(value) = answer else {
         return;

@@ -53,10 +53,8 @@ pub extern "C" fn widrekas_lookup(
     out: &mut [usize],
     number: &mut i64,
 ) -> u8
-    ensures {
-        λ r. ⌜ EntryLeft (lookupOf (now (header .entry)) (now (name .entry)))
-            (lentOf text) (lentOf comment) (lentOf digits) (lentOf out) (lentOf number) r ⌝
-    }
+    ensures { λ r. ⌜ EntryLeft (lookupOf (now (header .entry)) (now (name .entry)))
+        (lentOf text) (lentOf comment) (lentOf digits) (lentOf out) (lentOf number) r ⌝ }
 {
     abi_header::lookup_into(header, name, text, comment, digits, out, number)
 }
@@ -72,10 +70,8 @@ pub extern "C" fn widrekas_entry(
     out: &mut [usize],
     number: &mut i64,
 ) -> u8
-    ensures {
-        λ r. ⌜ EntryLeft (entryOf (now (header .entry)) card)
-            (lentOf text) (lentOf comment) (lentOf digits) (lentOf out) (lentOf number) r ⌝
-    }
+    ensures { λ r. ⌜ EntryLeft (entryOf (now (header .entry)) card)
+        (lentOf text) (lentOf comment) (lentOf digits) (lentOf out) (lentOf number) r ⌝ }
 {
     abi_header::entry_into(header, card, text, comment, digits, out, number)
 }

@@ -43,7 +43,8 @@ returns c =
 returns-2 : tie.Need-returns-2
 returns-2 c =
     let a = c .before .before .before .before .before .before .before .args in
-    unread (lookupOf (a .header .now) (a .name .now)) (a .text .now) (a .comment .now) (a .digits .now) (a .out .now) (a .number .now) (c .if1 .left)
+    unread (lookupOf (a .header .now) (a .name .now)) (a .text .now) (a .comment .now)
+    (a .digits .now) (a .out .now) (a .number .now) (c .if1 .left)
 
 pub lookup-into-spec : {M : Type 1} → statement M
 lookup-into-spec =

@@ -34,7 +34,7 @@ returns : tie.Need-returns
 returns c =
     let known = c .before .before .before in
     let a = known .before .before .before .before .args in
-    list-by (a .read) _ _ _ _ (known .answer .given .1)
+    list-by (a .read) (a .first .now) (a .last .now) (known .answer .given .1)
     (λ j. record {
       answer = c .number .ensures j;
       first = a .first .now;
@@ -54,7 +54,7 @@ returns-2 c =
     let first = second .before .before .before .before .before in
     let known = first .before .before .before .before .before in
     let a = known .before .before .before .before .args in
-    list-by (a .read) _ _ _ _ (known .enum-told .given .1)
+    list-by (a .read) (a .first .now) (a .last .now) (known .enum-told .given .1)
     (λ j. record {
       answer = 0;
       first = first .put-numbers .ensures j;

@@ -48,12 +48,15 @@ returns-2 : tie.Need-returns-2
 returns-2 c =
     let s = c .before .before .before .before .before in
     let t = s .args .t in
-    ap (λ (b : ℕ). eqb b 32) (sym (getD-take (t .len) (t .bytes) 0 0 (omega (arith, c .if2 .taken)))) ∙ one (bytesOf t) (omega (arith, taken s, c .if2 .taken))
+    let first = getD-take (t .len) (t .bytes) 0 0 (omega (arith, c .if2 .taken)) in
+    ap (λ (b : ℕ). eqb b (code " ")) (sym first) ∙ one (bytesOf t) (omega (arith, taken s, c .if2 .taken))
 
 returns-3 : tie.Need-returns-3
 returns-3 c =
     let s = c .before .before .before .before .before in
-    some (bytesOf (s .args .t)) (λ (e : length (bytesOf (s .args .t)) ≡ 0). c .before .before .if1 .left (omega (arith, taken s))) (λ (e : length (bytesOf (s .args .t)) ≡ 1). c .if2 .left (omega (arith, taken s)))
+    let t = bytesOf (s .args .t) in
+    some t (λ (e : length t ≡ 0). c .before .before .if1 .left (omega (arith, taken s)))
+    (λ (e : length t ≡ 1). c .if2 .left (omega (arith, taken s)))
 
 pub adds-nothing-spec : {M : Type 1} → statement M
 adds-nothing-spec = tie.close (tie.spec returns array-read-result returns-2 returns-3)

@@ -44,7 +44,8 @@ join-card-requires : tie.Need-join-card-requires Inv-loop μ-loop
 join-card-requires c κs =
     let inside = c .before .before .before in
     let at = inside .before in
-    (inside .loop-test .taken, space (room at) (at .loop .inv .0) (not-false _ (c .before .before .if1 .left)) (inside .loop-test .taken) (long at))
+    let goes = not-false _ (c .before .before .if1 .left) in
+    (inside .loop-test .taken, space (room at) (at .loop .inv .0) goes (inside .loop-test .taken) (long at))
 
 add-j : tie.Need-add-j Inv-loop μ-loop
 add-j c = search needs
@@ -57,7 +58,8 @@ loop-again c =
     let joined = c .before .before .before .before in
     let test = joined .before .before .before in
     let at = test .before .before in
-    (on-card (room at) (at .loop .inv .0) (not-false _ (test .if1 .left)) (test .before .loop-test .taken) (joined .join-card .ensures), search needs, search needs)
+    let goes = not-false _ (test .if1 .left) in
+    (on-card (room at) (at .loop .inv .0) goes (test .before .loop-test .taken) (joined .join-card .ensures), search needs, search needs)
 
 same-length-3 : tie.Need-same-length-3 Inv-loop μ-loop
 same-length-3 c = long (c .before)

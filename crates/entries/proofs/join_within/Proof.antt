@@ -52,7 +52,8 @@ returns c =
     let fit = test .before in
     let first = fit .before .before .before .before in
     let a = first .before .before .before .before .before .before .before .args in
-    joined-wrote (first .join-cards .ensures) (a .text .now) (a .comment .now) (fit .both-fit .ensures) (test .if1 .taken) (put .put-at .ensures) (again .join-cards2 .ensures)
+    joined-wrote (first .join-cards .ensures) (a .text .now) (a .comment .now) (fit .both-fit .ensures) (test .if1 .taken)
+    (put .put-at .ensures) (again .join-cards2 .ensures)
 
 same-length-4 : tie.Need-same-length-4
 same-length-4 c = search needs
@@ -67,7 +68,8 @@ returns-2 c =
     let fit = test .before in
     let first = fit .before .before .before .before in
     let a = first .before .before .before .before .before .before .before .args in
-    silent-wrote (first .join-cards .ensures) (a .text .now) (a .comment .now) (fit .both-fit .ensures) (test .if1 .taken) (put .put-at .ensures) (c .if2 .left)
+    silent-wrote (first .join-cards .ensures) (a .text .now) (a .comment .now) (fit .both-fit .ensures) (test .if1 .taken)
+    (put .put-at .ensures) (c .if2 .left)
 
 same-length-6 : tie.Need-same-length-6
 same-length-6 c = search needs

@@ -41,7 +41,9 @@ returns c =
     let read = c .before .before .before in
     let h = read .before .before .before .args .header .now in
     let i = read .before .before .before .args .i in
-    let part : length (take 80 (drop (i * 80) h)) ≡ 80 = omega (arith, length-take 80 (drop (i * 80) h), length-drop (i * 80) h, read .before .before .before .pre) in
+    let rest = drop (i * 80) h in
+    let within = read .before .before .before .pre in
+    let part : length (take 80 rest) ≡ 80 = omega (arith, length-take 80 rest, length-drop (i * 80) h, within) in
     c .read-card .ensures
     ∙ ap (λ (t : Text). cardOf (t .bytes)) (read .text-of .ensures)
     ∙ ap (λ (l : List ℕ). cardOf (padded size (take size l))) (take-rest h (i * 80))
