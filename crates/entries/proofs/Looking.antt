@@ -5,7 +5,7 @@ use native.Mathlib.Omega.{arith}
 use mathlib.Core.Path.{_≡_, refl, sym, ap, subst, _∙_}
 use mathlib.Core.Bool.{Bool, true, false, cond}
 use mathlib.Core.List.{List, [], _∷_}
-use mathlib.Core.Option.{Option, none, some}
+use mathlib.Core.Option.{none, some}
 use lib.ListN.{length, drop}
 use lib.Seq.{drop-drop}
 use Rattle.refusal.specs.declared.Refusal.the-variants as R
@@ -14,17 +14,16 @@ use Rattle.text.specs.declared.Place.{Place}
 use Rattle.text.specs.declared.Place.the-variants.{At, Nowhere}
 use Rattle.text.specs.Same.{same}
 use Rattle.text.proofs.Finding.{Under}
-use Rattle.roles.specs.Roles.{Held, Role, entry, more, neutral, last, refused}
+use Rattle.roles.specs.Roles.{Role, entry, more, neutral, last, refused}
 use Rattle.roles.specs.Cards.{rolesOf, isBadLength}
 use Rattle.roles.proofs.Cards.{role-count, roles-past}
 use Rattle.joining.specs.Lookup.{orElse, whole, lookup}
 use Rattle.joining.proofs.Names.{or-none}
 use Rattle.joining.proofs.Answers.{or-assoc}
 use Rattle.finding.specs.declared.Stop.{Stop}
-use Rattle.finding.specs.declared.Header.{Header}
 use Rattle.finding.specs.declared.Header.the-variants.{Accepted, Refused}
 use Rattle.finding.specs.Finding.{stopAt, headerFrom, headerOf, lastFrom, lastOf}
-use Rattle.entries.specs.Answers.{entryHead}
+use Rattle.entries.specs.Answers.{entryHead, entryAt}
 
 -- a header of a bad length is not accepted
 pub accepted-good : (h : List ℕ) (k : ℕ) → headerOf h ≡ Accepted k → isBadLength (length h) ≡ false
@@ -39,11 +38,7 @@ accepted-good h k e = go (isBadLength (length h)) e
     go false d = refl
 
 -- ---- the entry at a place
-abbrev pub entryAt : Place → List Role → Option Held
-entryAt (At k) roles = entryHead (drop k roles)
-entryAt Nowhere roles = none
-
-drop-next : (all : List Role) (i : ℕ) (rs : List Role) (r : Role) → drop i all ≡ r ∷ rs → drop (suc i) all ≡ rs
+pub drop-next : (all : List Role) (i : ℕ) (rs : List Role) (r : Role) → drop i all ≡ r ∷ rs → drop (suc i) all ≡ rs
 drop-next all i rs r e = ap (λ (k : ℕ). drop k all) (sym (add-one i)) ∙ sym (drop-drop 1 i all) ∙ ap (drop 1) e
 
 module _ (name : List ℕ) where

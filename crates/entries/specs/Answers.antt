@@ -8,6 +8,8 @@ use lib.ListN.{length, drop}
 use lib.Seq.{sets}
 use Rattle.refusal.specs.declared.Refusal.the-variants as R
 use Rattle.refusal.specs.Numbers.{faultOf}
+use Rattle.text.specs.declared.Place.{Place}
+use Rattle.text.specs.declared.Place.the-variants.{At, Nowhere}
 use Rattle.text.specs.Text.{textOf}
 use Rattle.roles.specs.Roles.{Comment, Held, Role, entry, more, neutral, last, refused}
 use Rattle.roles.specs.Cards.{rolesOf, isBadLength}
@@ -85,6 +87,11 @@ entryHead (more t c ∷ h) = none
 entryHead (neutral ∷ h) = none
 entryHead (last ∷ h) = none
 entryHead (refused f ∷ h) = none
+
+-- the entry at a place of a header's cards
+abbrev pub entryAt : Place → List Role → Option Held
+entryAt (At k) roles = entryHead (drop k roles)
+entryAt Nowhere roles = none
 
 -- reading the entry at card i, whatever stands elsewhere in the header; a header of a bad length has no cards
 unfoldable pub entryOf : List ℕ → ℕ → List ℕ → List ℕ → LookupOutcome

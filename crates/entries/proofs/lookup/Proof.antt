@@ -13,8 +13,8 @@ use Rattle.finding.specs.declared.Header.the-variants.{Accepted, Refused}
 use Rattle.finding.specs.declared.Found.the-variants as F
 use Rattle.finding.specs.Finding.{headerOf, lastOf, findOf}
 use Rattle.finding.proofs.Searching.{header-refused, header-read}
-use Rattle.entries.specs.Answers.{leftBy, given, lookedUp, lookupOf}
-use Rattle.entries.proofs.Looking.{entryAt, accepted-good, last-found, last-within}
+use Rattle.entries.specs.Answers.{leftBy, given, lookedUp, lookupOf, entryAt}
+use Rattle.entries.proofs.Looking.{accepted-good, last-found, last-within}
 use borrow.Author.Needs.{needs}
 use Rattle.entries.proofs.lookup.Statement.{statement}
 use Rattle.entries.proofs.lookup.Tie as tie
