@@ -28,11 +28,6 @@ use Rattle.listing.specs.Inserting.{bearsOf, placeBy, insertionBy, inser
 use Rattle.listing.specs.Marks.{bearsAt}
 
 -- ---- roles
--- a role that is an entry with this name
-pub record Is (role : Role) (name : List ℕ) : Type 0 where
-  pub held : Held
-  pub is : role ≡ entry name held
-
 -- an entry has the name that stands beside it
 named-by : (t : Told) (s : CardRole) (name : List ℕ) (v : Held) → roleIn t s ≡ entry name v → bytesOf (s .name) ≡ name
 named-by (T.Entry w joins) s name v e = cc

@@ -1,0 +1,260 @@
+-- The list of a header's names agrees with lookup: the cards are walked up to END with any table that is sound, and for each name
+-- the last entry that the table gives changes with each card just as the place of `lastFrom` does.
+use Prim.Native.Nat.{ℕ, zero, suc, _<_}
+use native.Mathlib.Omega.{arith}
+use mathlib.Core.Path.{_≡_, refl, sym, ap, ap₂, subst, _∙_}
+use mathlib.Core.Bool.{Bool, true, false, cond, _&&_}
+use mathlib.Core.List.{List, [], _∷_, map}
+use mathlib.Core.Option.{Option, none, some}
+use lib.Dec.{leb}
+use lib.ListN.{length, getD, drop, length-map, List·getD-append}
+use lib.Seq.{sets, ext-getD}
+use Rattle.refusal.specs.declared.Fault.{Fault}
+use Rattle.refusal.specs.declared.Refusal.the-variants as R
+use Rattle.refusal.specs.Numbers.{faultOf}
+use Rattle.text.specs.declared.Place.{Place}
+use Rattle.text.specs.declared.Place.the-variants.{At, Nowhere}
+use Rattle.text.specs.Same.{same}
+use Rattle.text.specs.Text.{filled}
+use Rattle.roles.specs.Roles.{Held, Role, entry, more, neutral, last, refused}
+use Rattle.roles.specs.Cards.{rolesOf}
+use Rattle.joining.specs.Lookup.{lookup, whole, orElse}
+use Rattle.finding.specs.declared.Header.{Header}
+use Rattle.finding.specs.declared.Header.the-variants.{Accepted}
+use Rattle.finding.specs.Finding.{headerOf, lastFrom, lastOf}
+use Rattle.entries.specs.declared.LookupAnswer.the-variants as L
+use Rattle.entries.specs.Answers.{LookupOutcome, leftBy, found, untouched, written, bytesIn, given, lookedUp, lookupOf}
+use Rattle.entries.specs.Answers.{entryHead, entryAt, entryOf}
+use Rattle.entries.proofs.Looking.{accepted-good, last-found}
+use Rattle.listing.specs.declared.Listing.{Listing}
+use Rattle.listing.specs.Listing.{places, free, Table, empty, nameOf, placeIn, tabled, byListed, byHeader, listOf, placeOfEntry}
+use Rattle.agreeing.specs.Firsts.{isAmong, firstsOf, numberAt, lastNumber, lastsOf}
+use Rattle.agreeing.specs.Agreeing.{Contents, ByLast, StandsAt, StandsIn, Agreement, EachTaken, Once, FoundIn}
+use Rattle.agreeing.specs.Agreeing.{EachStanding, EachFound, Missing, OnlyMissing, SameRefusal}
+use Rattle.agreeing.proofs.Places.{lastAt, nameNo, placeOfName, lastInTable, hit-under, hit-named}
+use Rattle.agreeing.proofs.Tables.{Entry, Sound, Seen, Comes, comes}
+use Rattle.agreeing.proofs.Ending.{until-end, end-under}
+
+sound-empty : (roles : List Role) → Sound roles empty
+sound-empty roles = record { alike = refl; own = λ k p. absurd (omega arith); entries = λ k p. absurd (omega arith) }
+
+seen-empty : (roles : List Role) → Seen roles [] empty
+unfolding isAmong placeIn
+seen-empty roles = record { names = λ name. refl }
+
+map-at : (f : ℕ → ℕ) (l : List ℕ) (k d : ℕ) → k < length l → getD (map f l) k d ≡ f (getD l k d)
+map-at f [] k d p = absurd (omega arith)
+map-at f (x ∷ l) zero d p = refl
+map-at f (x ∷ l) (suc k) d p = map-at f l k d (omega arith)
+
+filled-at : (mark n : ℕ) (l : List ℕ) (k d : ℕ) → k < length l → getD (filled mark n l) k d ≡ getD l k d
+unfolding filled
+filled-at mark n l k d p = List·getD-append l _ d k p
+
+-- a name that is not found has no last entry
+no-last : (name : List ℕ) (rs : List Role) (i : ℕ) (p : Place) → lookup name rs ≡ none → lastFrom name rs i p ≡ p
+unfolding lookup lastFrom
+no-last name [] i p e = refl
+no-last name (entry m v ∷ rs) i p e = go (lookup name rs) refl (same m name) e (no-last name rs (suc i))
+  where
+    go : (o : Option Held) → lookup name rs ≡ o → (b : Bool) → orElse o (cond b (some (whole v rs)) none) ≡ none
+        → ((q : Place) → lookup name rs ≡ none → lastFrom name rs (suc i) q ≡ q) → lastFrom name rs (suc i) (cond b (At i) p) ≡ p
+    go (some w) d b x then = absurd (let z : _≡_ {A = ℕ} 0 1 = cc in omega arith)
+    go none d true x then = absurd (let z : _≡_ {A = ℕ} 0 1 = cc in omega arith)
+    go none d false x then = then p d
+no-last name (more t c ∷ rs) i p e = no-last name rs (suc i) p e
+no-last name (neutral ∷ rs) i p e = no-last name rs (suc i) p e
+no-last name (last ∷ rs) i p e = refl
+no-last name (refused f ∷ rs) i p e = no-last name rs (suc i) p e
+
+module _ (h : List ℕ) (end : ℕ) (a : headerOf h ≡ Accepted end) where
+  abbrev roles : List Role
+  roles = rolesOf h
+
+  built : Comes roles roles [] end 0 empty
+  built =
+      comes roles (until-end h end a) [] 0 empty refl (sound-empty roles) (omega arith) (omega (arith, end-under h end a))
+      (seen-empty roles)
+
+  abbrev table : Table
+  table = built .u
+
+  -- the first card of place k, and the place of a name
+  abbrev first-card : ℕ → ℕ
+  first-card k = getD (table .first) k free
+
+  abbrev place : List ℕ → Place
+  place name = placeOfName roles (table .first) name
+
+  list-is : listOf h ≡ tabled (Accepted end) table
+  unfolding listOf
+  list-is = ap (λ (x : Header). byHeader x roles) a ∙ ap (byListed end) (built .is)
+
+  -- the last entry of a name, by its place in the table
+  last-is : (name : List ℕ) → lastInTable roles table name ≡ lastOf name roles
+  unfolding placeIn
+  last-is name = built .lasts name
+
+  firsts-are : table .first ≡ firstsOf roles
+  firsts-are = built .firsts
+
+  last-at : (k : ℕ) → k < length (table .first) → At (getD (table .last) k free) ≡ lastOf (nameNo roles (first-card k)) roles
+  last-at k p = sym (ap (λ (q : Place). lastAt q (table .last)) (built .sound .own k p)) ∙ last-is (nameNo roles (first-card k))
+
+  lasts-are : table .last ≡ lastsOf roles
+  lasts-are =
+      let f : ℕ → ℕ = λ (i : ℕ). lastNumber roles (nameOf (getD roles i neutral)) in
+      let long : length (table .last) ≡ length (map f (table .first)) = built .sound .alike ∙ sym (length-map (table .first) f) in
+      ext-getD free (table .last) (map f (table .first)) long
+      (λ k p.
+      let q : k < length (table .first) = omega (arith, built .sound .alike, p) in
+      ap numberAt (last-at k q) ∙ sym (map-at f (table .first) k free q))
+      ∙ ap (map f) firsts-are
+
+  count-is : listOf h .count ≡ length (table .first)
+  count-is = ap (λ (x : Listing). x .count) list-is
+
+  first-in : (k : ℕ) → k < length (table .first) → getD (listOf h .first) k free ≡ first-card k
+  first-in k p = ap (λ (x : Listing). getD (x .first) k free) list-is ∙ filled-at free places (table .first) k free p
+
+  last-in : (k : ℕ) → k < length (table .first) → getD (listOf h .last) k free ≡ getD (table .last) k free
+  last-in k p =
+      ap (λ (x : Listing). getD (x .last) k free) list-is
+      ∙ filled-at free places (table .last) k free (omega (arith, built .sound .alike, p))
+
+  -- a name that stands at a place has it in the table, and the other way round
+  under : (name : List ℕ) (k : ℕ) → StandsAt h name k → k < length (table .first)
+  under name k s = omega (arith, count-is, s .within)
+
+  place-of : (name : List ℕ) (k : ℕ) → StandsAt h name k → place name ≡ At k
+  place-of name k s =
+      let p : k < length (table .first) = under name k s in
+      let named : nameNo roles (first-card k) ≡ name = ap (nameNo roles) (sym (first-in k p)) ∙ ap nameOf (s .bears) in
+      ap place (sym named) ∙ built .sound .own k p
+
+  stands-own : (k : ℕ) → k < length (table .first) → StandsAt h (nameNo roles (first-card k)) k
+  stands-own k p =
+      let e : Entry roles (first-card k) = built .sound .entries k p in
+      record {
+        within = omega (arith, count-is, p);
+        held = e .held;
+        bears = ap (λ (i : ℕ). getD roles i neutral) (first-in k p) ∙ e .is;
+      }
+
+  stands-at : (name : List ℕ) (k : ℕ) → place name ≡ At k → StandsAt h name k
+  stands-at name k e =
+      subst (λ (m : List ℕ). StandsAt h m k) (hit-named roles name (table .first) k e)
+      (stands-own k (hit-under roles name (table .first) k e))
+
+  -- lookup by the place of a name
+  lookup-by : (name : List ℕ) (p : Place) → place name ≡ p → lookup name roles ≡ entryAt (lastAt p (table .last)) roles
+  lookup-by name p e =
+      sym (last-found name roles)
+      ∙ ap (λ (q : Place). entryAt q roles) (sym (last-is name) ∙ ap (λ (q : Place). lastAt q (table .last)) e)
+
+  -- an accepted header answers by its cards
+  by-cards : (name text comment : List ℕ) → lookupOf h name text comment ≡ given (lookup name roles) text comment
+  unfolding lookupOf
+  by-cards name text comment = ap (λ (x : Header). lookedUp x roles name text comment) a
+
+  by-number : (i : ℕ) (text comment : List ℕ) → entryOf h i text comment ≡ given (entryHead (drop i roles)) text comment
+  unfolding entryOf
+  by-number i text comment = rw (accepted-good h end a)
+
+  at-place : (k : ℕ) (text comment : List ℕ) → let i = getD (listOf h .last) k free in
+      placeOfEntry h (listOf h .last) k text comment ≡ given (entryHead (drop i roles)) text comment
+  unfolding placeOfEntry
+  at-place k text comment = by-number (getD (listOf h .last) k free) text comment
+
+  found-or : (name : List ℕ) (o : Option Held) → lookup name roles ≡ o → StandsIn h name → FoundIn h name
+  found-or name (some v) e s = record { held = v; is = e }
+  found-or name none e s =
+      let none-at : At (getD (table .last) (s .place) free) ≡ Nowhere =
+      sym (ap (λ (q : Place). lastAt q (table .last)) (place-of name (s .place) (s .stands)))
+      ∙ last-is name
+      ∙ no-last name roles 0 Nowhere e in
+      absurd (let z : _≡_ {A = ℕ} 0 1 = cc in omega arith)
+
+  stands-or : (name : List ℕ) (p : Place) → place name ≡ p → FoundIn h name → StandsIn h name
+  stands-or name (At k) e f = record { place = k; stands = stands-at name k e }
+  stands-or name Nowhere e f =
+      let gone : _≡_ {A = Option Held} none (some (f .held)) = sym (lookup-by name Nowhere e) ∙ f .is in
+      absurd (let z : _≡_ {A = ℕ} 0 1 = cc in omega arith)
+
+  missing-or : (name : List ℕ) (p : Place) → place name ≡ p → (StandsIn h name → ⊥) → lookup name roles ≡ none
+  missing-or name (At k) e s = absurd (s (record { place = k; stands = stands-at name k e }))
+  missing-or name Nowhere e s = lookup-by name Nowhere e
+
+-- what is written is not refused with 12
+not-12 : (v : Held) (text comment : List ℕ) → written v text comment .answer .answer ≡ L.Refused (faultOf R.NameNotFound) → ⊥
+unfolding written
+not-12 v text comment e = go (leb (length s) (length text) && leb (length c) (length comment)) e
+  where
+    s : List ℕ
+    s = v .words .text
+
+    c : List ℕ
+    c = bytesIn (v .words .comment)
+
+    fits : LookupOutcome
+    fits = leftBy (found v) (sets text 0 s) (sets comment 0 c)
+
+    short : LookupOutcome
+    short = untouched (L.Refused (faultOf R.BufferShort)) text comment
+
+    go : (b : Bool) → cond b fits short .answer .answer ≡ L.Refused (faultOf R.NameNotFound) → ⊥
+    go true x = let z : _≡_ {A = ℕ} 0 1 = cc in omega arith
+    go false x =
+        let fault : faultOf R.BufferShort ≡ faultOf R.NameNotFound = cc in
+        let why : R.BufferShort ≡ R.NameNotFound = ap (λ (f : Fault). f .why) fault in
+        let z : _≡_ {A = ℕ} 0 1 = cc in
+        omega arith
+
+pub by-last : ByLast
+by-last name roles = sym (last-found name roles)
+
+pub contents : Contents
+contents h end a =
+    list-is h end a
+    ∙ ap₂ (λ (f l : List ℕ). tabled (Accepted end) (record { first = f; last = l })) (firsts-are h end a) (lasts-are h end a)
+
+pub agreement : Agreement
+agreement h end a name k s text comment =
+    at-place h end a k text comment
+    ∙ ap (λ (i : ℕ). given (entryHead (drop i (rolesOf h))) text comment) (last-in h end a k (under h end a name k s))
+    ∙ ap (λ (o : Option Held). given o text comment) (sym (lookup-by h end a name (At k) (place-of h end a name k s)))
+    ∙ sym (by-cards h end a name text comment)
+
+pub each-taken : EachTaken
+each-taken h end a k p =
+    let i = first-card h end a k in
+    record { name = nameNo (rolesOf h) i; stands = stands-own h end a k (omega (arith, count-is h end a, p)) }
+
+pub once : Once
+once h end a name j k s t = let e : At j ≡ At k = sym (place-of h end a name j s) ∙ place-of h end a name k t in cc
+
+pub each-standing : EachStanding
+each-standing h end a name s = found-or h end a name (lookup name (rolesOf h)) refl s
+
+pub each-found : EachFound
+each-found h end a name f = stands-or h end a name (place h end a name) refl f
+
+pub missing : Missing
+missing h end a name s text comment =
+    by-cards h end a name text comment
+    ∙ ap (λ (o : Option Held). given o text comment) (missing-or h end a name (place h end a name) refl s)
+
+pub only-missing : OnlyMissing
+only-missing h end a name text comment e s =
+    let f : FoundIn h name = each-standing h end a name s in
+    let so : lookupOf h name text comment ≡ written (f .held) text comment =
+    by-cards h end a name text comment ∙ ap (λ (o : Option Held). given o text comment) (f .is) in
+    not-12 (f .held) text comment (sym (ap (λ (o : LookupOutcome). o .answer .answer) so) ∙ e)
+
+pub same-refusal : SameRefusal
+unfolding listOf lookupOf
+same-refusal h s e =
+    let roles = rolesOf h in (
+      ap (λ (x : Header). byHeader x roles) e,
+      λ name text comment. ap (λ (x : Header). lookedUp x roles name text comment) e,
+    )

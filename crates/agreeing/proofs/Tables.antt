@@ -1,0 +1,223 @@
+-- What the cards of a header up to END come to in a table.
+use Prim.Native.Nat.{ℕ, suc, _+_, _<_, _≤_}
+use native.Mathlib.Omega.{arith}
+use mathlib.Core.Path.{_≡_, refl, sym, ap, ap₂, subst, _∙_}
+use mathlib.Core.Bool.{Bool, true, false, cond}
+use mathlib.Core.List.{List, [], _∷_, _++_, append-assoc, append-nil}
+use borrow.Author.Tests.{lt-ltb, ltb-true, ltb-false}
+use lib.Dec.{ltb}
+use lib.ListN.{length, getD, take, drop, length-append, length-set, List·getD-append}
+use lib.Seq.{getD-at, getD-drop}
+use Rattle.text.specs.declared.Place.{Place}
+use Rattle.text.specs.declared.Place.the-variants.{At, Nowhere}
+use Rattle.text.specs.Same.{same}
+use Rattle.roles.specs.Roles.{Comment, Held, Role, entry, more, neutral, last}
+use Rattle.finding.specs.Finding.{lastFrom}
+use Rattle.entries.proofs.Looking.{drop-next}
+use Rattle.listing.specs.Listing.{places, free, Table, nameOf, listed, full, putAgain, putNew, put, listFrom}
+use Rattle.agreeing.specs.Firsts.{isAmong, firstsFrom}
+use Rattle.agreeing.proofs.Places.{same-self, isPlace, orPlace, ifNamed, nameNo, placeOfName, lastInTable, place-put}
+use Rattle.agreeing.proofs.Places.{last-known, last-new}
+
+-- END stands at card k, and no card before it is END or refused
+pub data Until : ℕ → List Role → Type 0 where
+  here : {rs : List Role} → Until 0 (last ∷ rs)
+  past-entry : (n : List ℕ) (v : Held) {k : ℕ} {rs : List Role} → Until k rs → Until (suc k) (entry n v ∷ rs)
+  past-more : (t : List ℕ) (c : Comment) {k : ℕ} {rs : List Role} → Until k rs → Until (suc k) (more t c ∷ rs)
+  past-neutral : {k : ℕ} {rs : List Role} → Until k rs → Until (suc k) (neutral ∷ rs)
+
+-- a role that is an entry with this name
+pub record Is (role : Role) (name : List ℕ) : Type 0 where
+  pub held : Held
+  pub is : role ≡ entry name held
+
+-- card i is an entry
+abbrev pub Entry : List Role → ℕ → Type 0
+Entry roles i = Is (getD roles i neutral) (nameNo roles i)
+
+-- a table with one place for each of its names, and entries for first cards
+pub record Sound (roles : List Role) (t : Table) : Type 0 where
+  pub alike : length (t .last) ≡ length (t .first)
+  pub own : (k : ℕ) → k < length (t .first) → placeOfName roles (t .first) (nameNo roles (getD (t .first) k free)) ≡ At k
+  pub entries : (k : ℕ) → k < length (t .first) → Entry roles (getD (t .first) k free)
+
+-- the names that were seen are those of the table
+pub record Seen (roles : List Role) (seen : List (List ℕ)) (t : Table) : Type 0 where
+  pub names : (name : List ℕ) → isAmong name seen ≡ isPlace (placeOfName roles (t .first) name)
+
+-- the cards rs, END among them at k, put into a table t
+pub record Comes (roles rs : List Role) (seen : List (List ℕ)) (k i : ℕ) (t : Table) : Type 0 where
+  pub u : Table
+  pub is : listFrom roles (take k rs) i t ≡ listed u
+  pub sound : Sound roles u
+  pub lasts : (name : List ℕ) → lastInTable roles u name ≡ lastFrom name rs i (lastInTable roles t name)
+  pub firsts : u .first ≡ t .first ++ firstsFrom seen rs i
+
+module _ (roles : List Role) (t : Table) (S : Sound roles t) where
+  sound-known : (j i : ℕ) → Sound roles (putAgain t j i)
+  sound-known j i = record { alike = length-set (t .last) j i ∙ S .alike; own = S .own; entries = S .entries }
+
+  module _ (n : List ℕ) (v : Held) (i : ℕ) (role : getD roles i neutral ≡ entry n v) (e : placeOfName roles (t .first) n ≡ Nowhere) where
+    -- the first cards then
+    abbrev firsts₁ : List ℕ
+    firsts₁ = t .first ++ i ∷ []
+
+    -- what holds of the first cards, and of card i behind them
+    split : {P : ℕ → Type 0} → ((k : ℕ) → k < length (t .first) → P k) → P (length (t .first)) → (k : ℕ) → k < length firsts₁ → P k
+    split {P} f g k p = go (ltb k (length (t .first))) refl
+      where
+        go : (b : Bool) → ltb k (length (t .first)) ≡ b → P k
+        go true d = f k (ltb-true k (length (t .first)) d)
+        go false d =
+            let q : length (t .first) ≤ k = ltb-false k (length (t .first)) d in
+            let z : length (t .first) ≡ k = omega (arith, length-append (t .first) (i ∷ []), p, q) in
+            subst P z g
+
+    old-at : (k : ℕ) → k < length (t .first) → getD (t .first) k free ≡ getD firsts₁ k free
+    old-at k p = sym (List·getD-append (t .first) (i ∷ []) free k p)
+
+    new-at : i ≡ getD firsts₁ (length (t .first)) free
+    new-at = sym (getD-at (t .first) i [] free (length (t .first)) refl)
+
+    -- a place by the name of a card
+    abbrev Own : ℕ → ℕ → Type 0
+    Own x k = placeOfName roles firsts₁ (nameNo roles x) ≡ At k
+
+    own-old : (k : ℕ) → k < length (t .first) → Own (getD (t .first) k free) k
+    own-old k p =
+        let name = nameNo roles (getD (t .first) k free) in
+        place-put roles name (t .first) i n (ap nameOf role)
+        ∙ ap (λ (q : Place). orPlace q (ifNamed (same n name) (length (t .first)))) (S .own k p)
+
+    own-new : Own i (length (t .first))
+    own-new =
+        ap (placeOfName roles firsts₁) (ap nameOf role)
+        ∙ place-put roles n (t .first) i n (ap nameOf role)
+        ∙ ap₂ (λ (q : Place) (b : Bool). orPlace q (ifNamed b (length (t .first)))) e (same-self n)
+
+    entry-new : Entry roles i
+    entry-new = record { held = v; is = role ∙ ap (λ (m : List ℕ). entry m v) (sym (ap nameOf role)) }
+
+    sound-new : Sound roles (putNew t i)
+    sound-new =
+        record {
+          alike = length-append (t .last) (i ∷ []) ∙ ap (λ (x : ℕ). x + 1) (S .alike) ∙ sym (length-append (t .first) (i ∷ []));
+          own =
+              split {P = λ (k : ℕ). Own (getD firsts₁ k free) k}
+              (λ k p. subst (λ (x : ℕ). Own x k) (old-at k p) (own-old k p))
+              (subst (λ (x : ℕ). Own x (length (t .first))) new-at own-new);
+          entries =
+              split {P = λ (k : ℕ). Entry roles (getD firsts₁ k free)}
+              (λ k p. subst (Entry roles) (old-at k p) (S .entries k p))
+              (subst (Entry roles) new-at entry-new);
+        }
+
+    seen-new : (seen : List (List ℕ)) → Seen roles seen t → Seen roles (n ∷ seen) (putNew t i)
+    unfolding isAmong
+    seen-new seen s =
+        record {
+          names =
+              λ name.
+              go name (same n name) (placeOfName roles (t .first) name) (s .names name)
+              ∙ ap isPlace (sym (place-put roles name (t .first) i n (ap nameOf role)));
+        }
+      where
+        go : (name : List ℕ) (b : Bool) (p : Place) → isAmong name seen ≡ isPlace p
+            → cond b true (isAmong name seen) ≡ isPlace (orPlace p (ifNamed b (length (t .first))))
+        go name true (At j) h = refl
+        go name true Nowhere h = refl
+        go name false (At j) h = h
+        go name false Nowhere h = h
+
+  module _ (n : List ℕ) (v : Held) (rs : List Role) (seen : List (List ℕ)) (k i : ℕ) (s : Seen roles seen t) where
+    -- the first cards, by whether the name was seen
+    firsts-by : (p : Place) → placeOfName roles (t .first) n ≡ p
+        → t .first ++ cond (isPlace p) (firstsFrom seen rs (suc i)) (i ∷ firstsFrom (n ∷ seen) rs (suc i))
+        ≡ t .first ++ firstsFrom seen (entry n v ∷ rs) i
+    unfolding firstsFrom
+    firsts-by p e =
+        ap (λ (b : Bool). t .first ++ cond b (firstsFrom seen rs (suc i)) (i ∷ firstsFrom (n ∷ seen) rs (suc i)))
+        (sym (s .names n ∙ ap isPlace e))
+
+    on-known : (j : ℕ) → placeOfName roles (t .first) n ≡ At j → Comes roles rs seen k (suc i) (putAgain t j i)
+        → Comes roles (entry n v ∷ rs) seen (suc k) i t
+    unfolding listFrom lastFrom
+    on-known j e r =
+        record {
+          u = r .u;
+          is = ap (λ (p : Place). put p i t (listFrom roles (take k rs) (suc i))) e ∙ r .is;
+          sound = r .sound;
+          lasts = λ name. r .lasts name ∙ ap (lastFrom name rs (suc i)) (last-known roles t (S .alike) n i j e name);
+          firsts = r .firsts ∙ firsts-by (At j) e;
+        }
+
+    on-new : nameNo roles i ≡ n → length (t .first) < places → placeOfName roles (t .first) n ≡ Nowhere
+        → Comes roles rs (n ∷ seen) k (suc i) (putNew t i) → Comes roles (entry n v ∷ rs) seen (suc k) i t
+    unfolding listFrom lastFrom
+    on-new is room e r =
+        let then = listFrom roles (take k rs) (suc i) in
+        record {
+          u = r .u;
+          is =
+              ap (λ (p : Place). put p i t then) e
+              ∙ ap (λ (b : Bool). cond b (then (putNew t i)) (full i)) (lt-ltb (length (t .first)) places room)
+              ∙ r .is;
+          sound = r .sound;
+          lasts = λ name. r .lasts name ∙ ap (lastFrom name rs (suc i)) (last-new roles t (S .alike) n i is e name);
+          firsts = r .firsts ∙ append-assoc (t .first) (i ∷ []) (firstsFrom (n ∷ seen) rs (suc i)) ∙ firsts-by Nowhere e;
+        }
+
+  module _ (rs : List Role) (seen : List (List ℕ)) (k i : ℕ) (r : Comes roles rs seen k (suc i) t) where
+    on-more : (s : List ℕ) (c : Comment) → Comes roles (more s c ∷ rs) seen (suc k) i t
+    unfolding listFrom lastFrom firstsFrom
+    on-more s c = record { u = r .u; is = r .is; sound = r .sound; lasts = r .lasts; firsts = r .firsts }
+
+    on-neutral : Comes roles (neutral ∷ rs) seen (suc k) i t
+    unfolding listFrom lastFrom firstsFrom
+    on-neutral = record { u = r .u; is = r .is; sound = r .sound; lasts = r .lasts; firsts = r .firsts }
+
+  -- at END
+  on-end : (rs : List Role) (seen : List (List ℕ)) (i : ℕ) → Comes roles (last ∷ rs) seen 0 i t
+  unfolding listFrom lastFrom firstsFrom
+  on-end rs seen i = record { u = t; is = refl; sound = S; lasts = λ name. refl; firsts = sym (append-nil (t .first)) }
+
+role-here : (roles : List Role) (i : ℕ) (r : Role) (rs : List Role) → drop i roles ≡ r ∷ rs → getD roles i neutral ≡ r
+role-here roles i r rs e =
+    let z : i ≡ i + 0 = omega arith in
+    ap (λ (k : ℕ). getD roles k neutral) z ∙ sym (getD-drop i roles 0 neutral) ∙ ap (λ (l : List Role). getD l 0 neutral) e
+
+pub comes : (roles : List Role) {k : ℕ} {rs : List Role} → Until k rs → (seen : List (List ℕ)) (i : ℕ) (t : Table) → drop i roles ≡ rs
+    → Sound roles t → length (t .first) ≤ i → i + k ≤ places → Seen roles seen t → Comes roles rs seen k i t
+comes roles (here {rs}) seen i t at S small few s = on-end roles t S rs seen i
+comes roles (past-entry n v {k} {rs} until) seen i t at S small few s =
+    go (placeOfName roles (t .first) n) refl
+    (λ (x : List (List ℕ)) (u : Table). comes roles until x (suc i) u (drop-next roles i rs (entry n v) at))
+  where
+    role : getD roles i neutral ≡ entry n v
+    role = role-here roles i (entry n v) rs at
+
+    go : (p : Place) → placeOfName roles (t .first) n ≡ p
+        → ((x : List (List ℕ)) (u : Table) → Sound roles u → length (u .first) ≤ suc i → suc i + k ≤ places → Seen roles x u
+        → Comes roles rs x k (suc i) u)
+        → Comes roles (entry n v ∷ rs) seen (suc k) i t
+    go (At j) e then =
+        let sound = sound-known roles t S j i in
+        on-known roles t S n v rs seen k i s j e
+        (then seen (putAgain t j i) sound (omega arith) (omega arith) (record { names = s .names }))
+    go Nowhere e then =
+        let sound = sound-new roles t S n v i role e in
+        let long : length (t .first ++ i ∷ []) ≤ suc i = omega (arith, length-append (t .first) (i ∷ [])) in
+        on-new roles t S n v rs seen k i s (ap nameOf role) (omega arith) e
+        (then (n ∷ seen) (putNew t i) sound long (omega arith) (seen-new roles t S n v i role e seen s))
+comes roles (past-more x c {k} {rs} until) seen i t at S small few s =
+    let next = comes roles until seen (suc i) t (drop-next roles i rs (more x c) at) S (omega arith) (omega arith) s in
+    on-more roles t S rs seen k i next x c
+comes roles (past-neutral {k} {rs} until) seen i t at S small few s =
+    let next = comes roles until seen (suc i) t (drop-next roles i rs neutral at) S (omega arith) (omega arith) s in
+    on-neutral roles t S rs seen k i next
+
+pub until-under : {k : ℕ} {rs : List Role} → Until k rs → k < length rs
+until-under (here {rs}) = omega arith
+until-under (past-entry n v {k} {rs} until) = let p : k < length rs = until-under until in omega arith
+until-under (past-more t c {k} {rs} until) = let p : k < length rs = until-under until in omega arith
+until-under (past-neutral {k} {rs} until) = let p : k < length rs = until-under until in omega arith

@@ -1,0 +1,96 @@
+-- The list of a header's names agrees with lookup: for every header that is accepted both give the same answers, and any other is
+-- refused by both alike. Stated over the definitions that the promises of `list`, `entry` and `lookup` cite. Arrays that a caller
+-- made up are not spoken of: `placeOfEntry` reads whatever number stands in them.
+use Prim.Native.Nat.{ℕ, _<_}
+use mathlib.Core.Path.{_≡_}
+use mathlib.Core.List.{List}
+use mathlib.Core.Option.{some}
+use lib.ListN.{getD}
+use Rattle.refusal.specs.declared.Refusal.the-variants as R
+use Rattle.refusal.specs.Numbers.{faultOf}
+use Rattle.roles.specs.Roles.{Held, Role, entry, neutral}
+use Rattle.roles.specs.Cards.{rolesOf}
+use Rattle.joining.specs.Lookup.{lookup}
+use Rattle.finding.specs.declared.Stop.{Stop}
+use Rattle.finding.specs.declared.Header.the-variants.{Accepted, Refused}
+use Rattle.finding.specs.Finding.{headerOf, lastOf}
+use Rattle.entries.specs.declared.LookupAnswer.the-variants as L
+use Rattle.entries.specs.Answers.{untouched, lookupOf, entryAt}
+use Rattle.listing.specs.Listing.{free, empty, tabled, listOf, placeOfEntry}
+use Rattle.agreeing.specs.Firsts.{firstsOf, lastsOf}
+
+-- the arrays of an accepted header hold its first cards and, for the name of each, its last entry; then free marks.
+-- So 11, that no place is free, never comes of an accepted header
+abbrev pub Contents : Type 0
+Contents =
+    (h : List ℕ) (end : ℕ) → headerOf h ≡ Accepted end
+    → listOf h ≡ tabled (Accepted end) (record { first = firstsOf (rolesOf h); last = lastsOf (rolesOf h) })
+
+-- what a name is answered is the entry at the last card that bears it: none where no card does
+abbrev pub ByLast : Type 0
+ByLast = (name : List ℕ) (roles : List Role) → lookup name roles ≡ entryAt (lastOf name roles) roles
+
+-- the name stands at place k of the list: the first card of that place is an entry that bears it
+pub record StandsAt (h name : List ℕ) (k : ℕ) : Type 0 where
+  pub within : k < listOf h .count
+  pub held : Held
+  pub bears : getD (rolesOf h) (getD (listOf h .first) k free) neutral ≡ entry name held
+
+-- the name stands somewhere in the list
+pub record StandsIn (h name : List ℕ) : Type 0 where
+  pub place : ℕ
+  pub stands : StandsAt h name place
+
+-- the entry at a name's place is what the name is answered, with the same lent buffers: the answer and the bytes left in them
+abbrev pub Agreement : Type 0
+Agreement =
+    (h : List ℕ) (end : ℕ) → headerOf h ≡ Accepted end
+    → (name : List ℕ) (k : ℕ) → StandsAt h name k
+    → (text comment : List ℕ) → placeOfEntry h (listOf h .last) k text comment ≡ lookupOf h name text comment
+
+-- some name stands at place k
+pub record PlaceTaken (h : List ℕ) (k : ℕ) : Type 0 where
+  pub name : List ℕ
+  pub stands : StandsAt h name k
+
+-- each place of the list has a name
+abbrev pub EachTaken : Type 0
+EachTaken = (h : List ℕ) (end : ℕ) → headerOf h ≡ Accepted end → (k : ℕ) → k < listOf h .count → PlaceTaken h k
+
+-- no name stands at two places
+abbrev pub Once : Type 0
+Once =
+    (h : List ℕ) (end : ℕ) → headerOf h ≡ Accepted end
+    → (name : List ℕ) (j k : ℕ) → StandsAt h name j → StandsAt h name k → j ≡ k
+
+-- lookup finds a name
+pub record FoundIn (h name : List ℕ) : Type 0 where
+  pub held : Held
+  pub is : lookup name (rolesOf h) ≡ some held
+
+-- lookup finds every name that stands in the list
+abbrev pub EachStanding : Type 0
+EachStanding = (h : List ℕ) (end : ℕ) → headerOf h ≡ Accepted end → (name : List ℕ) → StandsIn h name → FoundIn h name
+
+-- every name that lookup finds stands in the list
+abbrev pub EachFound : Type 0
+EachFound = (h : List ℕ) (end : ℕ) → headerOf h ≡ Accepted end → (name : List ℕ) → FoundIn h name → StandsIn h name
+
+-- a name that stands nowhere in the list is refused with 12, and the buffers stay as they were
+abbrev pub Missing : Type 0
+Missing =
+    (h : List ℕ) (end : ℕ) → headerOf h ≡ Accepted end → (name : List ℕ) → (StandsIn h name → ⊥)
+    → (text comment : List ℕ) → lookupOf h name text comment ≡ untouched (L.Refused (faultOf R.NameNotFound)) text comment
+
+-- only such a name is refused with 12
+abbrev pub OnlyMissing : Type 0
+OnlyMissing =
+    (h : List ℕ) (end : ℕ) → headerOf h ≡ Accepted end → (name text comment : List ℕ)
+    → lookupOf h name text comment .answer .answer ≡ L.Refused (faultOf R.NameNotFound) → StandsIn h name → ⊥
+
+-- a refused header is refused by both alike, at the same card: all places of the list are free, and lookup leaves the buffers
+abbrev pub SameRefusal : Type 0
+SameRefusal =
+    (h : List ℕ) (s : Stop) → headerOf h ≡ Refused s
+    → (listOf h ≡ tabled (Refused s) empty)
+    × ((name text comment : List ℕ) → lookupOf h name text comment ≡ untouched (L.Header s) text comment)

@@ -1,0 +1,3 @@
+-- What is certain of the list of names beside lookup: open `Agreeing` first.
+pub mod Firsts
+pub mod Agreeing
