@@ -27,7 +27,7 @@ use Rattle.joining.proofs.Answers.{joinOn-shut}
 use Rattle.entries.specs.declared.LookupAnswer.the-variants as L
 use Rattle.entries.specs.declared.Lengths.{Lengths}
 use Rattle.entries.specs.declared.Written.{Written}
-use Rattle.entries.specs.Answers.{LookupOutcome, leftBy, isThere, bytesIn, found, untouched, written}
+use Rattle.entries.specs.Answers.{LookupOutcome, leftBy, isThere, bytesIn, foundAs, untouched, written}
 use Rattle.entries.specs.Passes.{Stands, Wrote, answerBy}
 
 -- what is told of words that were measured
@@ -59,7 +59,7 @@ wrote v own r text comment text₁ comment₁ digits W =
     k = bytesIn (v .words .comment)
 
     laid : LookupOutcome
-    laid = leftBy (found v) (sets text 0 s) (sets comment 0 k)
+    laid = leftBy (foundAs v) (sets text 0 s) (sets comment 0 k)
 
     by : (b : Bool) → r .fits ≡ b
         → leftBy (answerBy (v .value) own r) (cond (r .fits) (sets text 0 s) text) (cond (r .fits) (sets comment 0 k) comment)

@@ -40,8 +40,8 @@ abbrev pub bytesIn : Comment → List ℕ
 bytesIn none = []
 bytesIn (some c) = c
 
-abbrev pub found : Held → Looked
-found v =
+abbrev pub foundAs : Held → Looked
+foundAs v =
     record {
       answer = L.Found (v .value);
       digits = textOf (v .digits);
@@ -62,7 +62,7 @@ untouched a text comment = leftBy (unread a) text comment
 unfoldable pub written : Held → List ℕ → List ℕ → LookupOutcome
 written v text comment =
     cond (leb (length (v .words .text)) (length text) && leb (length (bytesIn (v .words .comment))) (length comment))
-    (leftBy (found v) (sets text 0 (v .words .text)) (sets comment 0 (bytesIn (v .words .comment))))
+    (leftBy (foundAs v) (sets text 0 (v .words .text)) (sets comment 0 (bytesIn (v .words .comment))))
     (untouched (L.Refused (faultOf R.BufferShort)) text comment)
 
 -- 12 where there is no entry

@@ -287,12 +287,12 @@ fn has_text(value: Value) -> bool
     ensures { λ r. ⌜ r ≡ hasText value ⌝ }
 {
     match value {
+        Value::String => true,
+        Value::Invalid => true,
         Value::Integer(_) => false,
         Value::Float { minus: _, size: _ } => false,
         Value::Logical(_) => false,
-        Value::String => true,
         Value::Undefined => false,
-        Value::Invalid => true,
     }
 }
 

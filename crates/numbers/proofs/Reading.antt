@@ -17,7 +17,7 @@ use Rattle.numbers.specs.declared.Exponent.the-variants.{Ten, Nothing}
 use Rattle.numbers.specs.declared.Number.{Number}
 use Rattle.numbers.specs.Signs.{isNegative, unsigned, signedOf, fits64}
 use Rattle.numbers.specs.Digits.{isEmpty, isDigits, digitsValue}
-use Rattle.numbers.specs.Answers.{wholeOf, decimal, invalid, isRead}
+use Rattle.numbers.specs.Answers.{wholeOf, decimalNumber, invalid, isRead}
 use Rattle.numbers.specs.Integers.{integerOf}
 use Rattle.numbers.specs.Decimals.{isWord, isMark, maxExponent, writtenOf, exponentOf, fractionOf, afterFraction, digitsOf}
 use Rattle.numbers.specs.Decimals.{scaled, finiteOf, decimalOf}
@@ -140,17 +140,17 @@ module _ (minus : Bool) (s : List ℕ) (other : Number) where
 
 module _ (s : List ℕ) where
   -- the word that stands after the sign, or none
-  pub decimal-inf : isWord (ascii "inf") (unsigned s) ≡ true → decimal (isNegative s) Infinite [] ≡ decimalOf s
+  pub decimal-inf : isWord (ascii "inf") (unsigned s) ≡ true → decimalNumber (isNegative s) Infinite [] ≡ decimalOf s
   unfolding decimalOf
   decimal-inf e = rw e
 
   pub decimal-infinity : isWord (ascii "inf") (unsigned s) ≡ false → isWord (ascii "infinity") (unsigned s) ≡ true
-      → decimal (isNegative s) Infinite [] ≡ decimalOf s
+      → decimalNumber (isNegative s) Infinite [] ≡ decimalOf s
   unfolding decimalOf
   decimal-infinity d e = rw (d, e)
 
   module _ (no-inf : isWord (ascii "inf") (unsigned s) ≡ false) (no-infinity : isWord (ascii "infinity") (unsigned s) ≡ false) where
-    pub decimal-nan : isWord (ascii "nan") (unsigned s) ≡ true → decimal (isNegative s) Nan [] ≡ decimalOf s
+    pub decimal-nan : isWord (ascii "nan") (unsigned s) ≡ true → decimalNumber (isNegative s) Nan [] ≡ decimalOf s
     unfolding decimalOf
     decimal-nan e = rw (no-inf, no-infinity, e)
 

@@ -8,7 +8,7 @@ use lib.ListN.{length}
 use Rattle.text.specs.Bytes.{isZero}
 use Rattle.text.specs.Trim.{trimStart, trimEnd}
 use Rattle.numbers.specs.declared.Size.the-variants.{Finite}
-use Rattle.numbers.specs.Answers.{decimal}
+use Rattle.numbers.specs.Answers.{decimalNumber}
 use Rattle.numbers.specs.Decimals.{powerOf, scaled}
 
 -- some digits have the power that is counted for them
@@ -19,7 +19,7 @@ some-power (b ∷ s) p h = refl
 module _ (minus : Bool) (digits : List ℕ) (places : ℕ) (exponent : ℤ) where
   -- nothing but zeros
   pub scaled-zero : trimEnd isZero (trimStart isZero digits) ≡ []
-      → decimal minus (Finite (pos 0)) [] ≡ scaled minus digits places exponent
+      → decimalNumber minus (Finite (pos 0)) [] ≡ scaled minus digits places exponent
   unfolding scaled
   scaled-zero e = rw e
 
@@ -28,10 +28,10 @@ module _ (minus : Bool) (digits : List ℕ) (places : ℕ) (exponent : ℤ) wher
       → let rest = trimStart isZero digits in
       let significant = trimEnd isZero rest in
       let power = exponent -ℤ pos places +ℤ pos (length rest - length significant) in
-      decimal minus (Finite power) significant ≡ scaled minus digits places exponent
+      decimalNumber minus (Finite power) significant ≡ scaled minus digits places exponent
   unfolding scaled
   scaled-some h =
       let rest = trimStart isZero digits in
       let significant = trimEnd isZero rest in
       let power = exponent -ℤ pos places +ℤ pos (length rest - length significant) in
-      ap (λ (p : ℤ). decimal minus (Finite p) significant) (sym (some-power significant power h))
+      ap (λ (p : ℤ). decimalNumber minus (Finite p) significant) (sym (some-power significant power h))

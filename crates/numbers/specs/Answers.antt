@@ -14,8 +14,8 @@ abbrev pub wholeOf : ℤ → Number
 wholeOf z = record { value = Integer z; text = textOf [] }
 
 -- the decimal record: its sign, its size with the power of ten, and its significant digits
-abbrev pub decimal : Bool → Size → List ℕ → Number
-decimal minus size digits = record { value = Float minus size; text = textOf digits }
+abbrev pub decimalNumber : Bool → Size → List ℕ → Number
+decimalNumber minus size digits = record { value = Float minus size; text = textOf digits }
 
 -- not a number, holding the text that was tried
 abbrev pub invalid : List ℕ → Number

@@ -15,7 +15,7 @@ use Rattle.numbers.specs.declared.Exponent.the-variants.{Ten, Nothing}
 use Rattle.numbers.specs.declared.Number.{Number}
 use Rattle.numbers.specs.Signs.{isNegative, unsigned, signedOf}
 use Rattle.numbers.specs.Digits.{isEmpty, isDigits, digitsValue}
-use Rattle.numbers.specs.Answers.{decimal, invalid}
+use Rattle.numbers.specs.Answers.{decimalNumber, invalid}
 
 -- ---- digits with at most one point
 
@@ -65,7 +65,7 @@ scaled minus digits places exponent =
     let rest = trimStart isZero digits in
     let significant = trimEnd isZero rest in
     let zeros = length rest - length significant in
-    decimal minus (Finite (powerOf significant (exponent -ℤ pos places +ℤ pos zeros))) significant
+    decimalNumber minus (Finite (powerOf significant (exponent -ℤ pos places +ℤ pos zeros))) significant
 
 -- at least one digit, and an exponent that is none or well written; or else another answer
 abbrev pub withExponent : Exponent → Bool → List ℕ → ℕ → Number → Number
@@ -73,7 +73,7 @@ withExponent Nothing minus digits places other = other
 withExponent (Ten negative e) minus digits places other =
     cond (isEmpty digits) other (scaled minus digits places (signedOf negative e))
 
--- a text without its sign as a finite decimal, or else another answer
+-- a text without its sign as a finite decimalNumber, or else another answer
 unfoldable pub finiteOf : Bool → List ℕ → Number → Number
 finiteOf minus s other =
     let rest = trimStart isDigit s in
@@ -94,6 +94,6 @@ unfoldable pub decimalOf : List ℕ → Number
 decimalOf s =
     let minus = isNegative s in
     let t = unsigned s in
-    cond (isWord (ascii "inf") t || isWord (ascii "infinity") t) (decimal minus Infinite [])
-    (cond (isWord (ascii "nan") t) (decimal minus Nan [])
+    cond (isWord (ascii "inf") t || isWord (ascii "infinity") t) (decimalNumber minus Infinite [])
+    (cond (isWord (ascii "nan") t) (decimalNumber minus Nan [])
     (finiteOf minus t (invalid s)))

@@ -8,7 +8,7 @@ ghost use lib.ListN.{length};
 ghost use Rattle.text.specs.Text.{size, bytesOf};
 ghost use Rattle.numbers.specs.Signs.{isSign, isNegative, unsigned, signedOf, fits64};
 ghost use Rattle.numbers.specs.Digits.{isDigits, digitOf, digitsValue};
-ghost use Rattle.numbers.specs.Answers.{wholeOf, decimal, invalid, isRead};
+ghost use Rattle.numbers.specs.Answers.{wholeOf, decimalNumber, invalid, isRead};
 ghost use Rattle.numbers.specs.Integers.{integerOf};
 ghost use Rattle.numbers.specs.Decimals.{fractionOf, afterFraction, isMark, maxExponent, writtenOf, exponentOf};
 ghost use Rattle.numbers.specs.Decimals.{scaled, finiteOf, lowered, isWord, decimalOf};
@@ -195,7 +195,7 @@ fn whole(z: i64) -> Number
 
 // A decimal with no digits.
 fn without_digits(negative: bool, size: Size) -> Number
-    ensures { λ r. ⌜ r ≡ decimal negative size [] ⌝ }
+    ensures { λ r. ⌜ r ≡ decimalNumber negative size [] ⌝ }
 {
     Number {
         value: Value::Float {
@@ -432,7 +432,7 @@ fn read_decimal(s: &[u8]) -> Number
 
 // ---- the tries
 
-// An integer, else a decimal, else a decimal with every D made an E.
+// An integer, else a decimalNumber, else a decimal with every D made an E.
 fn read_number(s: &[u8]) -> Number
     requires { ⌜ length (now s) ≤ size ⌝ }
     ensures { λ r. ⌜ r ≡ readNumber (now (s .entry)) ⌝ }

@@ -13,9 +13,9 @@ use Rattle.rice.specs.Widths.{fsBits, startBytes, following}
 use Rattle.refusal.specs.declared.Refusal.the-variants as R
 use Rattle.refusal.specs.declared.Fault.{Fault}
 use Rattle.rice.specs.Reads.{Read, found, short, fieldRead, diffRead, moved}
-use Rattle.rice.specs.Blocks.{End, whole, cut, Run, onward, runOf, runFrom, ranTo}
+use Rattle.rice.specs.Blocks.{End, complete, cut, Run, onward, runOf, runFrom, ranTo}
 use Rattle.rice.specs.Blocks.{StepOutcome, codeOf, coded, withField, blockOf}
-use Rattle.rice.specs.Steps.{planOf, startAt, openIn, openOf, stands, lent, stepIn, stepOf}
+use Rattle.rice.specs.Steps.{planOf, startAt, openIn, openOf, stands, partLent, stepIn, stepOf}
 use Rattle.rice.specs.Steps.{DecodeOutcome, decodeRefused, afterStep, stepsOf, decodeFrom, decodeIn, decodeOf}
 use Rattle.rice.specs.declared.width.Width.{Width}
 use Rattle.rice.specs.declared.width.Code.{Code}
@@ -52,7 +52,7 @@ Bounded d n (Next c) = c .done ≡ d + n
 Bounded d n (Refused f m) = m ≤ n
 
 answer-bounded : (c : Cursor) (n : ℕ) (e : End) (k : ℕ) → k ≤ n → Bounded (c .done) n (ranTo c n e k)
-answer-bounded c n (whole p last) k h = refl
+answer-bounded c n (complete p last) k h = refl
 answer-bounded c n cut k h = h
 
 coded-bounded : (w : Width) (s : List ℕ) (c : Cursor) (part : List ℤ) (x : Coded)
@@ -93,7 +93,7 @@ module _ (s : List ℕ) (nx nblock bits : ℕ) (c : Cursor) (px : List ℤ) wher
   FineOf o = Fine nx (c .done) (length px) (o .answer)
 
   lent-fine : (w : Width) → 1 ≤ nblock → length px ≡ nx → c .done < nx
-      → FineOf (lent w s c px (c .done) (min (c .done + nblock) nx))
+      → FineOf (partLent w s c px (c .done) (min (c .done + nblock) nx))
   lent-fine w b l h =
       let part = take (min (c .done + nblock) nx - c .done) (drop (c .done) px) in
       let n : length part ≡ min (c .done + nblock) nx - c .done = simp (length-take, length-drop) (omega arith) in

@@ -15,7 +15,7 @@ use Rattle.refusal.specs.Numbers.{faultOf}
 use Rattle.refusal.specs.declared.Refusal.the-variants.{TileEnds}
 use Rattle.rice.specs.Reads.{Read, found, short, fieldRead, runRead, above, thenField, diffRead}
 use Rattle.rice.specs.Held.{CodeFits}
-use Rattle.rice.specs.Blocks.{End, whole, cut, Run, also, onward, runOf, ranTo, filledOf}
+use Rattle.rice.specs.Blocks.{End, complete, cut, Run, also, onward, runOf, ranTo, filledOf}
 use Rattle.rice.specs.declared.width.Width.{Width}
 use Rattle.rice.specs.declared.width.Code.{Code}
 use Rattle.rice.specs.declared.width.Code.the-variants.{Same, Raw, Split}
@@ -56,7 +56,7 @@ module _ (w : Width) (code : Code) (s : List ℕ) (n i p : ℕ) (last : ℤ) whe
       let more : n - i ≡ suc (n - (i + 1)) = omega arith in
       ap (λ k. runOf w code s k p last) more ∙ ap (onward w last (runOf w code s (n - (i + 1)))) e
 
-  pub run-done : n ≤ i → runOf w code s (n - i) p last ≡ record { pixels = []; end = whole p last }
+  pub run-done : n ≤ i → runOf w code s (n - i) p last ≡ record { pixels = []; end = complete p last }
   unfolding runOf
   run-done h =
       let none : n - i ≡ 0 = omega arith in
@@ -104,7 +104,7 @@ module _ (c : Cursor) (n : ℕ) {R R′ : Run} {old new : List ℤ} {i : ℕ} (s
     s .content ∙ ap (λ (r : Run). sets old 0 (r .pixels)) same,
   )
 
-  pub filled-whole : {p : ℕ} {z last : ℤ} → i ≡ n → z ≡ last → Stored R old new i (whole p last)
+  pub filled-whole : {p : ℕ} {z last : ℤ} → i ≡ n → z ≡ last → Stored R old new i (complete p last)
       → (Next (record { bit = p; done = c .done + i; last = z }) ≡ filledOf c n R′) × (new ≡ sets old 0 (R′ .pixels))
   filled-whole {p} h e s = (
     ap₂ (λ (k : ℕ) (y : ℤ). Next (record { bit = p; done = c .done + k; last = y })) h e

@@ -18,7 +18,7 @@ use Rattle.refusal.specs.declared.Refusal.the-variants as R
 use Rattle.rice.specs.Reads.{fieldRead, mostBytes}
 use Rattle.rice.specs.Blocks.{stepRefused}
 use Rattle.rice.specs.Steps.{mostPixels, mostBlock, inLimits, widthOf, planOf}
-use Rattle.rice.specs.Steps.{stands, lent, stepIn, stepOf, startAt, openIn, openOf}
+use Rattle.rice.specs.Steps.{stands, partLent, stepIn, stepOf, startAt, openIn, openOf}
 use Rattle.rice.specs.declared.width.Width.{Width}
 use Rattle.rice.specs.declared.Cursor.{Cursor}
 use Rattle.rice.specs.declared.Stepped.the-variants.{Done}
@@ -147,11 +147,11 @@ module _ (s : List ℕ) (nx nblock bits : ℕ) (c : Cursor) (px : List ℤ) wher
         step-done h = ap (stepIn s nx nblock c px) plan ∙ rw (eq-eqb (length px) nx count, stand, eq-eqb (c .done) nx h)
 
         pub step-block : (c .done ≡ nx → ⊥) → (e : ℕ) → e ≡ min (c .done + nblock) nx
-            → stepOf s nx nblock bits c px ≡ lent w s c px (c .done) e
+            → stepOf s nx nblock bits c px ≡ partLent w s c px (c .done) e
         unfolding stepOf
         step-block h e is =
             ap (stepIn s nx nblock c px) plan
-            ∙ rw (eq-eqb (length px) nx count, stand, ne-eqb (c .done) nx h) (ap (lent w s c px (c .done)) (sym is))
+            ∙ rw (eq-eqb (length px) nx count, stand, ne-eqb (c .done) nx h) (ap (partLent w s c px (c .done)) (sym is))
 
 -- a part that comes back with ys
 pub part-back : (d e : ℕ) (px ys zs : List ℤ) → d ≤ e → ys ≡ zs → putMid d (e - d) px ys ≡ take d px ++ (zs ++ drop e px)

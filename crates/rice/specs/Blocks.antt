@@ -30,7 +30,7 @@ codeOf w field =
 
 -- how a run of pixels ends: at a place, with its last pixel; or the tile ends in it
 pub data End : Type 0 where
-  whole : ℕ → ℤ → End
+  complete : ℕ → ℤ → End
   cut : End
 
 -- the pixels of a run, and how it ends
@@ -48,7 +48,7 @@ onward w last rest short = record { pixels = []; end = cut }
 
 -- k pixels from place p on, after the last pixel
 unfoldable pub runOf : Width → Code → List ℕ → ℕ → ℕ → ℤ → Run
-runOf w code s zero p last = record { pixels = []; end = whole p last }
+runOf w code s zero p last = record { pixels = []; end = complete p last }
 runOf w code s (suc k) p last = onward w last (runOf w code s k) (diffRead code s p)
 
 -- n pixels from a cursor on
@@ -57,7 +57,7 @@ runFrom w code s c n = runOf w code s n (c .bit) (c .last)
 
 -- what a cursor answers to a run of n pixels, k of which are written: the cursor after it, or the tile ends, with k
 abbrev pub ranTo : Cursor → ℕ → End → ℕ → Stepped
-ranTo c n (whole p last) k = Next (record { bit = p; done = c .done + n; last = last })
+ranTo c n (complete p last) k = Next (record { bit = p; done = c .done + n; last = last })
 ranTo c n cut k = Refused (faultOf R.TileEnds) k
 
 abbrev pub filledOf : Cursor → ℕ → Run → Stepped

@@ -67,8 +67,8 @@ stands w s nx nblock c =
     && ((eqb (c .done) nx || eqb (c .done % nblock) 0) && inWidth w (c .last))))
 
 -- the pixels from d to e are lent to a block, the others stay
-abbrev pub lent : Width → List ℕ → Cursor → List ℤ → ℕ → ℕ → StepOutcome
-lent w s c px d e =
+abbrev pub partLent : Width → List ℕ → Cursor → List ℤ → ℕ → ℕ → StepOutcome
+partLent w s c px d e =
     let o = blockOf w s c (take (e - d) (drop d px)) in
     record { answer = o .answer; content = take d px ++ (o .content ++ drop e px) }
 
@@ -76,7 +76,7 @@ abbrev pub stepIn : List ℕ → ℕ → ℕ → Cursor → List ℤ → Planned
 stepIn s nx nblock c px (P.Of w) =
     cond (eqb (length px) nx)
     (cond (stands w s nx nblock c)
-    (cond (eqb (c .done) nx) (record { answer = Done; content = px }) (lent w s c px (c .done) (min (c .done + nblock) nx)))
+    (cond (eqb (c .done) nx) (record { answer = Done; content = px }) (partLent w s c px (c .done) (min (c .done + nblock) nx)))
     (stepRefused R.BadCursor px))
     (stepRefused R.PixelCount px)
 stepIn s nx nblock c px P.None = stepRefused R.Limits px

@@ -17,7 +17,7 @@ use Rattle.splitting.specs.declared.Slash.the-variants.{At, Nowhere, Bad
 use Rattle.splitting.specs.declared.Scanned.{Scanned}
 use Rattle.text.specs.Bytes.{isPrintable, shown}
 use Rattle.text.specs.Text.{size, padded}
-use Rattle.splitting.specs.Scan.{quote, slash, plain, odd, byteClass, Move, ends, refused, puts, passes, move}
+use Rattle.splitting.specs.Scan.{quote, slash, plain, odd, byteClass, Move, ends, rejects, puts, passes, move}
 use Rattle.splitting.specs.Scan.{Scan, putBefore, after, scanFrom}
 use Rattle.splitting.specs.Scanned.{answered, scannedOf}
 use Rattle.text.proofs.Texts.{padded-put, length-put}
@@ -97,9 +97,9 @@ module _ {s : List ℕ} {place : Slash} {q : Quoting} {bytes : List ℕ} {n i : 
     unfolding after
     on-ends e = stopped (At i) (moved ends e)
 
-    pub on-refused : move q (byteClass (getD s i 0)) ≡ refused → handed (Bad i) bytes n ≡ scannedOf s
+    pub on-refused : move q (byteClass (getD s i 0)) ≡ rejects → handed (Bad i) bytes n ≡ scannedOf s
     unfolding after
-    on-refused e = stopped (Bad i) (moved refused e)
+    on-refused e = stopped (Bad i) (moved rejects e)
 
     pub on-passes : (r : Quoting) → move q (byteClass (getD s i 0)) ≡ passes r → Reached s place r bytes n (i + 1)
     unfolding after

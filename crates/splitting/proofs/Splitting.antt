@@ -13,7 +13,7 @@ use Rattle.splitting.specs.declared.Scanned.{Scanned}
 use Rattle.text.specs.Bytes.{isBlank, isSpace}
 use Rattle.text.specs.Trim.{trim}
 use Rattle.text.specs.Text.{size, bytesOf}
-use Rattle.splitting.specs.Scan.{Move, ends, refused, puts, passes, move, byteClass, Scan, after, scanFrom}
+use Rattle.splitting.specs.Scan.{Move, ends, rejects, puts, passes, move, byteClass, Scan, after, scanFrom}
 use Rattle.splitting.specs.Scanned.{scannedOf}
 use Rattle.splitting.specs.Split.{partsAt, splitOf}
 use Rattle.text.proofs.Trimming.{shorter}
@@ -42,7 +42,7 @@ scan-within q (b ∷ s) i = turn (move q (byteClass b)) (λ (r : Quoting). scan-
     turn : (m : Move) → ((r : Quoting) → Within (suc i) (length s) (scanFrom r s (suc i)))
         → Within i (suc (length s)) (after m b i (λ (r : Quoting). scanFrom r s (suc i)))
     turn ends h = (omega arith, omega arith)
-    turn refused h = (omega arith, omega arith)
+    turn rejects h = (omega arith, omega arith)
     turn (puts r) h = (omega (arith, h r .0), later ((scanFrom r s (suc i)) .place) (h r .1))
     turn (passes r) h = (omega (arith, h r .0), later ((scanFrom r s (suc i)) .place) (h r .1))
 

@@ -20,7 +20,7 @@ byteClass b = cond (eqb b (code "'")) quote (cond (eqb b (code "/")) slash (cond
 -- What one byte before the slash does: it ends the value, it is refused, it is put into the value text, or it is passed over,
 -- being the second quote of two.
 pub data Move : Type 0 where
-  ends refused : Move
+  ends rejects : Move
   puts passes : Quoting → Move
 
 -- in each state, by the byte's class
@@ -28,7 +28,7 @@ abbrev pub move : Quoting → ByteClass → Move
 move Outside quote = puts Inside
 move Outside slash = ends
 move Outside plain = puts Outside
-move Outside odd = refused
+move Outside odd = rejects
 move Inside quote = puts Closed
 move Inside slash = puts Inside
 move Inside plain = puts Inside
@@ -49,7 +49,7 @@ putBefore v r = record { place = r .place; value = v ++ r .value }
 
 unfoldable pub after : Move → ℕ → ℕ → (Quoting → Scan) → Scan
 after ends b i rest = record { place = At i; value = [] }
-after refused b i rest = record { place = Bad i; value = [] }
+after rejects b i rest = record { place = Bad i; value = [] }
 after (puts q) b i rest = putBefore (shown b ∷ []) (rest q)
 after (passes q) b i rest = rest q
 

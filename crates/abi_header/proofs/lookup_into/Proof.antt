@@ -10,14 +10,19 @@ use Rattle.abi_header.proofs.lookup_into.Tie as tie
 abbrev start : tie.Then1 → tie.Start
 start c = c .before .before .before .before .before .before .before
 
+abbrev tested : tie.After-lookup → tie.Then1
+tested c = c .before .before .before
+
+abbrev got : tie.After-write-looked → tie.After-lookup
+got c = c .before .before .before .before .before .before .before .before
+
 lookup-requires : tie.Need-lookup-requires
 lookup-requires c κs = search needs
 
 write-looked-requires : tie.Need-write-looked-requires
 write-looked-requires c κs =
-    let tested = c .before .before .before .before .before .before .before .before .before .before in
-    let a = start tested .args in
-    both (length (a .digits .now)) 80 (length (a .out .now)) 7 (tested .if1 .taken)
+    let test = tested (c .before .before .before .before .before .before .before) in
+    both _ 80 _ 7 (test .if1 .taken)
 
 same-length : tie.Need-same-length
 same-length c = search needs
@@ -33,12 +38,10 @@ same-length-4 c = search needs
 
 returns : tie.Need-returns
 returns c =
-    let written = c .before .before .before .before in
-    let got = written .before .before .before .before .before .before .before .before in
-    let tested = got .before .before .before in
-    let a = start tested .args in
-    told (lookupOf (a .header .now) (a .name .now)) _ _ _ _ _ (written .write-looked .result)
-    (tested .if1 .taken) (got .lookup .ensures) (written .write-looked .ensures)
+    let w = c .before .before .before .before in
+    let a = start (tested (got w)) .args in
+    told (lookupOf (a .header .now) (a .name .now)) _ _ _ _ _ (w .write-looked .result)
+    (tested (got w) .if1 .taken) (got w .lookup .ensures) (w .write-looked .ensures)
 
 returns-2 : tie.Need-returns-2
 returns-2 c =

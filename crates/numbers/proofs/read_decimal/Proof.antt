@@ -8,7 +8,7 @@ use borrow.Author.Needs.{needs}
 use lib.ListN.{length}
 use Rattle.text.specs.Bytes.{ascii}
 use Rattle.numbers.specs.Decimals.{isWord, finiteOf}
-use Rattle.numbers.specs.Answers.{decimal, invalid}
+use Rattle.numbers.specs.Answers.{decimalNumber, invalid}
 use Rattle.numbers.specs.Signs.{unsigned}
 use Rattle.numbers.specs.declared.Number.{Number}
 use Rattle.numbers.specs.declared.Size.the-variants.{Infinite, Nan}
@@ -59,7 +59,7 @@ returns c =
     let i = c .before .before in
     let a = i .before .before in
     c .without-digits .ensures
-    ∙ ap (λ (t : Bool). decimal t Infinite []) (a .before .is-negative .ensures)
+    ∙ ap (λ (t : Bool). decimalNumber t Infinite []) (a .before .is-negative .ensures)
     ∙ decimal-inf (text a) (told a (ascii "inf") (i .is-word .ensures) (c .before .if1 .taken))
 
 slice-aggregate-is-word-2 : tie.Need-slice-aggregate-is-word-2
@@ -76,7 +76,7 @@ returns-2 c =
     let y = c .before .before in
     let a = signless y in
     c .without-digits2 .ensures
-    ∙ ap (λ (t : Bool). decimal t Infinite []) (a .before .is-negative .ensures)
+    ∙ ap (λ (t : Bool). decimalNumber t Infinite []) (a .before .is-negative .ensures)
     ∙ decimal-infinity (text a) (no-inf y) (told a (ascii "infinity") (y .is-word2 .ensures) (c .before .if2 .taken))
 
 slice-aggregate-is-word-3 : tie.Need-slice-aggregate-is-word-3
@@ -94,7 +94,7 @@ returns-3 c =
     let a = signless (second n) in
     let nan = told a (ascii "nan") (n .is-word3 .ensures) (c .before .if3 .taken) in
     c .without-digits3 .ensures
-    ∙ ap (λ (t : Bool). decimal t Nan []) (a .before .is-negative .ensures)
+    ∙ ap (λ (t : Bool). decimalNumber t Nan []) (a .before .is-negative .ensures)
     ∙ decimal-nan (text a) (no-inf (second n)) (no-infinity n) nan
 
 read-finite-requires : tie.Need-read-finite-requires

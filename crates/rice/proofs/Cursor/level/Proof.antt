@@ -14,7 +14,7 @@ use mir.Val.{toZ, ofZ}
 use mir.Facts.{toZ-ofZ}
 use Rattle.rice.specs.Widths.{inWidth}
 use Rattle.rice.specs.Reads.{diffRead}
-use Rattle.rice.specs.Blocks.{whole, also, runOf}
+use Rattle.rice.specs.Blocks.{complete, also, runOf}
 use Rattle.rice.specs.declared.Cursor.{Cursor}
 use Rattle.rice.specs.declared.width.Width.{Width}
 use Rattle.rice.specs.declared.width.Code.the-variants.{Same}
@@ -34,7 +34,7 @@ record Stored (self : Cursor) (part₀ part : List ℤ) (i : ℕ) : Type 0 where
 -- all of them are
 abbrev Done : Cursor → Width → List ℕ → List ℤ → List ℤ → ℕ → Type 0
 Done self w s part₀ part i =
-    All.Stored (runOf w Same s (length part₀) (self .bit) (self .last)) part₀ part i (whole (self .bit) (self .last))
+    All.Stored (runOf w Same s (length part₀) (self .bit) (self .last)) part₀ part i (complete (self .bit) (self .last))
 
 abbrev Inv-loop : tie.InvT-loop
 Inv-loop self part₀ last i₀ part i = Stored self part₀ part i
