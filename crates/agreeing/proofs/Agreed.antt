@@ -32,7 +32,7 @@ use Rattle.agreeing.specs.Firsts.{isAmong, firstsOf, numberAt, lastNumbe
 use Rattle.agreeing.specs.Agreeing.{Contents, ByLast, StandsAt, StandsIn, Agreement, EachTaken, Once, FoundIn}
 use Rattle.agreeing.specs.Agreeing.{EachStanding, EachFound, Missing, OnlyMissing, SameRefusal}
 use Rattle.agreeing.proofs.Places.{lastAt, nameNo, placeOfName, lastInTable, hit-under, hit-named}
-use Rattle.agreeing.proofs.Tables.{Entry, Sound, Seen, Comes, comes}
+use Rattle.agreeing.proofs.Tables.{EntryNo, Sound, Seen, Comes, comes}
 use Rattle.agreeing.proofs.Ending.{until-end, end-under}
 
 sound-empty : (roles : List Role) → Sound roles empty
@@ -134,7 +134,7 @@ module _ (h : List ℕ) (end : ℕ) (a : headerOf h ≡ Accepted end) where
 
   stands-own : (k : ℕ) → k < length (table .first) → StandsAt h (nameNo roles (first-card k)) k
   stands-own k p =
-      let e : Entry roles (first-card k) = built .sound .entries k p in
+      let e : EntryNo roles (first-card k) = built .sound .entries k p in
       record {
         within = omega (arith, count-is, p);
         held = e .held;

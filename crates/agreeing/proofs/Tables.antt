@@ -7,7 +7,7 @@ use mathlib.Core.List.{List, [], _∷_, _++_, append-assoc, append-nil}
 use borrow.Author.Tests.{lt-ltb, ltb-true, ltb-false}
 use lib.Dec.{ltb}
 use lib.ListN.{length, getD, take, drop, length-append, length-set, List·getD-append}
-use lib.Seq.{getD-at, getD-drop}
+use lib.Seq.{getD-at}
 use Rattle.text.specs.declared.Place.{Place}
 use Rattle.text.specs.declared.Place.the-variants.{At, Nowhere}
 use Rattle.text.specs.Same.{same}
@@ -15,6 +15,7 @@ use Rattle.roles.specs.Roles.{Comment, Held, Role, entry, more, neutral, last}
 use Rattle.finding.specs.Finding.{lastFrom}
 use Rattle.entries.proofs.Looking.{drop-next}
 use Rattle.listing.specs.Listing.{places, free, Table, nameOf, listed, full, putAgain, putNew, put, listFrom}
+use Rattle.listing.proofs.Bearing.{role-first}
 use Rattle.agreeing.specs.Firsts.{isAmong, firstsFrom}
 use Rattle.agreeing.proofs.Places.{same-self, isPlace, orPlace, ifNamed, nameNo, placeOfName, lastInTable, place-put}
 use Rattle.agreeing.proofs.Places.{last-known, last-new}
@@ -27,19 +28,19 @@ pub data Until : ℕ → List Role → Type 0 where
   past-neutral : {k : ℕ} {rs : List Role} → Until k rs → Until (suc k) (neutral ∷ rs)
 
 -- a role that is an entry with this name
-pub record Is (role : Role) (name : List ℕ) : Type 0 where
+pub record IsNamed (role : Role) (name : List ℕ) : Type 0 where
   pub held : Held
   pub is : role ≡ entry name held
 
 -- card i is an entry
-abbrev pub Entry : List Role → ℕ → Type 0
-Entry roles i = Is (getD roles i neutral) (nameNo roles i)
+abbrev pub EntryNo : List Role → ℕ → Type 0
+EntryNo roles i = IsNamed (getD roles i neutral) (nameNo roles i)
 
 -- a table with one place for each of its names, and entries for first cards
 pub record Sound (roles : List Role) (t : Table) : Type 0 where
   pub alike : length (t .last) ≡ length (t .first)
   pub own : (k : ℕ) → k < length (t .first) → placeOfName roles (t .first) (nameNo roles (getD (t .first) k free)) ≡ At k
-  pub entries : (k : ℕ) → k < length (t .first) → Entry roles (getD (t .first) k free)
+  pub entries : (k : ℕ) → k < length (t .first) → EntryNo roles (getD (t .first) k free)
 
 -- the names that were seen are those of the table
 pub record Seen (roles : List Role) (seen : List (List ℕ)) (t : Table) : Type 0 where
@@ -95,7 +96,7 @@ module _ (roles : List Role) (t : Table) (S : Sound roles t) where
         ∙ place-put roles n (t .first) i n (ap nameOf role)
         ∙ ap₂ (λ (q : Place) (b : Bool). orPlace q (ifNamed b (length (t .first)))) e (same-self n)
 
-    entry-new : Entry roles i
+    entry-new : EntryNo roles i
     entry-new = record { held = v; is = role ∙ ap (λ (m : List ℕ). entry m v) (sym (ap nameOf role)) }
 
     sound-new : Sound roles (putNew t i)
@@ -107,9 +108,9 @@ module _ (roles : List Role) (t : Table) (S : Sound roles t) where
               (λ k p. subst (λ (x : ℕ). Own x k) (old-at k p) (own-old k p))
               (subst (λ (x : ℕ). Own x (length (t .first))) new-at own-new);
           entries =
-              split {P = λ (k : ℕ). Entry roles (getD firsts₁ k free)}
-              (λ k p. subst (Entry roles) (old-at k p) (S .entries k p))
-              (subst (Entry roles) new-at entry-new);
+              split {P = λ (k : ℕ). EntryNo roles (getD firsts₁ k free)}
+              (λ k p. subst (EntryNo roles) (old-at k p) (S .entries k p))
+              (subst (EntryNo roles) new-at entry-new);
         }
 
     seen-new : (seen : List (List ℕ)) → Seen roles seen t → Seen roles (n ∷ seen) (putNew t i)
@@ -181,11 +182,6 @@ module _ (roles : List Role) (t : Table) (S : Sound roles t) where
   unfolding listFrom lastFrom firstsFrom
   on-end rs seen i = record { u = t; is = refl; sound = S; lasts = λ name. refl; firsts = sym (append-nil (t .first)) }
 
-role-here : (roles : List Role) (i : ℕ) (r : Role) (rs : List Role) → drop i roles ≡ r ∷ rs → getD roles i neutral ≡ r
-role-here roles i r rs e =
-    let z : i ≡ i + 0 = omega arith in
-    ap (λ (k : ℕ). getD roles k neutral) z ∙ sym (getD-drop i roles 0 neutral) ∙ ap (λ (l : List Role). getD l 0 neutral) e
-
 pub comes : (roles : List Role) {k : ℕ} {rs : List Role} → Until k rs → (seen : List (List ℕ)) (i : ℕ) (t : Table) → drop i roles ≡ rs
     → Sound roles t → length (t .first) ≤ i → i + k ≤ places → Seen roles seen t → Comes roles rs seen k i t
 comes roles (here {rs}) seen i t at S small few s = on-end roles t S rs seen i
@@ -194,7 +190,7 @@ comes roles (past-entry n v {k} {rs} until) seen i t at S small few s =
     (λ (x : List (List ℕ)) (u : Table). comes roles until x (suc i) u (drop-next roles i rs (entry n v) at))
   where
     role : getD roles i neutral ≡ entry n v
-    role = role-here roles i (entry n v) rs at
+    role = role-first roles i (entry n v) rs at
 
     go : (p : Place) → placeOfName roles (t .first) n ≡ p
         → ((x : List (List ℕ)) (u : Table) → Sound roles u → length (u .first) ≤ suc i → suc i + k ≤ places → Seen roles x u

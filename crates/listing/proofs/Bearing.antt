@@ -36,16 +36,18 @@ named-by T.Neutral s name v e = cc
 named-by T.Last s name v e = cc
 named-by (T.Refused f) s name v e = cc
 
+-- card i is the first of the cards from number i on
+pub role-first : (roles : List Role) (i : ℕ) (r : Role) (rs : List Role) → drop i roles ≡ r ∷ rs → getD roles i neutral ≡ r
+role-first roles i r rs e =
+    let z : i ≡ i + 0 = omega arith in
+    ap (λ (k : ℕ). getD roles k neutral) z ∙ sym (getD-drop i roles 0 neutral) ∙ ap (λ (l : List Role). getD l 0 neutral) e
+
 module _ (h : List ℕ) (i : ℕ) where
   pub name-read : (name : List ℕ) (v : Held) → roleNo h i ≡ entry name v → bytesOf (cardOf (cardNo h i) .name) ≡ name
   name-read name v e = let s = seenOf (cardOf (cardNo h i)) in named-by (s .role) s name v e
 
   pub role-is : i < length h / 80 → getD (rolesOf h) i neutral ≡ roleNo h i
-  role-is within =
-      let z : i ≡ i + 0 = omega arith in
-      ap (λ (k : ℕ). getD (rolesOf h) k neutral) z
-      ∙ sym (getD-drop i (rolesOf h) 0 neutral)
-      ∙ ap (λ (l : List Role). getD l 0 neutral) (roles-from h i within)
+  role-is within = role-first (rolesOf h) i (roleNo h i) (drop (i + 1) (rolesOf h)) (roles-from h i within)
 
 -- ---- the tests of the code
 module _ (h : List ℕ) (i : ℕ) (name : List ℕ) where

@@ -16,7 +16,7 @@ use Rattle.text.specs.Text.{filled}
 use Rattle.text.proofs.Trimming.{at-next}
 use Rattle.listing.specs.Listing.{places, free}
 use Rattle.listing.specs.Inserting.{bearsOf, placeBy}
-use Rattle.listing.specs.Marks.{factor, half, buckets, markFrom, markOf, Bears, lastIn, bearsAt, Marked}
+use Rattle.listing.specs.Marks.{factor, half, buckets, markFrom, markOf, BearsOnly, lastIn, bearsAt, Marked}
 use Rattle.listing.proofs.Bearing.{place-here, place-nowhere, place-from}
 use Rattle.listing.proofs.Chaining.{last-under, last-hit, last-gap, last-set, last-put}
 
@@ -146,7 +146,7 @@ module _ {h first marks heads links : List ℕ} {count : ℕ} (all : Marked h fi
             by j p q false d false g = W .past j (ltb-false _ _ g) q
 
   -- ---- an entry put behind the others, where no place bears its name
-  module _ (i m : ℕ) (name : List ℕ) (room : count < places) (own : Bears h i name) (is : m ≡ markOf name)
+  module _ (i m : ℕ) (name : List ℕ) (room : count < places) (own : BearsOnly h i name) (is : m ≡ markOf name)
       (new : (j : ℕ) → j < count → bearsAt h first j name ≡ false) where
     -- the arrays then: a place for the entry, which leads to the last place of its bucket before it
     abbrev first₁ : List ℕ

@@ -51,13 +51,14 @@ pub data Listed : Type 0 where
   listed : Table → Listed
   full : ℕ → Listed
 
--- of equal names the last entry counts, at the first one's place; a new name takes the next free place
+-- card i as the last entry of the name at place k, and as the first and last of a new name
 abbrev pub putAgain : Table → ℕ → ℕ → Table
 putAgain t k i = record { first = t .first; last = set (t .last) k i }
 
 abbrev pub putNew : Table → ℕ → Table
 putNew t i = record { first = t .first ++ i ∷ []; last = t .last ++ i ∷ [] }
 
+-- of equal names the last entry counts, at the first one's place; a new name takes the next free place
 abbrev pub put : Place → ℕ → Table → (Table → Listed) → Listed
 put (At k) i t rest = rest (putAgain t k i)
 put Nowhere i t rest = cond (ltb (length (t .first)) places) (rest (putNew t i)) (full i)

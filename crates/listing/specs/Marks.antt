@@ -30,8 +30,8 @@ markFrom m (b ∷ s) = markFrom (m % half * factor + m / half + b) s
 abbrev pub markOf : List ℕ → ℕ
 markOf s = markFrom 0 s
 
--- the card with number i bears no other name
-pub record Bears (h : List ℕ) (i : ℕ) (name : List ℕ) : Type 0 where
+-- the card with number i bears no name but this
+pub record BearsOnly (h : List ℕ) (i : ℕ) (name : List ℕ) : Type 0 where
   pub only : (other : List ℕ) → bearsOf h i other ≡ true → other ≡ name
 
 -- how many names there are then
@@ -66,7 +66,7 @@ pub record Marked (h first marks heads links : List ℕ) (count : ℕ) : Type 0 
 
 -- the entry of card i, which bears the name, is to be put into a table that has a free place
 pub record Ready (h name : List ℕ) (i count : ℕ) (first last marks heads links : List ℕ) : Type 0 where
-  pub own : Bears h i name
+  pub own : BearsOnly h i name
   pub marked : Marked h first marks heads links count
   pub last-long : length last ≡ places
   pub room : count < places

@@ -51,8 +51,7 @@ pub fn list(header: &[u8]) -> Listing
 {
     let cards = roles::card_count(header);
     if cards == 0 {
-        let fault = refusal::fault_of(Refusal::HeaderLength);
-        return refused(finding::stop_at(fault, 0));
+        return refused(finding::stop_at(refusal::fault_of(Refusal::HeaderLength), 0));
     }
     let mut first = [FREE; 720];
     let mut last = [FREE; 720];
@@ -89,8 +88,7 @@ pub fn list(header: &[u8]) -> Listing
                     &mut heads,
                     &mut links,
                 ) else {
-                    let fault = refusal::fault_of(Refusal::TableFull);
-                    return refused(finding::stop_at(fault, i));
+                    return refused(finding::stop_at(refusal::fault_of(Refusal::TableFull), i));
                 };
                 count = n;
                 i += 1;
@@ -103,8 +101,7 @@ pub fn list(header: &[u8]) -> Listing
             }
         }
     }
-    let fault = refusal::fault_of(Refusal::NoEnd);
-    refused(finding::stop_at(fault, cards))
+    refused(finding::stop_at(refusal::fault_of(Refusal::NoEnd), cards))
 }
 
 // The entry at a place of a listing's last entries, joined and read into the lent buffers. A place that the listing lacks is free.
