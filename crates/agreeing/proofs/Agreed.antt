@@ -23,7 +23,7 @@ use Rattle.finding.specs.declared.Header.{Header}
 use Rattle.finding.specs.declared.Header.the-variants.{Accepted}
 use Rattle.finding.specs.Finding.{headerOf, lastFrom, lastOf}
 use Rattle.entries.specs.declared.LookupAnswer.the-variants as L
-use Rattle.entries.specs.Answers.{LookupOutcome, leftBy, found, untouched, written, bytesIn, given, lookedUp, lookupOf}
+use Rattle.entries.specs.Answers.{LookupOutcome, leftBy, foundAs, untouched, written, bytesIn, given, lookedUp, lookupOf}
 use Rattle.entries.specs.Answers.{entryHead, entryAt, entryOf}
 use Rattle.entries.proofs.Looking.{accepted-good, last-found}
 use Rattle.listing.specs.declared.Listing.{Listing}
@@ -197,7 +197,7 @@ not-12 v text comment e = go (leb (length s) (length text) && leb (length c) (le
     c = bytesIn (v .words .comment)
 
     fits : LookupOutcome
-    fits = leftBy (found v) (sets text 0 s) (sets comment 0 c)
+    fits = leftBy (foundAs v) (sets text 0 s) (sets comment 0 c)
 
     short : LookupOutcome
     short = untouched (L.Refused (faultOf R.BufferShort)) text comment

@@ -8,7 +8,6 @@ use Rattle.roles.specs.Cards.{cardsOf, rolesOf}
 use Rattle.joining.specs.Lookup.{lookup}
 use Rattle.joining.proofs.Demand3.{demand-3-bytes}
 use Rattle.finding.specs.declared.Header.{Header}
-use Rattle.finding.specs.Finding.{headerOf}
 use Rattle.entries.specs.Answers.{given, lookedUp, lookupOf}
 use Rattle.demands.specs.Demands.{IsAccepted, Isolation}
 

@@ -3,7 +3,7 @@ use Prim.Native.Char.{code}
 use Prim.Native.Nat.{ℕ, zero, suc, _+_, _*_, _/_, _<_, _≤_}
 use native.Mathlib.Omega.{arith}
 use mathlib.Core.Path.{_≡_, refl, sym, ap, subst, _∙_}
-use mathlib.Core.Bool.{Bool, true, false, cond, true≢false, _&&_}
+use mathlib.Core.Bool.{Bool, true, false, cond, true≢false}
 use mathlib.Core.List.{List, [], _∷_}
 use mathlib.Core.Option.{none, some}
 use borrow.Author.Tests.{eqb-true, eq-eqb, ne-eqb}
@@ -21,14 +21,13 @@ use Rattle.numbers.specs.declared.Value.the-variants as Val
 use Rattle.card.specs.declared.Card.the-variants as C
 use Rattle.card.specs.declared.CardAnswer.{CardAnswer}
 use Rattle.card.specs.declared.CardAnswer.the-variants as A
-use Rattle.card.specs.declared.CardRead.{CardRead}
 use Rattle.card.specs.Cards.{cardOf}
 use Rattle.roles.specs.declared.Role.{Role as Told}
 use Rattle.roles.specs.declared.Role.the-variants.{Entry, More, Neutral, Last, Refused}
 use Rattle.roles.specs.declared.CardRole.{CardRole}
 use Rattle.roles.specs.Roles.{Comment, Words, Role, entry, more, neutral, last, refused}
 use Rattle.roles.specs.Roles.{isString, commentOf, wordsIn, roleBy, seenOf, roleIn}
-use Rattle.roles.specs.Cards.{cardNo, roleNo, rolesOf}
+use Rattle.roles.specs.Cards.{cardNo, rolesOf}
 use Rattle.roles.proofs.Role as role
 use Rattle.roles.proofs.Cards.{roles-from, roles-past}
 use Rattle.joining.specs.Words.{endsOpen, opens, addsNothing, joinText, joinComment, joinWords}

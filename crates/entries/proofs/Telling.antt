@@ -1,6 +1,6 @@
 -- What is known of a value or a role where a test for some of its variants fails.
 use mathlib.Core.Path.{_≡_, refl}
-use mathlib.Core.Bool.{Bool, false}
+use mathlib.Core.Bool.{false}
 use mathlib.Core.List.{List, [], _∷_}
 use mathlib.Core.Option.{none}
 use types.Run.{OneOf, miss}
@@ -11,7 +11,7 @@ use Rattle.numbers.proofs.Value as value
 use Rattle.roles.specs.declared.Role.{Role as Told}
 use Rattle.roles.specs.declared.Role.the-variants.{Entry, More, Neutral, Last, Refused}
 use Rattle.roles.specs.declared.CardRole.{CardRole}
-use Rattle.roles.specs.Roles.{Role, hasText, hasDigits, roleIn}
+use Rattle.roles.specs.Roles.{Role, hasDigits, roleIn}
 use Rattle.roles.proofs.Role as role
 use Rattle.entries.specs.Answers.{entryHead}
 

@@ -1,6 +1,5 @@
 // Where a name stands in a header: the cards read up to END, and the last of them that bears the name.
 ghost use mathlib.Core.Path.{_≡_};
-ghost use lib.ListN.{length};
 ghost use Rattle.text.specs.Same.{same};
 ghost use Rattle.text.specs.Text.{bytesOf};
 ghost use Rattle.roles.specs.Roles.{roleSeen};

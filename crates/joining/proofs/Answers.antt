@@ -8,7 +8,7 @@ use Rattle.text.specs.Same.{same}
 use Rattle.joining.specs.Words.{opens}
 use Rattle.roles.specs.Roles.{Words, Held, Role, entry, more, neutral, last, refused}
 use Rattle.joining.specs.Lookup.{isOpen, joined, orElse, ifSame, joinOn, whole, lookup}
-use Rattle.joining.specs.Belonging.{Entry, Open, ended, idle, held, Effect, gives, nothing, stops, does, leaves, effects}
+use Rattle.joining.specs.Belonging.{Entry, Open, ended, idle, held, gives, leaves, effects}
 use Rattle.joining.proofs.Names.{answer, or-none}
 
 -- nothing is joined to a value that is not open

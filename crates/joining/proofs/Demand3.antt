@@ -2,11 +2,9 @@
 use Prim.Native.Nat.{ℕ, zero, suc}
 use native.Mathlib.Omega.{arith}
 use mathlib.Core.Path.{_≡_, refl, sym, ap, ap₂, subst, _∙_}
-use mathlib.Core.Bool.{Bool, true, false, cond, true≢false}
+use mathlib.Core.Bool.{Bool, true, false}
 use mathlib.Core.List.{List, [], _∷_, map}
-use mathlib.Core.Option.{Option}
 use lib.ListN.{length, getD, length-map, List·getD-map}
-use Rattle.text.specs.Same.{same}
 use Rattle.roles.specs.Roles.{Role}
 use Rattle.joining.specs.Lookup.{lookup}
 use Rattle.joining.specs.Belonging.{Open, idle, Effect, gives, nothing, stops, does, leaves, effects, bears, belongs}

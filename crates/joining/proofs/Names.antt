@@ -1,6 +1,6 @@
 -- Names, and what a name is answered when another name's cards are left out.
 use Prim.Native.Nat.{ℕ}
-use mathlib.Core.Path.{_≡_, refl, sym, ap, ap₂, _∙_}
+use mathlib.Core.Path.{_≡_, refl, sym, ap₂, _∙_}
 use mathlib.Core.Bool.{Bool, true, false, cond, _&&_}
 use mathlib.Core.List.{List, [], _∷_}
 use mathlib.Core.Option.{Option, none, some}
@@ -10,7 +10,7 @@ use Rattle.laws.proofs.Truths.{false≢true}
 use Rattle.text.specs.Same.{same}
 use Rattle.roles.specs.Roles.{Held}
 use Rattle.joining.specs.Lookup.{orElse, ifSame}
-use Rattle.joining.specs.Belonging.{Effect, Entry, gives, nothing, stops, bears}
+use Rattle.joining.specs.Belonging.{Effect, gives, nothing, stops, bears}
 
 pub same-eq : (s t : List ℕ) → same s t ≡ true → s ≡ t
 unfolding same

@@ -1,6 +1,6 @@
 -- Which cards belong to a name: those that bear its entry, and the CONTINUE cards joined to such an entry (demand 3).
 use Prim.Native.Nat.{ℕ}
-use mathlib.Core.Bool.{Bool, true, false, cond}
+use mathlib.Core.Bool.{Bool, false, cond}
 use mathlib.Core.List.{List, [], _∷_}
 use lib.ListN.{getD}
 use Rattle.text.specs.Same.{same}

@@ -1,8 +1,8 @@
 // A card's text taken apart into value text and comment, and value texts read as strings.
 ghost use mathlib.Core.Path.{_≡_};
 ghost use Prim.Native.Nat.{_+_, _≤_, _<_};
-ghost use mathlib.Core.List.{[], map};
-ghost use lib.ListN.{length, take, drop};
+ghost use mathlib.Core.List.{map};
+ghost use lib.ListN.{length, drop};
 ghost use Rattle.text.specs.Bytes.{isSpace, shown};
 ghost use Rattle.text.specs.Trim.{trim, trimEnd};
 ghost use Rattle.text.specs.Text.{size, textOf, bytesOf};

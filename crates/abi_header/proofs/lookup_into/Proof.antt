@@ -1,5 +1,4 @@
 -- `abi_header::lookup_into` meets its contract: with other lengths nothing is read; otherwise what is read is written.
-use lib.ListN.{length}
 use Rattle.entries.specs.Answers.{lookupOf}
 use Rattle.abi_header.proofs.Fitting.{both}
 use Rattle.abi_header.proofs.Leaving.{unread, told}

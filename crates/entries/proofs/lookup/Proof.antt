@@ -10,8 +10,7 @@ use Rattle.roles.specs.Cards.{rolesOf}
 use Rattle.roles.proofs.Counting.{good-cards}
 use Rattle.finding.specs.declared.Header.{Header}
 use Rattle.finding.specs.declared.Header.the-variants.{Accepted, Refused}
-use Rattle.finding.specs.declared.Found.the-variants as F
-use Rattle.finding.specs.Finding.{headerOf, lastOf, findOf}
+use Rattle.finding.specs.Finding.{headerOf, lastOf}
 use Rattle.finding.proofs.Searching.{header-refused, header-read}
 use Rattle.entries.specs.Answers.{leftBy, given, lookedUp, lookupOf, entryAt}
 use Rattle.entries.proofs.Looking.{accepted-good, last-found, last-within}

@@ -1,19 +1,15 @@
 -- `finding::find` meets its contract: what is left of the cards decides for the whole.
-use Prim.Native.Nat.{ℕ, _-_, _/_}
-use native.Mathlib.Omega.{arith}
+use Prim.Native.Nat.{_-_, _/_}
 use mathlib.Core.Path.{_≡_, sym, ap, _∙_}
 use mathlib.Core.Bool.{false}
-use mathlib.Core.List.{List}
 use lib.ListN.{length}
 use borrow.Author.Needs.{needs}
 use Rattle.refusal.specs.declared.Fault.{Fault}
 use Rattle.card.specs.declared.CardRead.{CardRead}
-use Rattle.roles.specs.declared.CardRole.{CardRole}
 use Rattle.roles.specs.Roles.{seenOf, roleSeen}
 use Rattle.roles.specs.Cards.{roleNo, isBadLength}
 use Rattle.roles.proofs.Counting.{card-here}
 use Rattle.finding.specs.declared.Found.the-variants as F
-use Rattle.finding.specs.declared.Pass.the-variants.{On, Stops}
 use Rattle.finding.specs.Finding.{stopAt}
 use Rattle.finding.proofs.Searching.{Reached, start, bad-found, at-end, on-card, on-stop}
 use Rattle.finding.proofs.find.Statement.{statement}

@@ -1,9 +1,9 @@
 -- `finding::pass_card` meets its contract, role by role.
-use mathlib.Core.Path.{_≡_, refl, sym, ap, _∙_}
+use mathlib.Core.Path.{_≡_, sym, ap, _∙_}
 use mathlib.Core.Bool.{Bool, cond}
 use Rattle.text.specs.declared.Place.the-variants.{At}
 use Rattle.roles.specs.declared.Role.{Role}
-use Rattle.roles.specs.declared.Role.the-variants.{Entry, More, Neutral, Last, Refused}
+use Rattle.roles.specs.declared.Role.the-variants.{Entry, More, Neutral}
 use Rattle.roles.specs.Roles.{roleIn, roleSeen}
 use Rattle.finding.specs.declared.Pass.the-variants.{On}
 use Rattle.finding.specs.Passing.{passOf}

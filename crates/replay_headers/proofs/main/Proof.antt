@@ -1,8 +1,7 @@
 -- `replay_headers::main` is safe and ends.
-use Prim.Native.Nat.{_-_, _≤_}
-use native.Mathlib.Omega.{arith}
-use mathlib.Core.Path.{_≡_, refl}
-use lib.ListN.{length, length-set}
+use Prim.Native.Nat.{_-_}
+use mathlib.Core.Path.{_≡_}
+use lib.ListN.{length}
 use borrow.Author.Needs.{needs}
 use Rattle.replay_headers.proofs.main.Statement.{statement}
 use Rattle.replay_headers.proofs.main.Tie as tie

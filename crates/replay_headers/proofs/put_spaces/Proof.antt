@@ -1,8 +1,7 @@
 -- `replay_headers::put_spaces` is safe and ends.
 use Prim.Native.Nat.{_-_, _≤_}
-use native.Mathlib.Omega.{arith}
-use mathlib.Core.Path.{_≡_, refl}
-use lib.ListN.{length, length-set}
+use mathlib.Core.Path.{_≡_}
+use lib.ListN.{length}
 use borrow.Author.Needs.{needs}
 use Rattle.replay_headers.proofs.put_spaces.Statement.{statement}
 use Rattle.replay_headers.proofs.put_spaces.Tie as tie

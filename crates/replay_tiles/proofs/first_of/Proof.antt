@@ -1,5 +1,5 @@
 -- `replay_tiles::first_of` meets its contract: a number beyond the end takes all.
-use mathlib.Core.Path.{_≡_, sym}
+use mathlib.Core.Path.{sym}
 use native.Mathlib.Omega.{arith}
 use lib.Seq.{length-take-le, take-all}
 use borrow.Author.Needs.{needs}

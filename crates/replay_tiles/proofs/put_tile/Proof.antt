@@ -1,6 +1,6 @@
 -- `replay_tiles::put_tile` is safe and ends: each part that is lent is within its slice.
 use native.Mathlib.Omega.{arith}
-use mathlib.Core.Path.{_≡_, sym}
+use mathlib.Core.Path.{sym}
 use mathlib.Core.List.{_++_}
 use lib.ListN.{drop}
 use lib.Seq.{length-take-le}

@@ -1,12 +1,11 @@
 -- `roles::card_within` meets its contract: 80 bytes fill the array.
-use Prim.Native.Nat.{ℕ, _*_, _-_, _≤_}
+use Prim.Native.Nat.{ℕ, _*_, _-_}
 use native.Mathlib.Omega.{arith}
-use native.Mathlib.Nat.{sub-self}
-use mathlib.Core.Path.{_≡_, refl, sym, ap, _∙_}
+use mathlib.Core.Path.{_≡_, ap, _∙_}
 use mathlib.Core.List.{List, append-nil}
-use lib.ListN.{length, take, drop, replicate, length-take, length-drop}
+use lib.ListN.{length, take, drop, length-take, length-drop}
 use Rattle.text.specs.declared.Text.{Text}
-use Rattle.text.specs.Text.{size, filled, padded, textOf}
+use Rattle.text.specs.Text.{size, filled, padded}
 use Rattle.text.proofs.Trimming.{take-rest}
 use Rattle.card.specs.Cards.{cardOf}
 use borrow.Author.Needs.{needs}

@@ -1,10 +1,9 @@
 -- `roles::is_bad_length` meets its contract, test by test.
 use Prim.Native.Nat.{ℕ, _%_}
-use mathlib.Core.Path.{_≡_, ap, sym, _∙_}
-use mathlib.Core.Bool.{true, not}
+use mathlib.Core.Path.{_≡_}
+use mathlib.Core.Bool.{true}
 use borrow.Author.Tests.{eq-eqb, ne-eqb}
 use lib.Dec.{ltb}
-use borrow.Author.Needs.{needs}
 use Rattle.roles.specs.Cards.{isBadLength}
 use Rattle.roles.proofs.is_bad_length.Statement.{statement}
 use Rattle.roles.proofs.is_bad_length.Tie as tie
