@@ -41,7 +41,8 @@ fn own(root: &Path) -> PathBuf {
     if archive.is_file() {
         return archive;
     }
-    let advice = "set WIDREKAS_ARCHIVE to a folder with libwidrekas.a, or run `rt staticlib widrekas` at the project's root";
+    let advice =
+        "set WIDREKAS_ARCHIVE to a folder with libwidrekas.a, or run `rt staticlib widrekas` at the project's root";
     match Command::new("rt").args(["staticlib", "widrekas"]).current_dir(root).output() {
         Ok(run) if run.status.success() && archive.is_file() => archive,
         Ok(run) => {
