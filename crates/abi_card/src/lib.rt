@@ -8,13 +8,11 @@ ghost use Rattle.laws.specs.Lending.{lentOf};
 ghost use Rattle.abi_value.specs.Telling.{told};
 ghost use Rattle.abi_card.specs.Records.{classNumber, cardTold, byteOf, recordHead, recordOf, cardOutcome, recordedAs, CardLeft};
 use abi_value::Told;
+use card::CARD;
 use card::Card;
 use card::CardAnswer;
 use card::CardRead;
 use text::Text;
-
-// The bytes of a card.
-const CARD: usize = 80;
 
 // The bytes of a card's record, and where its texts stand, 80 bytes each.
 const RECORD: usize = 248;

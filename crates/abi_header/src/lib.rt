@@ -11,13 +11,12 @@ use entries::Looked;
 use entries::LookupAnswer;
 use finding::Header;
 use listing::Listing;
+use listing::PLACES;
 
-// The numbers of an entry, the bytes of its digits, and the places of a list.
+// The numbers of an entry, and the bytes of its digits.
 const NUMBERS: usize = 7;
 
 const DIGITS: usize = 80;
-
-const PLACES: usize = 720;
 
 // Looks a name up. Answers 0, and lays the entry's numbers, text, comment and digits into the lent memory.
 // Otherwise it answers the refusal's number, or 255 where digits or numbers have another length. Nothing is written then, except

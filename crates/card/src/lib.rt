@@ -64,7 +64,7 @@ pub enum Class {
 pub const CARD: usize = 80;
 
 // The keyword's bytes, where the text of commentary and CONTINUE begins.
-const KEYWORD: usize = 8;
+pub const KEYWORD: usize = 8;
 
 // Where a HIERARCH card's name begins.
 const HIERARCHY: usize = 9;

@@ -1,6 +1,7 @@
 // Reads the cards of document 01's "Readings at the edges", and those that show how its other words on one card are read.
 // It prints a line for each: the card without the spaces that fill it up, and the reading: its class, its name, its value
 // or text, and its comment with the unit; or the refusal's number. A byte outside 32..126 is printed in hexadecimal.
+use card::CARD;
 use card::Card;
 use card::CardAnswer;
 use card::CardRead;
@@ -11,9 +12,6 @@ use test_output::put;
 use test_output::put_integer;
 use text::Text;
 use value::UnitPlace;
-
-// The bytes of a card.
-const CARD: usize = 80;
 
 // The hexadecimal digits of a byte.
 const HEX_DIGITS: usize = 2;

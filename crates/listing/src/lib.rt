@@ -7,10 +7,12 @@ ghost use Rattle.listing.specs.Listing.{empty, tabled, listOf, placeOfEn
 ghost use Rattle.listing.specs.Inserting.{bearsOf, placeBy, insertionBy, insertAt, insertOf};
 ghost use Rattle.listing.specs.Marks.{markOf, Marked, Ready, Entered};
 use card::CARD;
+use card::KEYWORD;
 use entries::Looked;
 use finding::Header;
 use finding::Stop;
 use refusal::Refusal;
+use roles::MOST_CARDS;
 use roles::Role;
 use text::Cut;
 use text::Place;
@@ -31,11 +33,11 @@ pub enum Inserted {
     Full,
 }
 
-// What stands at a free place: no card has this number.
-const FREE: usize = 720;
+// The places of the table: one for each card that a header may have.
+pub const PLACES: usize = MOST_CARDS;
 
-// The bytes of a keyword.
-const KEYWORD: usize = 8;
+// What stands at a free place: no card has this number.
+const FREE: usize = MOST_CARDS;
 
 // The mark of a name is a number of 64 bits: for each byte its lower half is multiplied by MARK_FACTOR, and its upper half is added.
 const MARK_FACTOR: usize = 4294957665;

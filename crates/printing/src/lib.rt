@@ -5,9 +5,7 @@ use finding::Header;
 use libc::STDOUT_FILENO;
 use lines::Line;
 use listing::Listing;
-
-// The places of the table of names.
-const PLACES: usize = 720;
+use listing::PLACES;
 
 // Prints the lines of a header to standard output.
 pub fn print_header(header: &[u8]) {

@@ -4,12 +4,9 @@
 ghost use mathlib.Core.Path.{_≡_};
 ghost use Prim.Native.Nat.{_+_, _≤_, _<_};
 ghost use lib.ListN.{length};
+use card::CARD;
 use libc::STDIN_FILENO;
-
-// The bytes of a card, and the most cards of a header.
-const CARD: usize = 80;
-
-const CARDS: usize = 720;
+use roles::MOST_CARDS;
 
 // More headers than the list has.
 const HEADERS: usize = 10000;
@@ -34,7 +31,7 @@ fn main() {
 
 // The first n cards of a buffer.
 fn text_of_cards(buffer: &[u8], n: usize) -> &[u8] {
-    if n <= CARDS {
+    if n <= MOST_CARDS {
         return text::first_of(buffer, n * CARD);
     }
     buffer
@@ -50,7 +47,7 @@ fn next_header(buffer: &mut [u8]) -> Next
     }
     let n = wide(two[0]) * 256 + wide(two[1]);
     let mut i = 0;
-    while i < n && i < CARDS {
+    while i < n && i < MOST_CARDS {
         next_card(buffer, i);
         i += 1;
     }

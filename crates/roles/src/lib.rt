@@ -36,8 +36,11 @@ pub struct CardRole {
     pub comment: Text,
 }
 
-// The bytes of the longest header: 720 cards.
-const LONGEST: usize = 720 * CARD;
+// The most cards of a header.
+pub const MOST_CARDS: usize = 720;
+
+// The bytes of the longest header.
+const LONGEST: usize = MOST_CARDS * CARD;
 
 // 0, not a multiple of a card, or beyond the longest.
 pub fn is_bad_length(n: usize) -> bool
