@@ -21,12 +21,12 @@ use Rattle.numbers.specs.declared.Value.the-variants as Val
 use Rattle.card.specs.declared.Card.the-variants as C
 use Rattle.card.specs.declared.CardAnswer.{CardAnswer}
 use Rattle.card.specs.declared.CardAnswer.the-variants as A
+use Rattle.card.specs.declared.CardRead.{CardRead}
 use Rattle.card.specs.Cards.{cardOf}
 use Rattle.roles.specs.declared.Role.{Role as Told}
 use Rattle.roles.specs.declared.Role.the-variants.{Entry, More, Neutral, Last, Refused}
-use Rattle.roles.specs.declared.CardRole.{CardRole}
 use Rattle.roles.specs.Roles.{Comment, Words, Role, entry, more, neutral, last, refused}
-use Rattle.roles.specs.Roles.{isString, commentOf, wordsIn, roleBy, seenOf, roleIn}
+use Rattle.roles.specs.Roles.{isString, commentOf, wordsIn, roleBy, roleIn}
 use Rattle.roles.specs.Cards.{cardNo, rolesOf}
 use Rattle.roles.proofs.Role as role
 use Rattle.roles.proofs.Cards.{roles-from, roles-past}
@@ -71,14 +71,14 @@ begun = record { text = code "&" ∷ []; comment = none; joins = true }
 abbrev beginning : Lengths
 beginning = record { text = 1; comment = 0; commented = false; going = true }
 
-begun-by : (s : CardRole) → endsOpen (bytesOf (s .text)) ≡ true → wordsIn Val.String true s ≡ joinedBy (moreOf s) begun
+begun-by : (s : CardRead) → endsOpen (bytesOf (s .text)) ≡ true → wordsIn Val.String true s ≡ joinedBy (moreOf s) begun
 unfolding joinWords joinText joinComment stem
 begun-by s e =
     let adds : bytesOf (s .text) ≡ joinText (code "&" ∷ []) (bytesOf (s .text)) = rw (open-adds (bytesOf (s .text)) e) in
     λ j. record { text = adds j; comment = commentOf (s .commented) (bytesOf (s .comment)); joins = true }
 
 -- what may be continued is a string, so words that are open are those of one
-module _ (s : CardRole) where
+module _ (s : CardRead) where
   value-begun : (v : Value) → opens (wordsIn v (isString v) s) ≡ true → wordsIn v (isString v) s ≡ joinedBy (moreOf s) begun
   unfolding opens
   value-begun (Val.Integer z) e = absurd (true≢false (sym e))
@@ -137,7 +137,7 @@ module _ (w : Words) (joins : w .joins ≡ true) (opened : opens w ≡ true) whe
 -- ---- where the loop stands: what is left is joined to the words as they stand
 -- the cards from number j on, where the string begins at card i
 abbrev restBy : List ℕ → ℕ → Bool → List Role
-restBy h j first = cond first (moreOf (seenOf (cardOf (cardNo h j))) ∷ drop (j + 1) (rolesOf h)) (drop j (rolesOf h))
+restBy h j first = cond first (moreOf (cardOf (cardNo h j)) ∷ drop (j + 1) (rolesOf h)) (drop j (rolesOf h))
 
 abbrev rest : List ℕ → ℕ → ℕ → List Role
 rest h i j = restBy h j (eqb j i)
@@ -170,7 +170,6 @@ module _ {h : List ℕ} {i : ℕ} {texts₀ : List ℕ} (room : Room h i texts�
   pub begin : (before : List ℕ) → Going h i beginning (set texts₀ 0 (code "&")) before before i
   begin before =
       let card = cardOf (cardNo h i) in
-      let seen = seenOf card in
       let all = drop (i + 1) (rolesOf h) in
       record {
         w = begun;
@@ -182,9 +181,9 @@ module _ {h : List ℕ} {i : ℕ} {texts₀ : List ℕ} (room : Room h i texts�
         comment = omega arith;
         going = λ _. begun-open;
         left =
-            ap (λ (b : Bool). joinOn begun (cond b (moreOf seen ∷ all) (drop i (rolesOf h)))) (eq-eqb i i refl)
+            ap (λ (b : Bool). joinOn begun (cond b (moreOf card ∷ all) (drop i (rolesOf h)))) (eq-eqb i i refl)
             ∙ begun-more (bytesOf (card .text)) (commentOf (card .commented) (bytesOf (card .comment))) all
-            ∙ ap (λ (x : Words). joinOn x all) (sym (words-begun seen (card .answer) (room .opened)));
+            ∙ ap (λ (x : Words). joinOn x all) (sym (words-begun card (card .answer) (room .opened)));
       }
 
   module _ {held : Lengths} {texts before comments : List ℕ} {j : ℕ} (G : Going h i held texts before comments j) where
@@ -272,7 +271,7 @@ module _ (held : Lengths) (texts comments : List ℕ) where
   still : (w : Words) (before : List ℕ) → Stands w held texts before comments → Stands w (stopped held) texts before comments
   still w before S = record { text = S .text; within = S .within; commented = S .commented; comment = S .comment; laid = S .laid }
 
-  pub ended : (t : Told) → OneOf (0 ∷ 3 ∷ []) (tagOf role.the-type t) → (s : CardRole)
+  pub ended : (t : Told) → OneOf (0 ∷ 3 ∷ []) (tagOf role.the-type t) → (s : CardRead)
       → JoinedOne (roleIn t s) held (stopped held) texts comments texts comments
   ended (Entry v joins) e s = record { words = still; going = refl; text = omega arith; comment = omega arith }
   ended More e s = absurd (miss (0 ∷ 3 ∷ []) 1 tt e)
@@ -352,6 +351,6 @@ module _ (t c : List ℕ) (held : Lengths) {texts comments texts₁ : List ℕ} 
       }
 
 -- ---- the role of a card to the string before it
-pub role-at : (first : Bool) (s : CardRole) → roleIn (cond first More (s .role)) s ≡ cond first (moreOf s) (roleIn (s .role) s)
-role-at true s = refl
-role-at false s = refl
+pub role-at : (first : Bool) (t : Told) (r : CardRead) → roleIn (cond first More t) r ≡ cond first (moreOf r) (roleIn t r)
+role-at true t r = refl
+role-at false t r = refl

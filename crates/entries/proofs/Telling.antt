@@ -10,7 +10,7 @@ use Rattle.numbers.specs.declared.Value.the-variants as Val
 use Rattle.numbers.proofs.Value as value
 use Rattle.roles.specs.declared.Role.{Role as Told}
 use Rattle.roles.specs.declared.Role.the-variants.{Entry, More, Neutral, Last, Refused}
-use Rattle.roles.specs.declared.CardRole.{CardRole}
+use Rattle.card.specs.declared.CardRead.{CardRead}
 use Rattle.roles.specs.Roles.{Role, hasDigits, roleIn}
 use Rattle.roles.proofs.Role as role
 use Rattle.entries.specs.Answers.{entryHead}
@@ -25,7 +25,7 @@ not-float Val.Undefined e = refl
 not-float Val.Invalid e = refl
 
 -- a card that is no entry gives none
-pub gives-none : (s : CardRole) (t : Told) → OneOf (1 ∷ 2 ∷ 3 ∷ 4 ∷ []) (tagOf role.the-type t) → (h : List Role)
+pub gives-none : (s : CardRead) (t : Told) → OneOf (1 ∷ 2 ∷ 3 ∷ 4 ∷ []) (tagOf role.the-type t) → (h : List Role)
     → none ≡ entryHead (roleIn t s ∷ h)
 gives-none s (Entry v joins) e h = absurd (miss (1 ∷ 2 ∷ 3 ∷ 4 ∷ []) 0 tt e)
 gives-none s More e h = refl

@@ -19,7 +19,7 @@ use Rattle.card.specs.declared.Card.the-variants as C
 use Rattle.card.specs.declared.CardAnswer.{CardAnswer}
 use Rattle.card.specs.declared.CardAnswer.the-variants as A
 use Rattle.roles.specs.declared.Role.the-variants.{Entry}
-use Rattle.roles.specs.declared.CardRole.{CardRole}
+use Rattle.card.specs.declared.CardRead.{CardRead}
 use Rattle.roles.specs.Roles.{Comment, Words, Held, Role, hasText, hasDigits, isString, commentOf, wordsIn, roleBy}
 use Rattle.joining.specs.Words.{endsOpen, opens}
 use Rattle.joining.specs.Lookup.{joinOn}
@@ -95,7 +95,7 @@ there-if : (b : Bool) (c : List ℕ) → b ≡ isThere (commentOf b c)
 there-if true c = refl
 there-if false c = refl
 
-module _ (shown : Bool) (p : CardRole) (text comment : List ℕ) {fits : Bool} {n m : ℕ}
+module _ (shown : Bool) (p : CardRead) (text comment : List ℕ) {fits : Bool} {n m : ℕ}
     (count : n ≡ length (cond shown (bytesOf (p .text)) []))
     (count-too : m ≡ length (cond (p .commented) (bytesOf (p .comment)) []))
     (fit : fits ≡ (leb n (length text) && leb m (length comment))) where
@@ -217,7 +217,7 @@ empty-shut : endsOpen [] ≡ false
 unfolding endsOpen endsWith
 empty-shut = refl
 
-module _ (v : Value) (joins : Bool) (p : CardRole) where
+module _ (v : Value) (joins : Bool) (p : CardRead) where
   pub own-open : (joins ≡ true → hasText v ≡ true) → (joins && endsOpen (bytesOf (p .text))) ≡ true → opens (wordsIn v joins p) ≡ true
   unfolding opens
   own-open text e = go joins refl e

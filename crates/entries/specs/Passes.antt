@@ -15,8 +15,8 @@ use Rattle.text.specs.Bytes.{lineFeed}
 use Rattle.text.specs.Text.{textOf, bytesOf}
 use Rattle.card.specs.Cards.{cardOf}
 use Rattle.roles.specs.declared.Role.the-variants as T
-use Rattle.roles.specs.declared.CardRole.{CardRole}
-use Rattle.roles.specs.Roles.{Comment, Words, Role, entry, more, neutral, last, refused, hasDigits, seenOf, roleIn}
+use Rattle.card.specs.declared.CardRead.{CardRead}
+use Rattle.roles.specs.Roles.{Comment, Words, Role, entry, more, neutral, last, refused, hasDigits, roleIn}
 use Rattle.roles.specs.Cards.{cardNo, roleNo, rolesOf}
 use Rattle.joining.specs.Words.{endsOpen, opens, joinWords}
 use Rattle.joining.specs.Lookup.{joinOn}
@@ -40,12 +40,12 @@ abbrev pub joinedWords : List ℕ → ℕ → Words
 joinedWords h i = joinOn (wordsOf (roleNo h i)) (drop (i + 1) (rolesOf h))
 
 -- a card as a CONTINUE card
-abbrev pub moreOf : CardRole → Role
-moreOf s = roleIn T.More s
+abbrev pub moreOf : CardRead → Role
+moreOf r = roleIn T.More r
 
 -- the role of card j to the string before it: the card that the string begins with counts as a CONTINUE card of an &
 abbrev pub roleFrom : Bool → List ℕ → ℕ → Role
-roleFrom first h j = cond first (moreOf (seenOf (cardOf (cardNo h j)))) (roleNo h j)
+roleFrom first h j = cond first (moreOf (cardOf (cardNo h j))) (roleNo h j)
 
 -- open words with a card behind them
 abbrev pub joinedBy : Role → Words → Words

@@ -15,12 +15,12 @@ ghost use Rattle.entries.specs.Answers.{leftBy, unread, given, lookupOf,
 ghost use Rattle.entries.specs.Passes.{longestComment, answerBy, wordsOf, joinedWords, roleFrom, placeBehind, laidBehind};
 ghost use Rattle.entries.specs.Passes.{Stands, JoinedOne, Space, Room, Wrote, WroteAt};
 use card::CARD;
+use card::CardRead;
 use finding::Found;
 use finding::Stop;
 use numbers::Value;
 use refusal::Fault;
 use refusal::Refusal;
-use roles::CardRole;
 use roles::Role;
 use text::Cut;
 use text::Place;
@@ -214,9 +214,9 @@ fn join_card(
     ensures { λ r. ⌜ JoinedOne (roleFrom first (now (header .entry)) j) held r
         (now (texts .entry)) (now (comments .entry)) (now (texts .exit)) (now (comments .exit)) ⌝ }
 {
-    let part = roles::role_at(header, j);
-    let own_role = part.role;
-    let role = role_behind(first, own_role);
+    let part = roles::card_at(header, j);
+    let answer = part.answer;
+    let role = role_behind(first, roles::role_of(answer));
     match role {
         Role::More => {}
         Role::Neutral => {
@@ -334,7 +334,7 @@ fn both_fit(n: usize, m: usize, text: usize, comment: usize) -> bool
 }
 
 // The words of an entry's own card, written where both lent buffers hold them.
-fn write_own(shown: bool, part: CardRole, text: &mut [u8], comment: &mut [u8]) -> Written
+fn write_own(shown: bool, part: CardRead, text: &mut [u8], comment: &mut [u8]) -> Written
     ensures { λ r. ⌜ Wrote (cond shown (bytesOf (part .text)) []) (commentOf (part .commented) (bytesOf (part .comment))) r
         (now (text .entry)) (now (comment .entry)) (now (text .exit)) (now (comment .exit)) ⌝ }
 {
@@ -417,8 +417,9 @@ fn entry_at(header: &[u8], i: usize, text: &mut [u8], comment: &mut [u8]) -> Loo
     ensures { λ r. ⌜ leftBy r (now (text .exit)) (now (comment .exit))
         ≡ given (entryHead (drop i (rolesOf (now (header .entry))))) (now (text .entry)) (now (comment .entry)) ⌝ }
 {
-    let part = roles::role_at(header, i);
-    let role = part.role;
+    let part = roles::card_at(header, i);
+    let answer = part.answer;
+    let role = roles::role_of(answer);
     let Role::Entry { value, joins } = role else {
         return not_found();
     };

@@ -10,10 +10,11 @@ use Rattle.refusal.specs.declared.Refusal.the-variants as R
 use Rattle.refusal.specs.Numbers.{faultOf}
 use Rattle.text.specs.declared.Place.{Place}
 use Rattle.text.specs.declared.Place.the-variants.{Nowhere}
+use Rattle.text.specs.Text.{bytesOf}
+use Rattle.card.specs.declared.CardRead.{CardRead}
 use Rattle.roles.specs.declared.Role.{Role as Told}
 use Rattle.roles.specs.declared.Role.the-variants as T
-use Rattle.roles.specs.declared.CardRole.{CardRole}
-use Rattle.roles.specs.Roles.{Role, entry, more, neutral, last, refused, roleIn}
+use Rattle.roles.specs.Roles.{Role, roleIn}
 use Rattle.roles.specs.Cards.{rolesOf, roleNo, isBadLength}
 use Rattle.roles.proofs.Cards.{roles-from, roles-past}
 use Rattle.finding.specs.declared.Stop.{Stop}
@@ -38,24 +39,24 @@ good-found : (h name : List ℕ) → isBadLength (length h) ≡ false → findFr
 unfolding findOf headerOf
 good-found h name e = rw e
 
--- ---- one card
-module _ (name : List ℕ) (i : ℕ) (p : Place) where
-  on-so : (r : Role) (h : List Role) (q : Place) → passOf r name i p ≡ On q → findFrom name (r ∷ h) i p ≡ findFrom name h (suc i) q
+-- ---- one card, by its role as the code has it
+module _ (name : List ℕ) (i : ℕ) (p : Place) (r : CardRead) (h : List Role) where
+  on-so : (t : Told) (q : Place) → passOf t (bytesOf (r .name)) name i p ≡ On q
+      → findFrom name (roleIn t r ∷ h) i p ≡ findFrom name h (suc i) q
   unfolding headerFrom lastFrom
-  on-so (entry m v) h q e = ap (findFrom name h (suc i)) cc
-  on-so (more t c) h q e = ap (findFrom name h (suc i)) cc
-  on-so neutral h q e = ap (findFrom name h (suc i)) cc
-  on-so last h q e = cc
-  on-so (refused f) h q e = cc
+  on-so (T.Entry v joins) q e = ap (findFrom name h (suc i)) cc
+  on-so T.More q e = ap (findFrom name h (suc i)) cc
+  on-so T.Neutral q e = ap (findFrom name h (suc i)) cc
+  on-so T.Last q e = cc
+  on-so (T.Refused f) q e = cc
 
-  stops-so : (t : Told) (s : CardRole) (h : List Role) → passOf (roleIn t s) name i p ≡ Stops
-      → stoppedAt t i p ≡ findFrom name (roleIn t s ∷ h) i p
+  stops-so : (t : Told) → passOf t (bytesOf (r .name)) name i p ≡ Stops → stoppedAt t i p ≡ findFrom name (roleIn t r ∷ h) i p
   unfolding headerFrom lastFrom
-  stops-so (T.Entry v joins) s h e = cc
-  stops-so T.More s h e = cc
-  stops-so T.Neutral s h e = cc
-  stops-so T.Last s h e = refl
-  stops-so (T.Refused f) s h e = refl
+  stops-so (T.Entry v joins) e = cc
+  stops-so T.More e = cc
+  stops-so T.Neutral e = cc
+  stops-so T.Last e = refl
+  stops-so (T.Refused f) e = refl
 
 -- ---- where the loop stands
 pub record Reached (h name : List ℕ) (p : Place) (i : ℕ) : Type 0 where
@@ -75,25 +76,25 @@ module _ {h name : List ℕ} {p : Place} {i : ℕ} (S : Reached h name p i) wher
       ∙ S .left
       ∙ good-found h name good
 
-  module _ (next : i < length h / 80) (s : CardRole) (is : roleIn (s .role) s ≡ roleNo h i) where
-    here : findFrom name (roleIn (s .role) s ∷ drop (i + 1) (rolesOf h)) i p ≡ findFrom name (rolesOf h) 0 Nowhere
+  module _ (next : i < length h / 80) (r : CardRead) (t : Told) (is : roleIn t r ≡ roleNo h i) where
+    abbrev rest : List Role
+    rest = drop (i + 1) (rolesOf h)
+
+    here : findFrom name (roleIn t r ∷ rest) i p ≡ findFrom name (rolesOf h) 0 Nowhere
     here =
-        ap (λ (r : Role). findFrom name (r ∷ drop (i + 1) (rolesOf h)) i p) is
+        ap (λ (x : Role). findFrom name (x ∷ rest) i p) is
         ∙ sym (ap (λ (l : List Role). findFrom name l i p) (roles-from h i next))
         ∙ S .left
 
-    pub on-card : (q : Place) → passOf (roleIn (s .role) s) name i p ≡ On q → Reached h name q (i + 1)
+    pub on-card : (q : Place) → passOf t (bytesOf (r .name)) name i p ≡ On q → Reached h name q (i + 1)
     on-card q e =
         record {
           within = omega arith;
-          left =
-              ap (λ (k : ℕ). findFrom name (drop (i + 1) (rolesOf h)) k q) (add-one i)
-              ∙ sym (on-so name i p (roleIn (s .role) s) (drop (i + 1) (rolesOf h)) q e)
-              ∙ here;
+          left = ap (λ (k : ℕ). findFrom name rest k q) (add-one i) ∙ sym (on-so name i p r rest t q e) ∙ here;
         }
 
-    pub on-stop : isBadLength (length h) ≡ false → passOf (roleIn (s .role) s) name i p ≡ Stops → stoppedAt (s .role) i p ≡ findOf h name
-    on-stop good e = stops-so name i p (s .role) s (drop (i + 1) (rolesOf h)) e ∙ here ∙ good-found h name good
+    pub on-stop : isBadLength (length h) ≡ false → passOf t (bytesOf (r .name)) name i p ≡ Stops → stoppedAt t i p ≡ findOf h name
+    on-stop good e = stops-so name i p r rest t e ∙ here ∙ good-found h name good
 
 -- ---- what is found says what the header is
 by-refused : (x : Header) (p : Place) (s : Stop) → findBy x p ≡ F.Refused s → x ≡ Refused s

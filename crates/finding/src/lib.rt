@@ -2,13 +2,11 @@
 ghost use mathlib.Core.Path.{_≡_};
 ghost use Rattle.text.specs.Same.{same};
 ghost use Rattle.text.specs.Text.{bytesOf};
-ghost use Rattle.roles.specs.Roles.{roleSeen};
 ghost use Rattle.finding.specs.Finding.{stopAt, headerOf, findOf};
 ghost use Rattle.finding.specs.Passing.{passOf, stoppedAt};
 use card::CARD;
 use refusal::Fault;
 use refusal::Refusal;
-use roles::CardRole;
 use roles::Role;
 use text::Place;
 use text::Text;
@@ -48,9 +46,11 @@ pub fn find(header: &[u8], name: &[u8]) -> Found
     let mut last = Place::Nowhere;
     let mut i = 0;
     while i < n {
-        let card = roles::role_at(header, i);
-        let role = card.role;
-        let Pass::On(next) = pass_card(card, name, i, last) else {
+        let card = roles::card_at(header, i);
+        let answer = card.answer;
+        let own = card.name;
+        let role = roles::role_of(answer);
+        let Pass::On(next) = pass_card(role, own, name, i, last) else {
             return stopped(role, i, last);
         };
         last = next;
@@ -87,12 +87,10 @@ fn bears(own: Text, name: &[u8]) -> bool
     text::same_bytes(text::first_of(&bytes, own.len), name)
 }
 
-// What card i comes to, where `last` bears the name so far.
-fn pass_card(card: CardRole, name: &[u8], i: usize, last: Place) -> Pass
-    ensures { λ r. ⌜ r ≡ passOf (roleSeen card) (now (name .entry)) i last ⌝ }
+// What card i comes to by its role and its own name, where `last` bears the name sought so far.
+fn pass_card(role: Role, own: Text, name: &[u8], i: usize, last: Place) -> Pass
+    ensures { λ r. ⌜ r ≡ passOf role (bytesOf own) (now (name .entry)) i last ⌝ }
 {
-    let role = card.role;
-    let own = card.name;
     match role {
         Role::Entry { value: _, joins: _ } => {
             if bears(own, name) {

@@ -16,11 +16,11 @@ use Rattle.text.specs.Same.{same}
 use Rattle.text.specs.Text.{bytesOf}
 use Rattle.text.proofs.Finding.{Under}
 use Rattle.card.specs.Keywords.{keywordOf}
+use Rattle.card.specs.declared.CardRead.{CardRead}
 use Rattle.card.specs.Cards.{cardOf}
 use Rattle.roles.specs.declared.Role.{Role as Told}
 use Rattle.roles.specs.declared.Role.the-variants as T
-use Rattle.roles.specs.declared.CardRole.{CardRole}
-use Rattle.roles.specs.Roles.{Held, Role, entry, neutral, seenOf, roleIn}
+use Rattle.roles.specs.Roles.{Held, Role, entry, neutral, roleBy, roleIn}
 use Rattle.roles.specs.Cards.{cardNo, roleNo, rolesOf}
 use Rattle.roles.proofs.Cards.{roles-from}
 use Rattle.listing.specs.declared.Inserted.the-variants.{Names}
@@ -29,7 +29,7 @@ use Rattle.listing.specs.Marks.{bearsAt}
 
 -- ---- roles
 -- an entry has the name that stands beside it
-named-by : (t : Told) (s : CardRole) (name : List ℕ) (v : Held) → roleIn t s ≡ entry name v → bytesOf (s .name) ≡ name
+named-by : (t : Told) (s : CardRead) (name : List ℕ) (v : Held) → roleIn t s ≡ entry name v → bytesOf (s .name) ≡ name
 named-by (T.Entry w joins) s name v e = cc
 named-by T.More s name v e = cc
 named-by T.Neutral s name v e = cc
@@ -44,7 +44,7 @@ role-first roles i r rs e =
 
 module _ (h : List ℕ) (i : ℕ) where
   pub name-read : (name : List ℕ) (v : Held) → roleNo h i ≡ entry name v → bytesOf (cardOf (cardNo h i) .name) ≡ name
-  name-read name v e = let s = seenOf (cardOf (cardNo h i)) in named-by (s .role) s name v e
+  name-read name v e = let r = cardOf (cardNo h i) in named-by (roleBy (r .answer)) r name v e
 
   pub role-is : i < length h / 80 → getD (rolesOf h) i neutral ≡ roleNo h i
   role-is within = role-first (rolesOf h) i (roleNo h i) (drop (i + 1) (rolesOf h)) (roles-from h i within)

@@ -63,8 +63,9 @@ pub fn list(header: &[u8]) -> Listing
     let mut count: usize = 0;
     let mut i: usize = 0;
     'cards: while i < cards {
-        let card = roles::role_at(header, i);
-        let role = card.role;
+        let card = roles::card_at(header, i);
+        let answer = card.answer;
+        let role = roles::role_of(answer);
         let name = card.name;
         match role {
             Role::Refused(fault) => {
@@ -159,7 +160,7 @@ fn bears(header: &[u8], i: usize, name: &[u8]) -> bool
         let at = i * CARD;
         let word = text::trimmed(text::first_of(&header[at..], KEYWORD), Cut::Blanks);
         if text::same_bytes(word, b"HIERARCH") {
-            let own = roles::role_at(header, i);
+            let own = roles::card_at(header, i);
             let dotted = own.name;
             let bytes = dotted.bytes;
             return text::same_bytes(text::first_of(&bytes, dotted.len), name);

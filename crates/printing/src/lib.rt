@@ -42,7 +42,7 @@ fn print_names(header: &[u8], listing: Listing) {
 
 // The line of an entry: its name stands on the first card that bears it, its reading on the last.
 fn print_entry(header: &[u8], first: usize, last: usize, text: &mut [u8], line: &mut [u8]) {
-    let entry = roles::role_at(header, first);
+    let entry = roles::card_at(header, first);
     let looked = entries::read_entry(header, last, text, line);
     let answer = looked.answer;
     let LookupAnswer::Found(value) = answer else {

@@ -14,7 +14,6 @@ use Rattle.card.specs.declared.CardRead.{CardRead}
 use Rattle.card.specs.Cards.{cardOf}
 use Rattle.roles.specs.declared.Role.{Role as Told}
 use Rattle.roles.specs.declared.Role.the-variants.{Entry, More, Neutral, Last, Refused}
-use Rattle.roles.specs.declared.CardRole.{CardRole}
 
 -- a comment, or none: a comment may be present and empty
 abbrev pub Comment : Type 0
@@ -68,10 +67,6 @@ roleBy (A.Read C.Undefined) = Neutral
 roleBy (A.Read C.End) = Last
 roleBy (A.Refused f) = Refused f
 
--- with the card's name, text and comment, as the code hands them over
-abbrev pub seenOf : CardRead → CardRole
-seenOf r = record { role = roleBy (r .answer); name = r .name; text = r .text; commented = r .commented; comment = r .comment }
-
 -- ---- the same over lists
 
 -- the values whose text is a lookup's
@@ -97,24 +92,25 @@ commentOf true c = some c
 commentOf false c = none
 
 -- the words of an entry by its own card
-abbrev pub wordsIn : Value → Bool → CardRole → Words
-wordsIn v joins s =
-    record { text = cond (hasText v) (bytesOf (s .text)) []; comment = commentOf (s .commented) (bytesOf (s .comment)); joins = joins }
+abbrev pub wordsIn : Value → Bool → CardRead → Words
+wordsIn v joins r =
+    record { text = cond (hasText v) (bytesOf (r .text)) []; comment = commentOf (r .commented) (bytesOf (r .comment)); joins = joins }
 
 -- a value and its words, as its card has them
-abbrev pub heldOf : Value → Bool → CardRole → Held
-heldOf v joins s = record { value = v; digits = cond (hasDigits v) (bytesOf (s .text)) []; words = wordsIn v joins s }
+abbrev pub heldOf : Value → Bool → CardRead → Held
+heldOf v joins r = record { value = v; digits = cond (hasDigits v) (bytesOf (r .text)) []; words = wordsIn v joins r }
 
-abbrev pub roleIn : Told → CardRole → Role
-roleIn (Entry v joins) s = entry (bytesOf (s .name)) (heldOf v joins s)
-roleIn More s = more (bytesOf (s .text)) (commentOf (s .commented) (bytesOf (s .comment)))
-roleIn Neutral s = neutral
-roleIn Last s = last
-roleIn (Refused f) s = refused f
+abbrev pub roleIn : Told → CardRead → Role
+roleIn (Entry v joins) r = entry (bytesOf (r .name)) (heldOf v joins r)
+roleIn More r = more (bytesOf (r .text)) (commentOf (r .commented) (bytesOf (r .comment)))
+roleIn Neutral r = neutral
+roleIn Last r = last
+roleIn (Refused f) r = refused f
 
-abbrev pub roleSeen : CardRole → Role
-roleSeen s = roleIn (s .role) s
+-- the role of a card as it is read
+abbrev pub roleRead : CardRead → Role
+roleRead r = roleIn (roleBy (r .answer)) r
 
 -- the role of a card by its bytes
 abbrev pub roleOf : List ℕ → Role
-roleOf c = roleSeen (seenOf (cardOf c))
+roleOf c = roleRead (cardOf c)

@@ -3,7 +3,7 @@ ghost use mathlib.Core.Path.{_≡_};
 ghost use Prim.Native.Nat.{_*_, _/_, _<_};
 ghost use lib.ListN.{length, take, drop};
 ghost use Rattle.card.specs.Cards.{cardOf};
-ghost use Rattle.roles.specs.Roles.{isString, roleBy, seenOf};
+ghost use Rattle.roles.specs.Roles.{isString, roleBy};
 ghost use Rattle.roles.specs.Cards.{isBadLength, cardCount, cardAt};
 use card::CARD;
 use card::Card;
@@ -11,7 +11,6 @@ use card::CardAnswer;
 use card::CardRead;
 use numbers::Value;
 use refusal::Fault;
-use text::Text;
 
 // What a card is to its header.
 pub enum Role {
@@ -25,15 +24,6 @@ pub enum Role {
     Last,
     // A card that is refused.
     Refused(Fault),
-}
-
-// A card's role, with its name, its text and its comment as they are read.
-pub struct CardRole {
-    pub role: Role,
-    pub name: Text,
-    pub text: Text,
-    pub commented: bool,
-    pub comment: Text,
 }
 
 // The most cards of a header.
@@ -65,26 +55,8 @@ pub fn card_count(header: &[u8]) -> usize
     header.len() / CARD
 }
 
-// The role of the card with a number; a blank card where the header has no such card.
-pub fn role_at(header: &[u8], i: usize) -> CardRole
-    ensures { λ r. ⌜ r ≡ seenOf (cardAt (now (header .entry)) i) ⌝ }
-{
-    let read = card_at(header, i);
-    let answer = read.answer;
-    let name = read.name;
-    let text = read.text;
-    let comment = read.comment;
-    CardRole {
-        role: role_by(answer),
-        name: name,
-        text: text,
-        commented: read.commented,
-        comment: comment,
-    }
-}
-
 // The card with a number; a blank one where the header has no such card.
-fn card_at(header: &[u8], i: usize) -> CardRead
+pub fn card_at(header: &[u8], i: usize) -> CardRead
     ensures { λ r. ⌜ r ≡ cardAt (now (header .entry)) i ⌝ }
 {
     if i < header.len() / CARD {
@@ -94,24 +66,25 @@ fn card_at(header: &[u8], i: usize) -> CardRead
     card::read_card(&blank)
 }
 
-// The card with a number that the header has.
-fn card_within(header: &[u8], i: usize) -> CardRead
-    requires { ⌜ i < length (now header) / 80 ⌝ }
-    ensures { λ r. ⌜ r ≡ cardOf (take 80 (drop (i * 80) (now (header .entry)))) ⌝ }
-{
-    let at = i * CARD;
-    let held = text::text_of(&header[at..]);
-    let bytes = held.bytes;
-    card::read_card(&bytes)
-}
-
-fn role_by(answer: CardAnswer) -> Role
+// What a card is to its header, by what it is read as.
+pub fn role_of(answer: CardAnswer) -> Role
     ensures { λ r. ⌜ r ≡ roleBy answer ⌝ }
 {
     match answer {
         CardAnswer::Read(card) => role_in(card),
         CardAnswer::Refused(fault) => Role::Refused(fault),
     }
+}
+
+// The card with a number that the header has.
+fn card_within(header: &[u8], i: usize) -> CardRead
+    requires { ⌜ i < length (now header) / 80 ⌝ }
+    ensures { λ r. ⌜ r ≡ cardOf (take 80 (drop (i * 80) (now (header .entry)))) ⌝ }
+{
+    let at = i * CARD;
+    let mut bytes = [0u8; 80];
+    text::put_at(&header[at..], &mut bytes, 0);
+    card::read_card(&bytes)
 }
 
 // What a card is to its header by its class.

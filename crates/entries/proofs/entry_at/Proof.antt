@@ -7,11 +7,11 @@ use mathlib.Core.Option.{Option}
 use lib.ListN.{drop}
 use Rattle.text.specs.Text.{bytesOf}
 use Rattle.numbers.specs.declared.Value.{Value}
+use Rattle.card.specs.declared.CardRead.{CardRead}
 use Rattle.card.specs.Cards.{cardOf}
 use Rattle.roles.specs.declared.Role.{Role as Told}
 use Rattle.roles.specs.declared.Role.the-variants.{Entry}
-use Rattle.roles.specs.declared.CardRole.{CardRole}
-use Rattle.roles.specs.Roles.{Words, Held, Role, hasText, commentOf, wordsIn, heldOf, seenOf, roleIn, roleSeen}
+use Rattle.roles.specs.Roles.{Words, Held, Role, hasText, commentOf, wordsIn, heldOf, roleIn, roleRead}
 use Rattle.roles.specs.Cards.{cardNo, roleNo, rolesOf}
 use Rattle.roles.proofs.Cards.{roles-from}
 use Rattle.roles.proofs.Counting.{card-here}
@@ -27,25 +27,26 @@ use borrow.Author.Needs.{needs}
 use Rattle.entries.proofs.entry_at.Statement.{statement}
 use Rattle.entries.proofs.entry_at.Tie as tie
 
-abbrev start : tie.After-role-at → tie.Start
-start c = c .before .before .before .before
+abbrev start : tie.After-role-of → tie.Start
+start c = c .before .before .before .before .before
 
--- the card as it is seen, and the cards behind it
-abbrev seen : tie.After-role-at → CardRole
-seen c = c .role-at .result
+-- the card as it is read, and the cards behind it
+abbrev card : tie.After-role-of → CardRead
+card c = c .before .card-at .result
 
-seen-is : (c : tie.After-role-at) → seen c ≡ seenOf (cardOf (cardNo (start c .args .header .now) (start c .args .i)))
-seen-is c = c .role-at .ensures ∙ ap seenOf (card-here _ _ (start c .pre .0))
+card-is : (c : tie.After-role-of) → card c ≡ cardOf (cardNo (start c .args .header .now) (start c .args .i))
+card-is c = c .before .card-at .ensures ∙ card-here _ _ (start c .pre .0)
 
-abbrev rest : tie.After-role-at → List Role
+abbrev rest : tie.After-role-of → List Role
 rest c = drop (start c .args .i + 1) (rolesOf (start c .args .header .now))
 
 -- the role that is known is the card's, and gives the entry
-role-is : (c : tie.After-role-at) (t : Told) → seen c .role ≡ t → roleIn t (seen c) ≡ roleNo (start c .args .header .now) (start c .args .i)
-role-is c t e = ap (λ (x : Told). roleIn x (seen c)) (sym e) ∙ ap roleSeen (seen-is c)
+role-is : (c : tie.After-role-of) (t : Told) → c .role-of .result ≡ t
+    → roleIn t (card c) ≡ roleNo (start c .args .header .now) (start c .args .i)
+role-is c t e = ap (λ (x : Told). roleIn x (card c)) (sym e ∙ c .role-of .ensures) ∙ ap roleRead (card-is c)
 
-by : (c : tie.After-role-at) (t : Told) → seen c .role ≡ t → let a = start c .args in
-    given (entryHead (roleIn t (seen c) ∷ rest c)) (a .text .now) (a .comment .now)
+by : (c : tie.After-role-of) (t : Told) → c .role-of .result ≡ t → let a = start c .args in
+    given (entryHead (roleIn t (card c) ∷ rest c)) (a .text .now) (a .comment .now)
     ≡ given (entryHead (drop (a .i) (rolesOf (a .header .now)))) (a .text .now) (a .comment .now)
 by c t e =
     let a = start c .args in
@@ -58,29 +59,26 @@ value c = c .role .given .0 .0
 abbrev joins : tie.After-role → Bool
 joins c = c .role .given .0 .1 .0
 
-abbrev read : tie.After-role → tie.After-role-at
+abbrev read : tie.After-role → tie.After-role-of
 read c = c .before .before
 
 -- the words by what was read of the card
 own-words : (c : tie.After-role) → let a = start (read c) .args in
-    wordsOf (roleNo (a .header .now) (a .i)) ≡ wordsIn (value c) (joins c) (seen (read c))
+    wordsOf (roleNo (a .header .now) (a .i)) ≡ wordsIn (value c) (joins c) (card (read c))
 own-words c = sym (ap wordsOf (role-is (read c) (Entry (value c) (joins c)) (c .role .given .1)))
 
 -- an entry that may be continued has a text
 has-words : (c : tie.After-role) → joins c ≡ true → hasText (value c) ≡ true
-has-words c =
-    let card = cardOf (cardNo (start (read c) .args .header .now) (start (read c) .args .i)) in
-    let is = sym (ap (λ (s : CardRole). s .role) (seen-is (read c))) ∙ c .role .given .1 in
-    joins-text (card .answer) (value c) (joins c) is
+has-words c = joins-text (card (read c) .answer) (value c) (joins c) (sym (read c .role-of .ensures) ∙ c .role .given .1)
 
 open-is : (c : tie.After-is-open) → let role = c .before .before .before in
-    (joins role && endsOpen (bytesOf (seen (read role) .text))) ≡ c .is-open .result
+    (joins role && endsOpen (bytesOf (card (read role) .text))) ≡ c .is-open .result
 open-is c = sym (c .is-open .ensures)
 
 -- what was written gives the answer
 answered : (c : tie.After-role) (r : Looked) (put : Written) {text₁ comment₁ : List ℕ}
     → let a = start (read c) .args in
-    r ≡ answerBy (value c) (seen (read c) .text) put
+    r ≡ answerBy (value c) (card (read c) .text) put
     → WroteAt (a .header .now) (a .i) put (a .text .now) (a .comment .now) text₁ comment₁
     → leftBy r text₁ comment₁ ≡ given (entryHead (drop (a .i) (rolesOf (a .header .now)))) (a .text .now) (a .comment .now)
 answered c r put {text₁} {comment₁} e W =
@@ -89,12 +87,15 @@ answered c r put {text₁} {comment₁} e W =
     let Of : Words → Type 0 =
     λ w. Wrote (joinOn w later .text) (joinOn w later .comment) put (a .text .now) (a .comment .now) text₁ comment₁ in
     (λ j. leftBy (e j) text₁ comment₁)
-    ∙ wrote (whole (heldOf (value c) (joins c) (seen (read c))) later) (seen (read c) .text) put (a .text .now) (a .comment .now)
+    ∙ wrote (whole (heldOf (value c) (joins c) (card (read c))) later) (card (read c) .text) put (a .text .now) (a .comment .now)
     text₁ comment₁ refl (subst Of (own-words c) W)
     ∙ by (read c) (Entry (value c) (joins c)) (c .role .given .1)
 
-role-at-requires : tie.Need-role-at-requires
-role-at-requires c κs = search needs
+card-at-requires : tie.Need-card-at-requires
+card-at-requires c κs = search needs
+
+role-of-requires : tie.Need-role-of-requires
+role-of-requires c κs = search needs
 
 enum-known-role : tie.Need-enum-known-role
 enum-known-role c = search needs
@@ -106,9 +107,9 @@ returns : tie.Need-returns
 returns c =
     let part = c .before .before in
     let a = start part .args in
-    let role = seen part .role in
+    let role = part .role-of .result in
     (λ j. leftBy (c .not-found .ensures j) (a .text .now) (a .comment .now))
-    ∙ ap (λ (v : Option Held). given v (a .text .now) (a .comment .now)) (gives-none (seen part) role (c .before .match .keys2) (rest part))
+    ∙ ap (λ (v : Option Held). given v (a .text .now) (a .comment .now)) (gives-none (card part) role (c .before .match .keys2) (rest part))
     ∙ by part role refl
 
 is-open-requires : tie.Need-is-open-requires
@@ -119,7 +120,7 @@ write-joined-requires c κs =
     let test = c .before .before in
     let role = test .before .before .before .before in
     let s = start (read role) in
-    let opened = own-open (value role) (joins role) (seen (read role)) (has-words role) (open-is (test .before) ∙ test .if1 .taken) in
+    let opened = own-open (value role) (joins role) (card (read role)) (has-words role) (open-is (test .before) ∙ test .if1 .taken) in
     (s .pre .0, s .pre .1, ap opens (own-words role) ∙ opened)
 
 answer-of-requires : tie.Need-answer-of-requires
@@ -159,7 +160,7 @@ returns-3 c =
     let test = shown .before in
     let role = test .before .before .before .before in
     let a = start (read role) .args in
-    let p = seen (read role) in
+    let p = card (read role) in
     let text₁ = put .write-own .last .1 .1 .0 in
     let comment₁ = put .write-own .last .1 .1 .1 .0 in
     let r = put .write-own .result in
@@ -175,7 +176,8 @@ pub entry-at-spec : {M : Type 1} → statement M
 entry-at-spec =
     tie.close
     (tie.spec
-    role-at-requires
+    card-at-requires
+    role-of-requires
     enum-known-role
     not-found-requires
     returns

@@ -8,11 +8,11 @@ use lib.ListN.{length, take}
 use lib.Seq.{length-take-le}
 use Rattle.text.specs.Text.{size, bytesOf}
 use Rattle.text.proofs.Texts.{bytes-fit}
+use Rattle.card.specs.declared.CardRead.{CardRead}
 use Rattle.card.specs.Cards.{cardOf}
 use Rattle.roles.specs.declared.Role.{Role as Told}
 use Rattle.roles.specs.declared.Role.the-variants.{More, Neutral, Refused}
-use Rattle.roles.specs.declared.CardRole.{CardRole}
-use Rattle.roles.specs.Roles.{Words, Role, seenOf, roleIn}
+use Rattle.roles.specs.Roles.{Words, Role, roleBy, roleIn, roleRead}
 use Rattle.roles.specs.Cards.{cardNo}
 use Rattle.roles.proofs.Counting.{card-here}
 use Rattle.joining.specs.Words.{endsOpen}
@@ -24,29 +24,30 @@ use Rattle.entries.proofs.join_card.Statement.{statement}
 use Rattle.entries.proofs.join_card.Tie as tie
 
 abbrev start : tie.After-role-behind → tie.Start
-start c = c .before .before .before .before .before
+start c = c .before .before .before .before .before .before
 
--- the card as it is seen
-abbrev seen : tie.After-role-behind → CardRole
-seen c = c .before .role-at .result
+-- the card as it is read
+abbrev card : tie.After-role-behind → CardRead
+card c = c .before .before .card-at .result
 
-seen-is : (c : tie.After-role-behind) → seen c ≡ seenOf (cardOf (cardNo (start c .args .header .now) (start c .args .j)))
-seen-is c = c .before .role-at .ensures ∙ ap seenOf (card-here _ _ (start c .pre .0))
+card-is : (c : tie.After-role-behind) → card c ≡ cardOf (cardNo (start c .args .header .now) (start c .args .j))
+card-is c = c .before .before .card-at .ensures ∙ card-here _ _ (start c .pre .0)
 
 -- the role that it is joined as
 abbrev joined-as : tie.After-role-behind → Role
 joined-as c = roleFrom (start c .args .first) (start c .args .header .now) (start c .args .j)
 
-role-is : (c : tie.After-role-behind) (t : Told) → c .role-behind .result ≡ t → roleIn t (seen c) ≡ joined-as c
+role-is : (c : tie.After-role-behind) (t : Told) → c .role-behind .result ≡ t → roleIn t (card c) ≡ joined-as c
 role-is c t e =
-    ap (λ (x : Told). roleIn x (seen c)) (sym e ∙ c .role-behind .ensures)
-    ∙ role-at (start c .args .first) (seen c)
-    ∙ ap (λ (s : CardRole). cond (start c .args .first) (moreOf s) (roleIn (s .role) s)) (seen-is c)
+    let first = start c .args .first in
+    ap (λ (x : Told). roleIn x (card c)) (sym e ∙ c .role-behind .ensures ∙ ap (cond first More) (c .before .role-of .ensures))
+    ∙ role-at first (roleBy (card c .answer)) (card c)
+    ∙ ap (λ (r : CardRead). cond first (moreOf r) (roleRead r)) (card-is c)
 
 -- what a card leaves, by its role as the code has it
 left : (c : tie.After-role-behind) (t : Told) → c .role-behind .result ≡ t → (r : Lengths) (texts₁ comments₁ : List ℕ)
     → let a = start c .args in
-    JoinedOne (roleIn t (seen c)) (a .held) r (a .texts .now) (a .comments .now) texts₁ comments₁
+    JoinedOne (roleIn t (card c)) (a .held) r (a .texts .now) (a .comments .now) texts₁ comments₁
     → JoinedOne (joined-as c) (a .held) r (a .texts .now) (a .comments .now) texts₁ comments₁
 left c t e r texts₁ comments₁ =
     let a = start c .args in
@@ -63,15 +64,18 @@ within c =
 
 text-joined : (c : tie.After-join-text) (going : Bool) → let a = start (at c) .args in
     going ≡ endsOpen (take (c .join-text .result) (c .join-text .last .0))
-    → TextJoined (bytesOf (seen (at c) .text)) (a .held) (a .texts .now) (c .join-text .last .0) (c .join-text .result) going
+    → TextJoined (bytesOf (card (at c) .text)) (a .held) (a .texts .now) (c .join-text .last .0) (c .join-text .result) going
 text-joined c going goes =
     record { joined = c .join-text .ensures .0; within = within c; short = c .join-text .ensures .1; goes = goes }
 
-array : (c : tie.After-role-at) → length (c .role-at .result .comment .bytes) ≡ size
+array : (c : tie.After-card-at) → length (c .card-at .result .comment .bytes) ≡ size
 array c = search needs
 
-role-at-requires : tie.Need-role-at-requires
-role-at-requires c κs = search needs
+card-at-requires : tie.Need-card-at-requires
+card-at-requires c κs = search needs
+
+role-of-requires : tie.Need-role-of-requires
+role-of-requires c κs = search needs
 
 role-behind-requires : tie.Need-role-behind-requires
 role-behind-requires c κs = search needs
@@ -105,7 +109,7 @@ returns-3 c =
     let a = start at .args in
     let role = at .role-behind .result in
     left at role refl (stopped (a .held)) (a .texts .now) (a .comments .now)
-    (ended (a .held) (a .texts .now) (a .comments .now) role (c .match .keys4) (seen at))
+    (ended (a .held) (a .texts .now) (a .comments .now) role (c .match .keys4) (card at))
 
 join-text-requires : tie.Need-join-text-requires
 join-text-requires c κs = search needs
@@ -137,10 +141,10 @@ returns-4 c =
     let o = test .before in
     let j = o .before .before .before .before in
     let a = start (at j) .args in
-    let part = seen (at j) in
+    let part = card (at j) in
     left (at j) More (j .before .before .before .enum-told .given .1) _ (j .join-text .last .0) (m .join-comment .last .0)
     (with-comment (bytesOf (part .text)) (bytesOf (part .comment)) (a .held) (text-joined j (o .ends-open .result) (o .ends-open .ensures))
-    (test .if1 .taken) (bytes-fit (part .comment) (array (at j .before))) (m .join-comment .ensures .0) (m .join-comment .ensures .1))
+    (test .if1 .taken) (bytes-fit (part .comment) (array (at j .before .before))) (m .join-comment .ensures .0) (m .join-comment .ensures .1))
 
 same-length-3 : tie.Need-same-length-3
 same-length-3 c = search needs
@@ -150,7 +154,7 @@ returns-5 c =
     let o = c .before in
     let j = o .before .before .before .before in
     let a = start (at j) .args in
-    let part = seen (at j) in
+    let part = card (at j) in
     left (at j) More (j .before .before .before .enum-told .given .1) _ (j .join-text .last .0) (a .comments .now)
     (with-none (bytesOf (part .text)) (bytesOf (part .comment)) (a .held) (text-joined j (o .ends-open .result) (o .ends-open .ensures))
     (c .if1 .left))
@@ -159,7 +163,8 @@ pub join-card-spec : {M : Type 1} → statement M
 join-card-spec =
     tie.close
     (tie.spec
-    role-at-requires
+    card-at-requires
+    role-of-requires
     role-behind-requires
     enum-told
     enum-told-2

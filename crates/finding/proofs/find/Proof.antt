@@ -6,7 +6,8 @@ use lib.ListN.{length}
 use borrow.Author.Needs.{needs}
 use Rattle.refusal.specs.declared.Fault.{Fault}
 use Rattle.card.specs.declared.CardRead.{CardRead}
-use Rattle.roles.specs.Roles.{seenOf, roleSeen}
+use Rattle.roles.specs.declared.Role.{Role}
+use Rattle.roles.specs.Roles.{roleIn, roleRead}
 use Rattle.roles.specs.Cards.{roleNo, isBadLength}
 use Rattle.roles.proofs.Counting.{card-here}
 use Rattle.finding.specs.declared.Found.the-variants as F
@@ -27,11 +28,19 @@ start-of c = c .before .before .before
 good : (c : tie.Else1 Inv-loop μ-loop) → isBadLength (length (start-of (c .before) .args .header .now)) ≡ false
 good c = sym (c .before .is-bad-length .ensures) ∙ c .if1 .left
 
--- the card that is read is the next one
-card-is : (c : tie.After-role-at Inv-loop μ-loop)
-    → roleSeen (c .role-at .result) ≡ roleNo (start-of (c .before .before .before .before) .args .header .now) (c .before .before .loop .i)
+-- the card that is read, where the loop stands, and its role
+abbrev read : tie.After-role-of Inv-loop μ-loop → tie.After-card-at Inv-loop μ-loop
+read c = c .before .before
+
+abbrev at-loop : tie.After-role-of Inv-loop μ-loop → tie.At-loop Inv-loop μ-loop
+at-loop c = read c .before .before
+
+card-is : (c : tie.After-role-of Inv-loop μ-loop) → let l = at-loop c in
+    roleIn (c .role-of .result) (read c .card-at .result) ≡ roleNo (start-of (l .before .before) .args .header .now) (l .loop .i)
 card-is c =
-    ap roleSeen (c .role-at .ensures) ∙ ap (λ (r : CardRead). roleSeen (seenOf r)) (card-here _ _ (c .before .loop-test .taken))
+    let r = read c .card-at .result in
+    ap (λ (t : Role). roleIn t r) (c .role-of .ensures)
+    ∙ ap roleRead (read c .card-at .ensures ∙ card-here _ _ (read c .before .loop-test .taken))
 
 is-bad-length-requires : tie.Need-is-bad-length-requires Inv-loop μ-loop
 is-bad-length-requires c κs = search needs
@@ -52,8 +61,11 @@ returns c =
 loop-holds : tie.Need-loop-holds Inv-loop μ-loop
 loop-holds c = start _ _
 
-role-at-requires : tie.Need-role-at-requires Inv-loop μ-loop
-role-at-requires c κs = search needs
+card-at-requires : tie.Need-card-at-requires Inv-loop μ-loop
+card-at-requires c κs = search needs
+
+role-of-requires : tie.Need-role-of-requires Inv-loop μ-loop
+role-of-requires c κs = search needs
 
 pass-card-requires : tie.Need-pass-card-requires Inv-loop μ-loop
 pass-card-requires c κs = search needs
@@ -71,11 +83,11 @@ returns-2 : tie.Need-returns-2 Inv-loop μ-loop
 returns-2 c =
     let told = c .before in
     let passed = told .before .before in
-    let read = passed .before in
-    let at-loop = read .before .before in
+    let role = passed .before in
+    let l = at-loop role in
     c .stopped .ensures
-    ∙ on-stop (at-loop .loop .inv) (read .before .loop-test .taken) (read .role-at .result) (card-is read) (good (at-loop .before))
-    (sym (passed .pass-card .ensures) ∙ told .enum-told .given .1)
+    ∙ on-stop (l .loop .inv) (read role .before .loop-test .taken) (read role .card-at .result) (role .role-of .result) (card-is role)
+    (good (l .before)) (sym (passed .pass-card .ensures) ∙ told .enum-told .given .1)
 
 add-i : tie.Need-add-i Inv-loop μ-loop
 add-i c = search needs
@@ -87,10 +99,9 @@ loop-again : tie.Need-loop-again Inv-loop μ-loop
 loop-again c =
     let next = c .before in
     let passed = next .before .before in
-    let read = passed .before in
-    let at-loop = read .before .before in
-    on-card (at-loop .loop .inv) (read .before .loop-test .taken) (read .role-at .result) (card-is read) (next .next .given .0 .0)
-    (sym (passed .pass-card .ensures) ∙ next .next .given .1)
+    let role = passed .before in
+    on-card (at-loop role .loop .inv) (read role .before .loop-test .taken) (read role .card-at .result) (role .role-of .result)
+    (card-is role) (next .next .given .0 .0) (sym (passed .pass-card .ensures) ∙ next .next .given .1)
 
 fault-of-requires-2 : tie.Need-fault-of-requires-2 Inv-loop μ-loop
 fault-of-requires-2 c κs = search needs
@@ -116,7 +127,8 @@ find-spec =
     stop-at-requires
     returns
     loop-holds
-    role-at-requires
+    card-at-requires
+    role-of-requires
     pass-card-requires
     enum-known-next
     enum-told

@@ -12,7 +12,6 @@ use Rattle.text.specs.Text.{bytesOf}
 use Rattle.text.proofs.Trimming.{take-rest}
 use Rattle.card.specs.Keywords.{keywordOf}
 use Rattle.card.specs.declared.CardRead.{CardRead}
-use Rattle.roles.specs.declared.CardRole.{CardRole}
 use Rattle.roles.specs.Cards.{cardNo}
 use Rattle.roles.proofs.Counting.{card-here}
 use Rattle.listing.proofs.Bearing.{bears-past, bears-dotted, bears-plain}
@@ -65,8 +64,8 @@ slice-aggregate-same-bytes c = search needs
 same-bytes-requires : tie.Need-same-bytes-requires
 same-bytes-requires c κs = search needs
 
-role-at-requires : tie.Need-role-at-requires
-role-at-requires c κs = search needs
+card-at-requires : tie.Need-card-at-requires
+card-at-requires c κs = search needs
 
 slice-aggregate-first-of : tie.Need-slice-aggregate-first-of
 slice-aggregate-first-of c = search needs
@@ -87,8 +86,7 @@ returns c =
     c .same-bytes2 .ensures
     ∙ ap (λ (l : List ℕ). same l (a .name .now))
     (c .before .first-of2 .ensures
-    ∙ ap (λ (n : CardRole). bytesOf (n .name)) (own .role-at .ensures)
-    ∙ ap (λ (r : CardRead). bytesOf (r .name)) (card-here h (a .i) (inside .if1 .taken)))
+    ∙ ap (λ (r : CardRead). bytesOf (r .name)) (own .card-at .ensures ∙ card-here h (a .i) (inside .if1 .taken)))
     ∙ bears-dotted h (a .i) (a .name .now) (inside .if1 .taken) (sym (dotted-so test) ∙ own .before .if2 .taken)
 
 same-bytes-requires-3 : tie.Need-same-bytes-requires-3
@@ -120,7 +118,7 @@ bears-spec =
     trimmed-requires
     slice-aggregate-same-bytes
     same-bytes-requires
-    role-at-requires
+    card-at-requires
     slice-aggregate-first-of
     first-of-requires-2
     same-bytes-requires-2

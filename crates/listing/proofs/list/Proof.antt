@@ -13,7 +13,7 @@ use Rattle.text.specs.Text.{bytesOf}
 use Rattle.card.specs.declared.CardRead.{CardRead}
 use Rattle.roles.specs.declared.Role.{Role as Told}
 use Rattle.roles.specs.declared.Role.the-variants as T
-use Rattle.roles.specs.Roles.{Held, heldOf, commentOf, entry, seenOf, roleSeen, roleIn}
+use Rattle.roles.specs.Roles.{Held, heldOf, commentOf, entry, roleIn, roleRead}
 use Rattle.roles.specs.Cards.{roleNo, isBadLength}
 use Rattle.roles.proofs.Counting.{count-none, count-some, count-is, card-here}
 use Rattle.finding.specs.declared.Stop.{Stop}
@@ -52,7 +52,7 @@ all c = counted c .card-count .ensures ∙ count-is (length (header c)) (good (c
 
 -- at a card: where the loop stands, and what the card is
 abbrev at : tie.After-name Inv-cards μ-cards → tie.At-cards Inv-cards μ-cards
-at c = c .before .before .before
+at c = c .before .before .before .before
 
 abbrev number : tie.After-name Inv-cards μ-cards → ℕ
 number c = at c .cards .i
@@ -62,16 +62,18 @@ standing : (c : tie.After-name Inv-cards μ-cards) → let l = at c .cards in
 standing c = at c .cards .inv
 
 more : (c : tie.After-name Inv-cards μ-cards) → number c < length (header (at c)) / 80
-more c = omega (arith, c .before .before .cards-test .taken, all (at c))
+more c = omega (arith, c .before .before .before .cards-test .taken, all (at c))
+
+-- the card as it is read
+abbrev read : tie.After-name Inv-cards μ-cards → CardRead
+read c = c .before .before .card-at .result
 
 -- the role that an arm knows is that of the card
-role-so : (c : tie.After-name Inv-cards μ-cards) (t : Told) → c .before .role-at .result .role ≡ t
-    → roleIn t (c .before .role-at .result) ≡ roleNo (header (at c)) (number c)
+role-so : (c : tie.After-name Inv-cards μ-cards) (t : Told) → c .before .role-of .result ≡ t
+    → roleIn t (read c) ≡ roleNo (header (at c)) (number c)
 role-so c t e =
-    let s = c .before .role-at in
-    ap (λ (q : Told). roleIn q (s .result)) (sym e)
-    ∙ ap roleSeen (s .ensures)
-    ∙ ap (λ (r : CardRead). roleSeen (seenOf r)) (card-here (header (at c)) (number c) (more c))
+    ap (λ (q : Told). roleIn q (read c)) (sym e ∙ c .before .role-of .ensures)
+    ∙ ap roleRead (c .before .before .card-at .ensures ∙ card-here (header (at c)) (number c) (more c))
 
 -- the listing of a fault at a card
 refused-so : (f : Fault) (i : ℕ) (s : Stop) → s ≡ stopAt f i → tabled (Refused s) empty ≡ tabled (Refused (stopAt f i)) empty
@@ -85,10 +87,10 @@ abbrev card : tie.After-enum-told2 Inv-cards μ-cards → tie.After-name Inv-car
 card c = c .before .before
 
 abbrev name : tie.After-enum-told2 Inv-cards μ-cards → List ℕ
-name c = bytesOf (card c .before .role-at .result .name)
+name c = bytesOf (read (card c) .name)
 
 abbrev held : tie.After-enum-told2 Inv-cards μ-cards → Held
-held c = heldOf (c .enum-told2 .given .0 .0) (c .enum-told2 .given .0 .1 .0) (card c .before .role-at .result)
+held c = heldOf (c .enum-told2 .given .0 .0) (c .enum-told2 .given .0 .1 .0) (read (card c))
 
 entry-so : (c : tie.After-enum-told2 Inv-cards μ-cards) → entry (name c) (held c) ≡ roleNo (header (at (card c))) (number (card c))
 entry-so c = role-so (card c) (T.Entry (c .enum-told2 .given .0 .0) (c .enum-told2 .given .0 .1 .0)) (c .enum-told2 .given .1)
@@ -140,8 +142,11 @@ returns c =
 cards-holds : tie.Need-cards-holds Inv-cards μ-cards
 cards-holds c = start _ _ _ _ _ _ (good c) refl refl (marked-none _ _ _ _ _ refl refl refl refl)
 
-role-at-requires : tie.Need-role-at-requires Inv-cards μ-cards
-role-at-requires c κs = search needs
+card-at-requires : tie.Need-card-at-requires Inv-cards μ-cards
+card-at-requires c κs = search needs
+
+role-of-requires : tie.Need-role-of-requires Inv-cards μ-cards
+role-of-requires c κs = search needs
 
 enum-known-role : tie.Need-enum-known-role Inv-cards μ-cards
 enum-known-role c = search needs
@@ -248,10 +253,10 @@ cards-less-2 c = search needs
 
 cards-again-2 : tie.Need-cards-again-2 Inv-cards μ-cards
 cards-again-2 c =
-    let read = c .before .before in
-    let s = read .before .role-at .result in
-    on-more (standing read) (more read) (bytesOf (s .text)) (commentOf (s .commented) (bytesOf (s .comment)))
-    (role-so read T.More (c .enum-told4 .given .1))
+    let here = c .before .before in
+    let r = read here in
+    on-more (standing here) (more here) (bytesOf (r .text)) (commentOf (r .commented) (bytesOf (r .comment)))
+    (role-so here T.More (c .enum-told4 .given .1))
 
 enum-told-5 : tie.Need-enum-told-5 Inv-cards μ-cards
 enum-told-5 c = search needs
@@ -300,7 +305,8 @@ list-spec =
     refused-requires
     returns
     cards-holds
-    role-at-requires
+    card-at-requires
+    role-of-requires
     enum-known-role
     stop-at-requires-2
     refused-requires-2

@@ -1,61 +1,63 @@
 -- `roles::card_within` meets its contract: 80 bytes fill the array.
-use Prim.Native.Nat.{ℕ, _*_, _-_}
+use Prim.Native.Nat.{ℕ, _*_}
 use native.Mathlib.Omega.{arith}
-use mathlib.Core.Path.{_≡_, ap, _∙_}
-use mathlib.Core.List.{List, append-nil}
-use lib.ListN.{length, take, drop, length-take, length-drop}
-use Rattle.text.specs.declared.Text.{Text}
-use Rattle.text.specs.Text.{size, filled, padded}
+use mathlib.Core.Path.{_≡_, sym, ap, _∙_}
+use mathlib.Core.List.{List}
+use lib.ListN.{length, take, drop, replicate, length-replicate, length-take, length-drop}
+use lib.Seq.{sets}
 use Rattle.text.proofs.Trimming.{take-rest}
+use Rattle.text.proofs.Laying.{sets-room, sets-all}
 use Rattle.card.specs.Cards.{cardOf}
 use borrow.Author.Needs.{needs}
 use Rattle.roles.proofs.card_within.Statement.{statement}
 use Rattle.roles.proofs.card_within.Tie as tie
 
--- a list of the array's size needs no zeros
-full : (l : List ℕ) → length l ≡ size → padded size l ≡ l
-unfolding filled
-full l e = rw e (append-nil l)
+-- the first 80 bytes of at least as many fill an array of zeros
+filled : (s : List ℕ) → length (take 80 s) ≡ 80 → sets (replicate 80 0) 0 s ≡ take 80 s
+filled s long =
+    let zeros = length-replicate {A = ℕ} 80 0 in
+    sym (sets-room s (replicate 80 0) 0 80 (omega (arith, zeros))) ∙ sets-all (take 80 s) (replicate 80 0) (long ∙ sym zeros)
 
 mul-at : tie.Need-mul-at
 mul-at c = search needs
 
-sub-text-of : tie.Need-sub-text-of
-sub-text-of c = search needs
+sub-put-at : tie.Need-sub-put-at
+sub-put-at c = search needs
 
-part-text-of-start : tie.Need-part-text-of-start
-part-text-of-start c = search needs
+part-put-at-start : tie.Need-part-put-at-start
+part-put-at-start c = search needs
 
-part-text-of-end : tie.Need-part-text-of-end
-part-text-of-end c = search needs
+part-put-at-end : tie.Need-part-put-at-end
+part-put-at-end c = search needs
 
-text-of-requires : tie.Need-text-of-requires
-text-of-requires c κs = search needs
+slice-aggregate-put-at : tie.Need-slice-aggregate-put-at
+slice-aggregate-put-at c = search needs
+
+put-at-requires : tie.Need-put-at-requires
+put-at-requires c κs = search needs
 
 read-card-requires : tie.Need-read-card-requires
 read-card-requires c κs = search needs
 
 returns : tie.Need-returns
 returns c =
-    let read = c .before .before .before in
-    let h = read .before .before .before .args .header .now in
-    let i = read .before .before .before .args .i in
-    let rest = drop (i * 80) h in
-    let within = read .before .before .before .pre in
-    let part : length (take 80 rest) ≡ 80 = omega (arith, length-take 80 rest, length-drop (i * 80) h, within) in
+    let put = c .before .before .before in
+    let start = put .before .before .before .before in
+    let h = start .args .header .now in
+    let at = start .args .i * 80 in
+    let part : length (take 80 (drop at h)) ≡ 80 = omega (arith, length-take 80 (drop at h), length-drop at h, start .pre) in
     c .read-card .ensures
-    ∙ ap (λ (t : Text). cardOf (t .bytes)) (read .text-of .ensures)
-    ∙ ap (λ (l : List ℕ). cardOf (padded size (take size l))) (take-rest h (i * 80))
-    ∙ ap cardOf (full (take 80 (drop (i * 80) h)) part)
+    ∙ ap cardOf (put .put-at .ensures ∙ ap (sets (replicate 80 0) 0) (take-rest h at) ∙ filled (drop at h) part)
 
 pub card-within-spec : {M : Type 1} → statement M
 card-within-spec =
     tie.close
     (tie.spec
     mul-at
-    sub-text-of
-    part-text-of-start
-    part-text-of-end
-    text-of-requires
+    sub-put-at
+    part-put-at-start
+    part-put-at-end
+    slice-aggregate-put-at
+    put-at-requires
     read-card-requires
     returns)
