@@ -28,7 +28,6 @@ use Rattle.card.specs.declared.Class.the-variants.{Empty, Comment, History, Con
 use Rattle.card.specs.Keywords.{hasHigh, keywordOf, classOf}
 use Rattle.card.specs.Cards.{cardRefused, cardAs, remarkOf, spaceOr, emptyOf, stringCard, continued, continuationOf}
 use Rattle.card.specs.Cards.{isWithinQuotes, quotedCard, extended, extensionOf, ofAnswer, ofValue, otherOf, byClass, cardOf}
-use Rattle.card.specs.declared.CardRead.{CardRead}
 use Rattle.roles.specs.Roles.{Held, Role, entry, more, neutral, last, refused, roleRead, roleOf}
 
 -- a role that is an entry has this name

@@ -144,7 +144,8 @@ returns-4 c =
     let part = card (at j) in
     left (at j) More (j .before .before .before .enum-told .given .1) _ (j .join-text .last .0) (m .join-comment .last .0)
     (with-comment (bytesOf (part .text)) (bytesOf (part .comment)) (a .held) (text-joined j (o .ends-open .result) (o .ends-open .ensures))
-    (test .if1 .taken) (bytes-fit (part .comment) (array (at j .before .before))) (m .join-comment .ensures .0) (m .join-comment .ensures .1))
+    (test .if1 .taken) (bytes-fit (part .comment) (array (at j .before .before)))
+    (m .join-comment .ensures .0) (m .join-comment .ensures .1))
 
 same-length-3 : tie.Need-same-length-3
 same-length-3 c = search needs

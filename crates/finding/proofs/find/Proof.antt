@@ -5,7 +5,6 @@ use mathlib.Core.Bool.{false}
 use lib.ListN.{length}
 use borrow.Author.Needs.{needs}
 use Rattle.refusal.specs.declared.Fault.{Fault}
-use Rattle.card.specs.declared.CardRead.{CardRead}
 use Rattle.roles.specs.declared.Role.{Role}
 use Rattle.roles.specs.Roles.{roleIn, roleRead}
 use Rattle.roles.specs.Cards.{roleNo, isBadLength}
