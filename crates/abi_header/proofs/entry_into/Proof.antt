@@ -1,6 +1,6 @@
 -- `abi_header::entry_into` meets its contract: with other lengths nothing is read; otherwise what is read is written.
 use Rattle.entries.specs.Answers.{entryOf}
-use Rattle.abi_header.proofs.Fitting.{both}
+use Rattle.abi_header.proofs.Fitting.{fits}
 use Rattle.abi_header.proofs.Leaving.{unread, told}
 use borrow.Author.Needs.{needs}
 use Rattle.abi_header.proofs.entry_into.Statement.{statement}
@@ -20,8 +20,8 @@ read-entry-requires c κs = search needs
 
 write-looked-requires : tie.Need-write-looked-requires
 write-looked-requires c κs =
-    let test = tested (c .before .before .before .before .before .before .before) in
-    both _ 80 _ 7 (test .if1 .taken)
+    let t = tested (c .before .before .before .before .before .before .before) in
+    fits (start t .args .digits .now) (start t .args .out .now) (t .if1 .taken)
 
 same-length : tie.Need-same-length
 same-length c = search needs
