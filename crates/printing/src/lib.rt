@@ -15,7 +15,8 @@ pub fn print_header(header: &[u8]) {
         Header::Accepted(_) => print_names(header, listing),
         Header::Refused(stop) => {
             let fault = stop.fault;
-            let mut line = io::buffer();
+            // Longer than "refused", two numbers and the words between them.
+            let mut line = [0u8; 64];
             let written = lines::refused_line(fault, stop.card, &mut line);
             print_line(written, &line);
         }
