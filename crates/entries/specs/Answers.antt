@@ -1,5 +1,5 @@
 -- What a lookup answers, and what the lent buffers then hold (document 01, "Joining and lookup").
-use Prim.Native.Nat.{ℕ}
+use Prim.Native.Nat.{ℕ, suc}
 use mathlib.Core.Bool.{Bool, true, false, cond, _&&_}
 use mathlib.Core.List.{List, [], _∷_}
 use mathlib.Core.Option.{Option, none, some}
@@ -11,9 +11,11 @@ use Rattle.refusal.specs.Numbers.{faultOf}
 use Rattle.text.specs.declared.Place.{Place}
 use Rattle.text.specs.declared.Place.the-variants.{At, Nowhere}
 use Rattle.text.specs.Text.{textOf}
-use Rattle.roles.specs.Roles.{Comment, Held, Role, entry, more, neutral, last, refused}
+use Rattle.roles.specs.Roles.{Comment, Words, Held, Role, entry, more, neutral, last, refused}
 use Rattle.roles.specs.Cards.{rolesOf, isBadLength}
+use Rattle.joining.specs.Words.{opens, joinWords}
 use Rattle.joining.specs.Lookup.{whole, lookup}
+use Rattle.finding.specs.declared.Stop.{Stop}
 use Rattle.finding.specs.declared.Header.{Header}
 use Rattle.finding.specs.declared.Header.the-variants.{Accepted, Refused}
 use Rattle.finding.specs.Finding.{stopAt, headerOf}
@@ -79,6 +81,8 @@ lookedUp (Accepted i) roles name text comment = given (lookup name roles) text c
 unfoldable pub lookupOf : List ℕ → List ℕ → List ℕ → List ℕ → LookupOutcome
 lookupOf h name text comment = lookedUp (headerOf h) (rolesOf h) name text comment
 
+-- ---- reading an entry by its card
+
 -- the entry that a header's cards begin with, with what is joined to it
 abbrev pub entryHead : List Role → Option Held
 entryHead [] = none
@@ -93,8 +97,35 @@ abbrev pub entryAt : Place → List Role → Option Held
 entryAt (At k) roles = entryHead (drop k roles)
 entryAt Nowhere roles = none
 
+-- the refused card that is met while cards, from number j on, are joined to words: the first that comes while they are open
+unfoldable pub metOn : Words → List Role → ℕ → Option Stop
+metOn w [] j = none
+metOn w (entry n v ∷ h) j = none
+metOn w (more t c ∷ h) j = cond (opens w) (metOn (joinWords w t c) h (suc j)) none
+metOn w (neutral ∷ h) j = metOn w h (suc j)
+metOn w (last ∷ h) j = none
+metOn w (refused f ∷ h) j = cond (opens w) (some (stopAt f j)) none
+
+-- the refused card that reading an entry meets, where the cards begin with number i: that card, or one met while it is joined
+abbrev pub metHead : List Role → ℕ → Option Stop
+metHead [] i = none
+metHead (entry n v ∷ h) i = metOn (v .words) h (suc i)
+metHead (more t c ∷ h) i = none
+metHead (neutral ∷ h) i = none
+metHead (last ∷ h) i = none
+metHead (refused f ∷ h) i = some (stopAt f i)
+
+-- a refused card that is met is the answer
+abbrev pub unlessMet : Option Stop → LookupOutcome → List ℕ → List ℕ → LookupOutcome
+unlessMet none o text comment = o
+unlessMet (some s) o text comment = untouched (L.Header s) text comment
+
+-- reading the entry that cards begin with, the first of which has number i
+abbrev pub entryFrom : List Role → ℕ → List ℕ → List ℕ → LookupOutcome
+entryFrom roles i text comment = unlessMet (metHead roles i) (given (entryHead roles) text comment) text comment
+
 -- reading the entry at card i, whatever stands elsewhere in the header; a header of a bad length has no cards
 unfoldable pub entryOf : List ℕ → ℕ → List ℕ → List ℕ → LookupOutcome
 entryOf h i text comment =
     cond (isBadLength (length h)) (untouched (L.Header (stopAt (faultOf R.HeaderLength) 0)) text comment)
-    (given (entryHead (drop i (rolesOf h))) text comment)
+    (entryFrom (drop i (rolesOf h)) i text comment)

@@ -1,9 +1,9 @@
 -- What the passes over an entry's cards hand over: words as they stand in scratch and in lent buffers.
-use Prim.Native.Nat.{ℕ, _+_, _*_, _/_, _<_, _≤_}
+use Prim.Native.Nat.{ℕ, suc, _+_, _*_, _/_, _<_, _≤_}
 use mathlib.Core.Path.{_≡_}
 use mathlib.Core.Bool.{Bool, true, false, cond, _&&_}
 use mathlib.Core.List.{List, [], _∷_}
-use mathlib.Core.Option.{none}
+use mathlib.Core.Option.{Option, none, some}
 use lib.Dec.{leb}
 use lib.ListN.{length, take, drop}
 use lib.Seq.{sets}
@@ -14,17 +14,33 @@ use Rattle.text.specs.declared.Text.{Text}
 use Rattle.text.specs.Bytes.{lineFeed}
 use Rattle.text.specs.Text.{textOf, bytesOf}
 use Rattle.card.specs.Cards.{cardOf}
+use Rattle.roles.specs.declared.Role.{Role as Told}
 use Rattle.roles.specs.declared.Role.the-variants as T
 use Rattle.card.specs.declared.CardRead.{CardRead}
 use Rattle.roles.specs.Roles.{Comment, Words, Role, entry, more, neutral, last, refused, hasDigits, roleIn}
 use Rattle.roles.specs.Cards.{cardNo, roleNo, rolesOf}
 use Rattle.joining.specs.Words.{endsOpen, opens, joinWords}
 use Rattle.joining.specs.Lookup.{joinOn}
+use Rattle.finding.specs.declared.Stop.{Stop}
+use Rattle.finding.specs.Finding.{stopAt}
+use Rattle.entries.specs.declared.LookupAnswer.{LookupAnswer}
 use Rattle.entries.specs.declared.LookupAnswer.the-variants as L
 use Rattle.entries.specs.declared.Looked.{Looked}
+use Rattle.entries.specs.declared.Reach.{Reach}
+use Rattle.entries.specs.declared.Reach.the-variants.{On, Ended, Met}
+use Rattle.entries.specs.declared.Put.{Put}
+use Rattle.entries.specs.declared.Put.the-variants as P
 use Rattle.entries.specs.declared.Lengths.{Lengths}
 use Rattle.entries.specs.declared.Written.{Written}
-use Rattle.entries.specs.Answers.{isThere, bytesIn, unread}
+use Rattle.entries.specs.Answers.{isThere, bytesIn, unread, metOn}
+
+-- the answer at card i, which is no entry
+abbrev pub noEntry : Told → ℕ → LookupAnswer
+noEntry (T.Entry v joins) i = L.Refused (faultOf R.NameNotFound)
+noEntry T.More i = L.Refused (faultOf R.NameNotFound)
+noEntry T.Neutral i = L.Refused (faultOf R.NameNotFound)
+noEntry T.Last i = L.Refused (faultOf R.NameNotFound)
+noEntry (T.Refused f) i = L.Header (stopAt f i)
 
 -- ---- joining
 -- the words that a card begins: nothing is joined to them where it is no entry
@@ -38,6 +54,10 @@ wordsOf (refused f) = record { text = []; comment = none; joins = false }
 -- the words of card i with the cards that are joined to it
 abbrev pub joinedWords : List ℕ → ℕ → Words
 joinedWords h i = joinOn (wordsOf (roleNo h i)) (drop (i + 1) (rolesOf h))
+
+-- the refused card that is met while cards are joined to card i
+abbrev pub metAt : List ℕ → ℕ → Option Stop
+metAt h i = metOn (wordsOf (roleNo h i)) (drop (i + 1) (rolesOf h)) (suc i)
 
 -- a card as a CONTINUE card
 abbrev pub moreOf : CardRead → Role
@@ -55,13 +75,22 @@ joinedBy neutral w = w
 joinedBy last w = w
 joinedBy (refused f) w = w
 
--- whether more may be joined then, where their text has become s
-abbrev pub goesOn : Role → List ℕ → Bool
-goesOn (entry n v) s = false
-goesOn (more t c) s = endsOpen s
-goesOn neutral s = true
-goesOn last s = false
-goesOn (refused f) s = true
+-- whether more may be joined then, where card j is behind them and their text has become s
+abbrev pub reachBy : Role → ℕ → List ℕ → Reach
+reachBy (entry n v) j s = Ended
+reachBy (more t c) j s = cond (endsOpen s) On Ended
+reachBy neutral j s = On
+reachBy last j s = Ended
+reachBy (refused f) j s = Met (stopAt f j)
+
+abbrev pub reachedBy : Lengths → Reach → Lengths
+reachedBy held reach = record { text = held .text; comment = held .comment; commented = held .commented; reach = reach }
+
+-- the refused card that was met
+abbrev pub stopIn : Reach → Option Stop
+stopIn On = none
+stopIn Ended = none
+stopIn (Met s) = some s
 
 -- no comment is longer: 80 bytes and a line feed of each card
 abbrev pub longestComment : ℕ
@@ -82,16 +111,21 @@ pub record Stands (w : Words) (l : Lengths) (texts before comments : List ℕ) :
   pub comment : l .comment ≡ length (bytesIn (w .comment))
   pub laid : comments ≡ sets before 0 (bytesIn (w .comment))
 
--- a card was joined to words, whatever they are
-pub record JoinedOne (role : Role) (held r : Lengths) (texts comments texts₁ comments₁ : List ℕ) : Type 0 where
+-- card j was joined to words, whatever they are
+pub record JoinedOne (role : Role) (j : ℕ) (held r : Lengths) (texts comments texts₁ comments₁ : List ℕ) : Type 0 where
   pub words : (w : Words) (before : List ℕ) → Stands w held texts before comments → Stands (joinedBy role w) r texts₁ before comments₁
-  pub going : r .going ≡ goesOn role (take (r .text) texts₁)
+  pub reach : r .reach ≡ reachBy role j (take (r .text) texts₁)
   pub text : r .text ≤ held .text + 79
   pub comment : r .comment ≤ held .comment + 81
 
+-- all cards were joined to card i, or a refused card was met
+pub record JoinedAll (h : List ℕ) (i : ℕ) (r : Lengths) (texts before comments : List ℕ) : Type 0 where
+  pub met : stopIn (r .reach) ≡ metAt h i
+  pub stands : metAt h i ≡ none → Stands (joinedWords h i) r texts before comments
+
 -- more may be joined, and there is room for one card
 pub record Space (held : Lengths) (texts : List ℕ) : Type 0 where
-  pub going : held .going ≡ true
+  pub going : held .reach ≡ On
   pub some-text : 0 < held .text
   pub text : held .text + 79 ≤ length texts
   pub comment : held .comment ≤ longestComment
@@ -104,30 +138,44 @@ pub record Room (h : List ℕ) (i : ℕ) (texts : List ℕ) : Type 0 where
   pub wide : 80 * (length h / 80) ≤ length texts
 
 -- ---- what is written
--- a text and a comment laid over buffers that hold both, and what is told of them
-pub record Wrote (s : List ℕ) (c : Comment) (r : Written) (text comment text₁ comment₁ : List ℕ) : Type 0 where
-  pub fit : r .fits ≡ (leb (length s) (length text) && leb (length (bytesIn c)) (length comment))
-  pub in-text : text₁ ≡ cond (r .fits) (sets text 0 s) text
-  pub in-comment : comment₁ ≡ cond (r .fits) (sets comment 0 (bytesIn c)) comment
-  pub text-long : r .text ≡ length s
-  pub comment-long : r .comment ≡ length (bytesIn c)
-  pub there : r .commented ≡ isThere c
+-- what becomes of words, by the refused card that was met, if any, and by whether both lent buffers hold them
+abbrev pub putBy : Option Stop → Bool → Put
+putBy none fits = cond fits P.Whole P.Short
+putBy (some s) fits = P.Met s
+
+-- what a lent buffer then holds
+abbrev pub ifWhole : Put → List ℕ → List ℕ → List ℕ
+ifWhole P.Whole laid out = laid
+ifWhole P.Short laid out = out
+ifWhole (P.Met s) laid out = out
+
+-- a text and a comment laid over buffers that hold both, and what is told of them where no refused card was met
+pub record Wrote (met : Option Stop) (s : List ℕ) (c : Comment) (r : Written) (text comment text₁ comment₁ : List ℕ) : Type 0 where
+  pub put : r .put ≡ putBy met (leb (length s) (length text) && leb (length (bytesIn c)) (length comment))
+  pub in-text : text₁ ≡ ifWhole (r .put) (sets text 0 s) text
+  pub in-comment : comment₁ ≡ ifWhole (r .put) (sets comment 0 (bytesIn c)) comment
+  pub text-long : met ≡ none → r .text ≡ length s
+  pub comment-long : met ≡ none → r .comment ≡ length (bytesIn c)
+  pub there : met ≡ none → r .commented ≡ isThere c
 
 -- of the entry at card i, with the cards that are joined to it
 abbrev pub WroteAt : List ℕ → ℕ → Written → List ℕ → List ℕ → List ℕ → List ℕ → Type 0
 WroteAt h i r text comment text₁ comment₁ =
     let w = joinedWords h i in
-    Wrote (w .text) (w .comment) r text comment text₁ comment₁
+    Wrote (metAt h i) (w .text) (w .comment) r text comment text₁ comment₁
 
--- the answer by what was written: a value with a decimal's digits, or 13
-abbrev pub answerBy : Value → Text → Written → Looked
-answerBy value own put =
-    cond (put .fits)
-    (record {
+-- the answer by what was written: a value with a decimal's digits, 13, or the refused card
+abbrev pub answerPut : Put → Value → Text → Written → Looked
+answerPut P.Whole value own put =
+    record {
       answer = L.Found value;
       digits = textOf (cond (hasDigits value) (bytesOf own) []);
       commented = put .commented;
       text = put .text;
       comment = put .comment;
-    })
-    (unread (L.Refused (faultOf R.BufferShort)))
+    }
+answerPut P.Short value own put = unread (L.Refused (faultOf R.BufferShort))
+answerPut (P.Met s) value own put = unread (L.Header s)
+
+abbrev pub answerBy : Value → Text → Written → Looked
+answerBy value own put = answerPut (put .put) value own put

@@ -2,6 +2,7 @@
 ghost use mathlib.Core.Path.{_≡_};
 ghost use mathlib.Core.Bool.{true, cond, _&&_};
 ghost use mathlib.Core.List.{[]};
+ghost use mathlib.Core.Option.{none};
 ghost use Prim.Native.Nat.{_+_, _/_, _≤_, _<_};
 ghost use lib.Dec.{leb};
 ghost use lib.ListN.{length, take, drop};
@@ -11,9 +12,9 @@ ghost use Rattle.refusal.specs.Numbers.{faultOf};
 ghost use Rattle.roles.specs.Roles.{hasText, hasDigits, commentOf};
 ghost use Rattle.roles.specs.Cards.{rolesOf, roleNo};
 ghost use Rattle.joining.specs.Words.{endsOpen, addsNothing, joinText, opens};
-ghost use Rattle.entries.specs.Answers.{leftBy, unread, given, lookupOf, entryOf, entryHead};
-ghost use Rattle.entries.specs.Passes.{longestComment, answerBy, wordsOf, joinedWords, roleFrom, placeBehind, laidBehind};
-ghost use Rattle.entries.specs.Passes.{Stands, JoinedOne, Space, Room, Wrote, WroteAt};
+ghost use Rattle.entries.specs.Answers.{leftBy, unread, lookupOf, entryOf, entryFrom};
+ghost use Rattle.entries.specs.Passes.{longestComment, noEntry, answerBy, wordsOf, roleFrom, placeBehind, laidBehind};
+ghost use Rattle.entries.specs.Passes.{stopIn, putBy, reachedBy, JoinedOne, JoinedAll, Space, Room, Wrote, WroteAt};
 use card::CARD;
 use card::CardRead;
 use finding::Found;
@@ -42,17 +43,31 @@ pub struct Looked {
     pub comment: usize,
 }
 
+// Whether more may be joined: it may, it may not, or a refused card was met.
+pub enum Reach {
+    On,
+    Ended,
+    Met(Stop),
+}
+
 // How long a joined text and comment are, whether there is a comment, and whether more may be joined.
 pub struct Lengths {
     pub text: usize,
     pub comment: usize,
     pub commented: bool,
-    pub going: bool,
+    pub reach: Reach,
 }
 
-// Whether the lent buffers held the words of an entry, whether there is a comment, and how long they are.
+// What became of the words of an entry: they were written, a lent buffer is too short, or a refused card was met.
+pub enum Put {
+    Whole,
+    Short,
+    Met(Stop),
+}
+
+// What became of the words of an entry, whether there is a comment, and how long they are.
 pub struct Written {
-    pub fits: bool,
+    pub put: Put,
     pub commented: bool,
     pub text: usize,
     pub comment: usize,
@@ -79,7 +94,8 @@ pub fn lookup(header: &[u8], name: &[u8], text: &mut [u8], comment: &mut [u8]) -
     }
 }
 
-// The entry at a card's number, joined and read into the lent buffers, whatever stands elsewhere in the header.
+// The entry at a card's number, joined and read into the lent buffers. A refused card that is met, there or while the entry is joined,
+// is the answer, with its number. Other cards are not looked at, so END may stand before that number.
 pub fn read_entry(header: &[u8], i: usize, text: &mut [u8], comment: &mut [u8]) -> Looked
     ensures { λ r. ⌜ leftBy r (now (text .exit)) (now (comment .exit))
         ≡ entryOf (now (header .entry)) i (now (text .entry)) (now (comment .entry)) ⌝ }
@@ -113,6 +129,16 @@ fn not_found() -> Looked
     ensures { λ r. ⌜ r ≡ unread (LookupAnswer.Refused (faultOf Refusal.NameNotFound)) ⌝ }
 {
     unread(LookupAnswer::Refused(refusal::fault_of(Refusal::NameNotFound)))
+}
+
+// The answer at card i, which is no entry: a refused card is the header's refusal.
+fn no_entry(role: Role, i: usize) -> Looked
+    ensures { λ r. ⌜ r ≡ unread (noEntry role i) ⌝ }
+{
+    let Role::Refused(fault) = role else {
+        return not_found();
+    };
+    unread(LookupAnswer::Header(finding::stop_at(fault, i)))
 }
 
 // ---- joining
@@ -201,7 +227,30 @@ fn role_behind(first: bool, role: Role) -> Role
     role
 }
 
-// Card j joined to the open words before it, where it is a CONTINUE card. An entry or END lets no more be joined.
+// Lengths that more may be joined to, or not.
+fn reached(held: Lengths, reach: Reach) -> Lengths
+    ensures { λ r. ⌜ r ≡ reachedBy held reach ⌝ }
+{
+    Lengths {
+        text: held.text,
+        comment: held.comment,
+        commented: held.commented,
+        reach: reach,
+    }
+}
+
+// More may be joined to an open text.
+fn reach_by(opened: bool) -> Reach
+    ensures { λ r. ⌜ r ≡ cond opened Reach.On Reach.Ended ⌝ }
+{
+    if opened {
+        return Reach::On;
+    }
+    Reach::Ended
+}
+
+// Card j joined to the open words before it, where it is a CONTINUE card. An entry or END lets no more be joined, nor does a
+// refused card, which is told.
 fn join_card(
     header: &[u8],
     j: usize,
@@ -211,7 +260,7 @@ fn join_card(
     comments: &mut [u8],
 ) -> Lengths
     requires { ⌜ (j < length (now header) / 80) × Space held (now texts) ⌝ }
-    ensures { λ r. ⌜ JoinedOne (roleFrom first (now (header .entry)) j) held r
+    ensures { λ r. ⌜ JoinedOne (roleFrom first (now (header .entry)) j) j held r
         (now (texts .entry)) (now (comments .entry)) (now (texts .exit)) (now (comments .exit)) ⌝ }
 {
     let part = roles::card_at(header, j);
@@ -222,21 +271,16 @@ fn join_card(
         Role::Neutral => {
             return held;
         }
-        Role::Refused(_) => {
-            return held;
+        Role::Refused(fault) => {
+            return reached(held, Reach::Met(finding::stop_at(fault, j)));
         }
         _ => {
-            return Lengths {
-                text: held.text,
-                comment: held.comment,
-                commented: held.commented,
-                going: false,
-            };
+            return reached(held, Reach::Ended);
         }
     }
     let own = part.text;
     let n = join_text(texts, held.text, own);
-    let going = ends_open(&texts[..n]);
+    let reach = reach_by(ends_open(&texts[..n]));
     if part.commented {
         let remark = part.comment;
         let m = join_comment(comments, held.commented, held.comment, remark);
@@ -244,36 +288,36 @@ fn join_card(
             text: n,
             comment: m,
             commented: true,
-            going: going,
+            reach: reach,
         };
     }
     Lengths {
         text: n,
         comment: held.comment,
         commented: held.commented,
-        going: going,
+        reach: reach,
     }
 }
 
-// The open string of card i with the cards that are joined to it: its text in scratch, its comment laid where there is room.
-// The string itself is joined as a CONTINUE card to an &.
+// The open string of card i with the cards that are joined to it: its text in scratch, its comment laid where there is room; or the
+// refused card that is met. The string itself is joined as a CONTINUE card to an &.
 fn join_cards(header: &[u8], i: usize, texts: &mut [u8], comments: &mut [u8]) -> Lengths
     requires { ⌜ Room (now header) i (now texts) ⌝ }
-    ensures { λ r. ⌜ Stands (joinedWords (now (header .entry)) i) r (now (texts .exit)) (now (comments .entry)) (now (comments .exit)) ⌝ }
+    ensures { λ r. ⌜ JoinedAll (now (header .entry)) i r (now (texts .exit)) (now (comments .entry)) (now (comments .exit)) ⌝ }
 {
     texts[0] = AMPERSAND;
     let mut held = Lengths {
         text: 1,
         comment: 0,
         commented: false,
-        going: true,
+        reach: Reach::On,
     };
     let mut j = i;
     while j < header.len() / CARD {
-        let going = held.going;
-        if !going {
+        let reach = held.reach;
+        let Reach::On = reach else {
             return held;
-        }
+        };
         held = join_card(header, j, j == i, held, texts, comments);
         j += 1;
     }
@@ -311,16 +355,18 @@ fn digits_of(value: Value, own: Text) -> Text
 fn answer_of(value: Value, own: Text, put: Written) -> Looked
     ensures { λ r. ⌜ r ≡ answerBy value own put ⌝ }
 {
-    if put.fits {
-        return Looked {
+    let outcome = put.put;
+    match outcome {
+        Put::Whole => Looked {
             answer: LookupAnswer::Found(value),
             digits: digits_of(value, own),
             commented: put.commented,
             text: put.text,
             comment: put.comment,
-        };
+        },
+        Put::Short => unread(LookupAnswer::Refused(refusal::fault_of(Refusal::BufferShort))),
+        Put::Met(stop) => unread(LookupAnswer::Header(stop)),
     }
-    unread(LookupAnswer::Refused(refusal::fault_of(Refusal::BufferShort)))
 }
 
 // Whether buffers of two lengths hold a text and a comment.
@@ -333,9 +379,30 @@ fn both_fit(n: usize, m: usize, text: usize, comment: usize) -> bool
     false
 }
 
+// What becomes of words that were measured.
+fn fitting(fits: bool) -> Put
+    ensures { λ r. ⌜ r ≡ putBy none fits ⌝ }
+{
+    if fits {
+        return Put::Whole;
+    }
+    Put::Short
+}
+
+// The same of words that were joined, where a refused card may have been met.
+fn put_by(reach: Reach, fits: bool) -> Put
+    ensures { λ r. ⌜ r ≡ putBy (stopIn reach) fits ⌝ }
+{
+    match reach {
+        Reach::On => fitting(fits),
+        Reach::Ended => fitting(fits),
+        Reach::Met(stop) => Put::Met(stop),
+    }
+}
+
 // The words of an entry's own card, written where both lent buffers hold them.
 fn write_own(shown: bool, part: CardRead, text: &mut [u8], comment: &mut [u8]) -> Written
-    ensures { λ r. ⌜ Wrote (cond shown (bytesOf (part .text)) []) (commentOf (part .commented) (bytesOf (part .comment))) r
+    ensures { λ r. ⌜ Wrote none (cond shown (bytesOf (part .text)) []) (commentOf (part .commented) (bytesOf (part .comment))) r
         (now (text .entry)) (now (comment .entry)) (now (text .exit)) (now (comment .exit)) ⌝ }
 {
     let own = part.text;
@@ -343,19 +410,21 @@ fn write_own(shown: bool, part: CardRead, text: &mut [u8], comment: &mut [u8]) -
     let n = count_of(shown, own);
     let m = count_of(part.commented, remark);
     let fits = both_fit(n, m, text.len(), comment.len());
+    let told = Written {
+        put: fitting(fits),
+        commented: part.commented,
+        text: n,
+        comment: m,
+    };
     if fits {
         put_text(own, n, text, 0);
         put_text(remark, m, comment, 0);
     }
-    Written {
-        fits: fits,
-        commented: part.commented,
-        text: n,
-        comment: m,
-    }
+    told
 }
 
 // The open string of card i, joined in lent scratch and written where both lent buffers hold it. What is joined is measured first.
+// Where a refused card is met, nothing is written.
 fn join_within(
     header: &[u8],
     i: usize,
@@ -370,20 +439,23 @@ fn join_within(
     let mut nowhere = [0u8; 0];
     let end = join_cards(header, i, texts, &mut nowhere);
     let n = end.text;
-    let fits = both_fit(n, end.comment, text.len(), comment.len());
-    if fits {
-        text::put_at(&texts[..n], text, 0);
-        let there = end.commented;
-        if there {
-            join_cards(header, i, texts, comment);
-        }
-    }
-    Written {
-        fits: fits,
+    let reach = end.reach;
+    let put = put_by(reach, both_fit(n, end.comment, text.len(), comment.len()));
+    let told = Written {
+        put: put,
         commented: end.commented,
         text: n,
         comment: end.comment,
+    };
+    let Put::Whole = put else {
+        return told;
+    };
+    text::put_at(&texts[..n], text, 0);
+    let there = end.commented;
+    if there {
+        join_cards(header, i, texts, comment);
     }
+    told
 }
 
 // Uses the smaller scratch up to 108 cards: clearing the large one costs more than reading a card.
@@ -415,13 +487,13 @@ fn is_open(joins: bool, own: Text) -> bool
 fn entry_at(header: &[u8], i: usize, text: &mut [u8], comment: &mut [u8]) -> Looked
     requires { ⌜ (i < length (now header) / 80) × (length (now header) / 80 ≤ 720) ⌝ }
     ensures { λ r. ⌜ leftBy r (now (text .exit)) (now (comment .exit))
-        ≡ given (entryHead (drop i (rolesOf (now (header .entry))))) (now (text .entry)) (now (comment .entry)) ⌝ }
+        ≡ entryFrom (drop i (rolesOf (now (header .entry)))) i (now (text .entry)) (now (comment .entry)) ⌝ }
 {
     let part = roles::card_at(header, i);
     let answer = part.answer;
     let role = roles::role_of(answer);
     let Role::Entry { value, joins } = role else {
-        return not_found();
+        return no_entry(role, i);
     };
     let own = part.text;
     if is_open(joins, own) {

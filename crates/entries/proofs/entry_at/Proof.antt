@@ -1,9 +1,9 @@
 -- `entries::entry_at` meets its contract: by what the card is, and by whether its text is open.
-use Prim.Native.Nat.{ℕ, _+_}
+use Prim.Native.Nat.{ℕ, suc, _+_}
 use mathlib.Core.Path.{_≡_, refl, sym, ap, subst, _∙_}
 use mathlib.Core.Bool.{Bool, true, cond, _&&_}
 use mathlib.Core.List.{List, [], _∷_}
-use mathlib.Core.Option.{Option}
+use mathlib.Core.Option.{Option, none}
 use lib.ListN.{drop}
 use Rattle.text.specs.Text.{bytesOf}
 use Rattle.numbers.specs.declared.Value.{Value}
@@ -11,7 +11,7 @@ use Rattle.card.specs.declared.CardRead.{CardRead}
 use Rattle.card.specs.Cards.{cardOf}
 use Rattle.roles.specs.declared.Role.{Role as Told}
 use Rattle.roles.specs.declared.Role.the-variants.{Entry}
-use Rattle.roles.specs.Roles.{Words, Held, Role, hasText, commentOf, wordsIn, heldOf, roleIn, roleRead}
+use Rattle.roles.specs.Roles.{Words, Role, hasText, commentOf, wordsIn, heldOf, roleIn, roleRead}
 use Rattle.roles.specs.Cards.{cardNo, roleNo, rolesOf}
 use Rattle.roles.proofs.Cards.{roles-from}
 use Rattle.roles.proofs.Counting.{card-here}
@@ -19,10 +19,13 @@ use Rattle.joining.specs.Words.{endsOpen, opens}
 use Rattle.joining.specs.Lookup.{joinOn, whole}
 use Rattle.entries.specs.declared.Written.{Written}
 use Rattle.entries.specs.declared.Looked.{Looked}
-use Rattle.entries.specs.Answers.{leftBy, given, entryHead}
+use Rattle.finding.specs.declared.Stop.{Stop}
+use Rattle.entries.specs.Answers.{leftBy, unread, metOn, entryFrom}
 use Rattle.entries.specs.Passes.{wordsOf, Wrote, WroteAt, answerBy}
-use Rattle.entries.proofs.Telling.{gives-none}
+use Rattle.entries.proofs.Telling.{reads-none}
+use Rattle.entries.proofs.Joining.{met-shut}
 use Rattle.entries.proofs.Writing.{joins-text, wrote, own-open, own-shut}
+use Rattle.joining.proofs.Answers.{joinOn-shut}
 use borrow.Author.Needs.{needs}
 use Rattle.entries.proofs.entry_at.Statement.{statement}
 use Rattle.entries.proofs.entry_at.Tie as tie
@@ -46,11 +49,11 @@ role-is : (c : tie.After-role-of) (t : Told) → c .role-of .result ≡ t
 role-is c t e = ap (λ (x : Told). roleIn x (card c)) (sym e ∙ c .role-of .ensures) ∙ ap roleRead (card-is c)
 
 by : (c : tie.After-role-of) (t : Told) → c .role-of .result ≡ t → let a = start c .args in
-    given (entryHead (roleIn t (card c) ∷ rest c)) (a .text .now) (a .comment .now)
-    ≡ given (entryHead (drop (a .i) (rolesOf (a .header .now)))) (a .text .now) (a .comment .now)
+    entryFrom (roleIn t (card c) ∷ rest c) (a .i) (a .text .now) (a .comment .now)
+    ≡ entryFrom (drop (a .i) (rolesOf (a .header .now))) (a .i) (a .text .now) (a .comment .now)
 by c t e =
     let a = start c .args in
-    ap (λ (l : List Role). given (entryHead l) (a .text .now) (a .comment .now))
+    ap (λ (l : List Role). entryFrom l (a .i) (a .text .now) (a .comment .now))
     (ap (λ (r : Role). r ∷ rest c) (role-is c t e) ∙ sym (roles-from (a .header .now) (a .i) (start c .pre .0)))
 
 abbrev value : tie.After-role → Value
@@ -80,14 +83,16 @@ answered : (c : tie.After-role) (r : Looked) (put : Written) {text₁ comment₁
     → let a = start (read c) .args in
     r ≡ answerBy (value c) (card (read c) .text) put
     → WroteAt (a .header .now) (a .i) put (a .text .now) (a .comment .now) text₁ comment₁
-    → leftBy r text₁ comment₁ ≡ given (entryHead (drop (a .i) (rolesOf (a .header .now)))) (a .text .now) (a .comment .now)
+    → leftBy r text₁ comment₁ ≡ entryFrom (drop (a .i) (rolesOf (a .header .now))) (a .i) (a .text .now) (a .comment .now)
 answered c r put {text₁} {comment₁} e W =
     let a = start (read c) .args in
     let later = rest (read c) in
     let Of : Words → Type 0 =
-    λ w. Wrote (joinOn w later .text) (joinOn w later .comment) put (a .text .now) (a .comment .now) text₁ comment₁ in
+    λ w. Wrote (metOn w later (suc (a .i))) (joinOn w later .text) (joinOn w later .comment) put
+    (a .text .now) (a .comment .now) text₁ comment₁ in
     (λ j. leftBy (e j) text₁ comment₁)
-    ∙ wrote (whole (heldOf (value c) (joins c) (card (read c))) later) (card (read c) .text) put (a .text .now) (a .comment .now)
+    ∙ wrote (metOn (wordsIn (value c) (joins c) (card (read c))) later (suc (a .i)))
+    (whole (heldOf (value c) (joins c) (card (read c))) later) (card (read c) .text) put (a .text .now) (a .comment .now)
     text₁ comment₁ refl (subst Of (own-words c) W)
     ∙ by (read c) (Entry (value c) (joins c)) (c .role .given .1)
 
@@ -100,16 +105,16 @@ role-of-requires c κs = search needs
 enum-known-role : tie.Need-enum-known-role
 enum-known-role c = search needs
 
-not-found-requires : tie.Need-not-found-requires
-not-found-requires c κs = search needs
+no-entry-requires : tie.Need-no-entry-requires
+no-entry-requires c κs = search needs
 
 returns : tie.Need-returns
 returns c =
     let part = c .before .before in
     let a = start part .args in
     let role = part .role-of .result in
-    (λ j. leftBy (c .not-found .ensures j) (a .text .now) (a .comment .now))
-    ∙ ap (λ (v : Option Held). given v (a .text .now) (a .comment .now)) (gives-none (card part) role (c .before .match .keys2) (rest part))
+    (λ j. leftBy (c .no-entry .ensures j) (a .text .now) (a .comment .now))
+    ∙ reads-none (card part) role (c .before .match .keys2) (rest part) (a .i) (a .text .now) (a .comment .now)
     ∙ by part role refl
 
 is-open-requires : tie.Need-is-open-requires
@@ -165,12 +170,19 @@ returns-3 c =
     let comment₁ = put .write-own .last .1 .1 .1 .0 in
     let r = put .write-own .result in
     let said = commentOf (p .commented) (bytesOf (p .comment)) in
-    let shut = own-shut (value role) (joins role) p (rest (read role)) (open-is (test .before) ∙ test .if1 .left) in
+    let later = rest (read role) in
+    let own = wordsIn (value role) (joins role) p in
+    let shut = own-shut (value role) (joins role) p (open-is (test .before) ∙ test .if1 .left) in
+    let Of : Option Stop → Words → Type 0 =
+    λ m w. Wrote m (w .text) (w .comment) r (a .text .now) (a .comment .now) text₁ comment₁ in
+    let words = wordsOf (roleNo (a .header .now) (a .i)) in
+    let unmet = ap (λ (w : Words). metOn w later (suc (a .i))) (own-words role) ∙ met-shut own shut later (suc (a .i)) in
+    let joined = ap (λ (w : Words). joinOn w later) (own-words role) ∙ joinOn-shut own shut later in
     answered role (c .answer-of2 .result) r (c .answer-of2 .ensures)
-    (subst (λ (w : Words). Wrote (w .text) (w .comment) r (a .text .now) (a .comment .now) text₁ comment₁)
-    (sym (ap (λ (w : Words). joinOn w (rest (read role))) (own-words role) ∙ shut))
-    (subst (λ (b : Bool). Wrote (cond b (bytesOf (p .text)) []) said r (a .text .now) (a .comment .now) text₁ comment₁)
-    (shown .has-text .ensures) (put .write-own .ensures)))
+    (subst (λ (m : Option Stop). Of m (joinOn words later)) (sym unmet)
+    (subst (Of none) (sym joined)
+    (subst (λ (b : Bool). Wrote none (cond b (bytesOf (p .text)) []) said r (a .text .now) (a .comment .now) text₁ comment₁)
+    (shown .has-text .ensures) (put .write-own .ensures))))
 
 pub entry-at-spec : {M : Type 1} → statement M
 entry-at-spec =
@@ -179,7 +191,7 @@ entry-at-spec =
     card-at-requires
     role-of-requires
     enum-known-role
-    not-found-requires
+    no-entry-requires
     returns
     is-open-requires
     write-joined-requires

@@ -1,7 +1,6 @@
 -- `entries::join_cards` meets its contract: what is left of the cards is joined to the words as they stand.
 use Prim.Native.Nat.{_-_, _/_}
 use mathlib.Core.Path.{_≡_, refl, _∙_}
-use borrow.Author.Tests.{not-true, not-false}
 use borrow.Author.Needs.{needs}
 use lib.ListN.{length, length-set}
 use Rattle.entries.specs.Passes.{Room}
@@ -31,6 +30,9 @@ slice-write-texts c = search needs
 loop-holds : tie.Need-loop-holds Inv-loop μ-loop
 loop-holds c = (begin (c .before .before .before .pre) (c .before .before .before .args .comments .now), refl, refl)
 
+enum-told : tie.Need-enum-told Inv-loop μ-loop
+enum-told c = search needs
+
 same-length : tie.Need-same-length Inv-loop μ-loop
 same-length c = long (c .before .before)
 
@@ -38,14 +40,14 @@ same-length-2 : tie.Need-same-length-2 Inv-loop μ-loop
 same-length-2 c = c .before .before .loop .inv .2
 
 returns : tie.Need-returns Inv-loop μ-loop
-returns c = at-stop (room (c .before .before)) (c .before .before .loop .inv .0) (not-true _ (c .if1 .taken))
+returns c = at-stop (room (c .before .before)) (c .before .before .loop .inv .0) (c .match .keys2)
 
 join-card-requires : tie.Need-join-card-requires Inv-loop μ-loop
 join-card-requires c κs =
-    let inside = c .before .before .before in
+    let told = c .before .before in
+    let inside = told .before .before in
     let at = inside .before in
-    let goes = not-false _ (c .before .before .if1 .left) in
-    (inside .loop-test .taken, space (room at) (at .loop .inv .0) goes (inside .loop-test .taken) (long at))
+    (inside .loop-test .taken, space (room at) (at .loop .inv .0) (told .enum-told .given .1) (inside .loop-test .taken) (long at))
 
 add-j : tie.Need-add-j Inv-loop μ-loop
 add-j c = search needs
@@ -56,10 +58,11 @@ loop-less c = search needs
 loop-again : tie.Need-loop-again Inv-loop μ-loop
 loop-again c =
     let joined = c .before .before .before .before in
-    let test = joined .before .before .before in
-    let at = test .before .before in
-    let goes = not-false _ (test .if1 .left) in
-    (on-card (room at) (at .loop .inv .0) goes (test .before .loop-test .taken) (joined .join-card .ensures), search needs, search needs)
+    let told = joined .before .before .before in
+    let inside = told .before .before in
+    let at = inside .before in
+    let on = told .enum-told .given .1 in
+    (on-card (room at) (at .loop .inv .0) on (inside .loop-test .taken) (joined .join-card .ensures), search needs, search needs)
 
 same-length-3 : tie.Need-same-length-3 Inv-loop μ-loop
 same-length-3 c = long (c .before)
@@ -78,6 +81,7 @@ join-cards-spec =
     μ-loop
     slice-write-texts
     loop-holds
+    enum-told
     same-length
     same-length-2
     returns

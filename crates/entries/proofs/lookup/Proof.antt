@@ -13,7 +13,7 @@ use Rattle.finding.specs.declared.Header.the-variants.{Accepted, Refused}
 use Rattle.finding.specs.Finding.{headerOf, lastOf}
 use Rattle.finding.proofs.Searching.{header-refused, header-read}
 use Rattle.entries.specs.Answers.{leftBy, given, lookedUp, lookupOf, entryAt}
-use Rattle.entries.proofs.Looking.{accepted-good, last-found, last-within}
+use Rattle.entries.proofs.Looking.{accepted-good, last-found, last-within, last-read}
 use borrow.Author.Needs.{needs}
 use Rattle.entries.proofs.lookup.Statement.{statement}
 use Rattle.entries.proofs.lookup.Tie as tie
@@ -107,7 +107,13 @@ returns-2 : tie.Need-returns-2
 returns-2 c =
     let entry = c .before .before .before .before in
     let at-last = entry .before .before .before .before in
-    entry .entry-at .ensures ∙ by-place (at-last .before .before .before) (At (at-last .last2 .given .0 .0)) (at-last .last2 .given .1)
+    let accepted = at-last .before .before .before in
+    let a = start (accepted .before .before) .args in
+    let k = at-last .last2 .given .0 .0 in
+    let is = header-is accepted in
+    entry .entry-at .ensures
+    ∙ last-read (a .name .now) (end-at accepted) (a .header .now) k (is .0) (is .1 ∙ at-last .last2 .given .1) (a .text .now) (a .comment .now)
+    ∙ by-place accepted (At k) (at-last .last2 .given .1)
 
 returns-3 : tie.Need-returns-3
 returns-3 c =

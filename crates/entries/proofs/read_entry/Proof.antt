@@ -3,18 +3,16 @@ use Prim.Native.Nat.{ℕ}
 use mathlib.Core.Path.{_≡_, sym, ap, _∙_}
 use mathlib.Core.Bool.{true, false}
 use mathlib.Core.List.{List}
-use mathlib.Core.Option.{Option}
 use lib.ListN.{length, drop}
 use Rattle.refusal.specs.declared.Fault.{Fault}
 use Rattle.refusal.specs.declared.Refusal.the-variants as R
 use Rattle.refusal.specs.Numbers.{faultOf}
-use Rattle.roles.specs.Roles.{Held}
 use Rattle.roles.specs.Cards.{isBadLength, rolesOf}
 use Rattle.roles.proofs.Counting.{good-cards}
 use Rattle.finding.specs.declared.Stop.{Stop}
 use Rattle.finding.specs.Finding.{stopAt}
 use Rattle.entries.specs.declared.LookupAnswer.the-variants as L
-use Rattle.entries.specs.Answers.{leftBy, unread, untouched, given, entryHead, entryOf}
+use Rattle.entries.specs.Answers.{leftBy, unread, untouched, entryFrom, entryOf}
 use Rattle.entries.proofs.Looking.{no-entry}
 use borrow.Author.Needs.{needs}
 use Rattle.entries.proofs.read_entry.Statement.{statement}
@@ -31,7 +29,7 @@ module _ (h : List ℕ) (i : ℕ) (text comment : List ℕ) where
   unfolding entryOf
   bad e = rw e
 
-  good : isBadLength (length h) ≡ false → given (entryHead (drop i (rolesOf h))) text comment ≡ entryOf h i text comment
+  good : isBadLength (length h) ≡ false → entryFrom (drop i (rolesOf h)) i text comment ≡ entryOf h i text comment
   unfolding entryOf
   good e = rw e
 
@@ -67,7 +65,7 @@ returns-2 c =
     let long = past .before in
     let a = start (long .before) .args in
     (λ j. leftBy (c .not-found .ensures j) (a .text .now) (a .comment .now))
-    ∙ ap (λ (v : Option Held). given v (a .text .now) (a .comment .now)) (no-entry (a .header .now) (a .i) (past .if2 .taken))
+    ∙ no-entry (a .header .now) (a .i) (a .text .now) (a .comment .now) (past .if2 .taken)
     ∙ good (a .header .now) (a .i) (a .text .now) (a .comment .now) (length-is long)
 
 entry-at-requires : tie.Need-entry-at-requires

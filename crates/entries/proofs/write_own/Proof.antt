@@ -13,6 +13,9 @@ count-of-requires-2 c κs = search needs
 both-fit-requires : tie.Need-both-fit-requires
 both-fit-requires c κs = search needs
 
+fitting-requires : tie.Need-fitting-requires
+fitting-requires c κs = search needs
+
 put-text-requires : tie.Need-put-text-requires
 put-text-requires c κs = search needs
 
@@ -30,19 +33,21 @@ returns c =
     let second = c .before .before in
     let first = second .before .before .before .before in
     let test = first .before .before in
-    let fit = test .before in
+    let put = test .before in
+    let fit = put .before in
     let a = fit .before .before .before .before .before .before .before .args in
     let count = fit .before .before .count-of .ensures in
     own-wrote (a .shown) (a .part) (a .text .now) (a .comment .now) count (fit .before .count-of2 .ensures) (fit .both-fit .ensures)
-    (test .if1 .taken) (first .put-text .ensures) (second .put-text2 .ensures)
+    (put .fitting .ensures) (test .if1 .taken) (first .put-text .ensures) (second .put-text2 .ensures)
 
 returns-2 : tie.Need-returns-2
 returns-2 c =
-    let fit = c .before in
+    let put = c .before in
+    let fit = put .before in
     let a = fit .before .before .before .before .before .before .before .args in
     let count = fit .before .before .count-of .ensures in
     own-short (a .shown) (a .part) (a .text .now) (a .comment .now) count (fit .before .count-of2 .ensures) (fit .both-fit .ensures)
-    (c .if1 .left)
+    (put .fitting .ensures) (c .if1 .left)
 
 pub write-own-spec : {M : Type 1} → statement M
 write-own-spec =
@@ -51,6 +56,7 @@ write-own-spec =
     count-of-requires
     count-of-requires-2
     both-fit-requires
+    fitting-requires
     put-text-requires
     put-text-requires-2
     same-length
