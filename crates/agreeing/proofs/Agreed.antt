@@ -24,8 +24,8 @@ use Rattle.finding.specs.declared.Header.the-variants.{Accepted}
 use Rattle.finding.specs.Finding.{headerOf, lastFrom, lastOf}
 use Rattle.entries.specs.declared.LookupAnswer.the-variants as L
 use Rattle.entries.specs.Answers.{LookupOutcome, leftBy, foundAs, untouched, written, bytesIn, given, lookedUp, lookupOf}
-use Rattle.entries.specs.Answers.{entryHead, entryAt, entryOf}
-use Rattle.entries.proofs.Looking.{accepted-good, last-found}
+use Rattle.entries.specs.Answers.{entryAt, entryFrom, entryOf}
+use Rattle.entries.proofs.Looking.{accepted-good, last-found, last-read}
 use Rattle.listing.specs.declared.Listing.{Listing}
 use Rattle.listing.specs.Listing.{places, free, Table, empty, nameOf, placeIn, tabled, byListed, byHeader, listOf, placeOfEntry}
 use Rattle.agreeing.specs.Firsts.{isAmong, firstsOf, numberAt, lastNumber, lastsOf}
@@ -157,14 +157,27 @@ module _ (h : List ℕ) (end : ℕ) (a : headerOf h ≡ Accepted end) where
   unfolding lookupOf
   by-cards name text comment = ap (λ (x : Header). lookedUp x roles name text comment) a
 
-  by-number : (i : ℕ) (text comment : List ℕ) → entryOf h i text comment ≡ given (entryHead (drop i roles)) text comment
+  by-number : (i : ℕ) (text comment : List ℕ) → entryOf h i text comment ≡ entryFrom (drop i roles) i text comment
   unfolding entryOf
   by-number i text comment = rw (accepted-good h end a)
 
   at-place : (k : ℕ) (text comment : List ℕ) → let i = getD (listOf h .last) k free in
-      placeOfEntry h (listOf h .last) k text comment ≡ given (entryHead (drop i roles)) text comment
+      placeOfEntry h (listOf h .last) k text comment ≡ entryFrom (drop i roles) i text comment
   unfolding placeOfEntry
   at-place k text comment = by-number (getD (listOf h .last) k free) text comment
+
+  -- the card at a name's place is the last that bears the name
+  last-card : (name : List ℕ) (k : ℕ) → StandsAt h name k → lastOf name roles ≡ At (getD (table .last) k free)
+  last-card name k s = sym (last-is name) ∙ ap (λ (q : Place). lastAt q (table .last)) (place-of name k s)
+
+  read-at : (name : List ℕ) (k : ℕ) → StandsAt h name k → (text comment : List ℕ)
+      → placeOfEntry h (listOf h .last) k text comment ≡ given (lookup name roles) text comment
+  read-at name k s text comment =
+      let i = getD (table .last) k free in
+      at-place k text comment
+      ∙ ap (λ (j : ℕ). entryFrom (drop j roles) j text comment) (last-in k (under name k s))
+      ∙ last-read name end h i a (last-card name k s) text comment
+      ∙ ap (λ (o : Option Held). given o text comment) (sym (lookup-by name (At k) (place-of name k s)))
 
   found-or : (name : List ℕ) (o : Option Held) → lookup name roles ≡ o → StandsIn h name → FoundIn h name
   found-or name (some v) e s = record { held = v; is = e }
@@ -220,10 +233,7 @@ contents h end a =
 
 pub agreement : Agreement
 agreement h end a name k s text comment =
-    at-place h end a k text comment
-    ∙ ap (λ (i : ℕ). given (entryHead (drop i (rolesOf h))) text comment) (last-in h end a k (under h end a name k s))
-    ∙ ap (λ (o : Option Held). given o text comment) (sym (lookup-by h end a name (At k) (place-of h end a name k s)))
-    ∙ sym (by-cards h end a name text comment)
+    read-at h end a name k s text comment ∙ sym (by-cards h end a name text comment)
 
 pub each-taken : EachTaken
 each-taken h end a k p =
