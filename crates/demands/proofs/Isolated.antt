@@ -1,15 +1,34 @@
--- Demand 3, from the same of cards as they are read.
-use Prim.Native.Nat.{ℕ}
-use mathlib.Core.Path.{_≡_, sym, ap, _∙_}
-use mathlib.Core.List.{List}
+-- Demand 3, for lookups and for the list.
+use Prim.Native.Nat.{ℕ, _+_, _≤_}
+use native.Mathlib.Omega.{arith}
+use mathlib.Core.Path.{_≡_, refl, sym, ap, _∙_}
+use mathlib.Core.Bool.{Bool, false, cond}
+use mathlib.Core.List.{List, [], _∷_, map}
 use mathlib.Core.Option.{Option}
-use Rattle.roles.specs.Roles.{Held, roleOf}
-use Rattle.roles.specs.Cards.{cardsOf, rolesOf}
+use lib.ListN.{length, getD, take, List·getD-map}
+use Rattle.refusal.specs.declared.Refusal.the-variants as R
+use Rattle.refusal.specs.Numbers.{faultOf}
+use Rattle.roles.specs.Roles.{Held, Role, neutral, roleOf}
+use Rattle.roles.specs.Cards.{cardsOf, rolesOf, isBadLength}
 use Rattle.joining.specs.Lookup.{lookup}
-use Rattle.joining.proofs.Demand3.{demand-3-bytes}
+use Rattle.joining.specs.Belonging.{idle, Effect, effects}
+use Rattle.joining.proofs.Names.{others, answer, answer-others}
+use Rattle.joining.proofs.Answers.{by-effects}
+use Rattle.joining.proofs.Owning.{equal}
 use Rattle.finding.specs.declared.Header.{Header}
+use Rattle.finding.specs.declared.Header.the-variants.{Accepted, Refused}
+use Rattle.finding.specs.Finding.{stopAt, headerFrom, headerOf}
 use Rattle.entries.specs.Answers.{given, lookedUp, lookupOf}
-use Rattle.demands.specs.Demands.{IsAccepted, Isolation}
+use Rattle.entries.proofs.Looking.{accepted-good}
+use Rattle.listing.specs.declared.Listing.{Listing}
+use Rattle.listing.specs.Listing.{places, free, nameOf}
+use Rattle.listing.proofs.Placing.{take-filled}
+use Rattle.agreeing.specs.Firsts.{firstsOf}
+use Rattle.agreeing.proofs.Agreed.{agreement, contents}
+use Rattle.demands.specs.Demands.{IsAccepted, EqualBut, Isolation, IsolationToEnd, namesListed, OrderKept, ReadingsKept}
+use Rattle.demands.proofs.Ending.{toEnd, lookup-to-end, Twin, twin-others, twins}
+use Rattle.demands.proofs.Naming.{firstNames, names-are, twin-names}
+use Rattle.demands.proofs.Naming as naming
 
 -- an accepted header answers by its cards
 by-cards : (h : List ℕ) → IsAccepted h → (name text comment : List ℕ)
@@ -17,9 +36,56 @@ by-cards : (h : List ℕ) → IsAccepted h → (name text comment : List ℕ)
 unfolding lookupOf
 by-cards h a name text comment = ap (λ (x : Header). lookedUp x (rolesOf h) name text comment) (a .accepted)
 
-pub isolation : Isolation
-isolation g h k ga ha long places cards name other text comment =
-    by-cards g ga name text comment
+-- and is read from its first card on
+read-from : (h : List ℕ) (a : IsAccepted h) → headerFrom (rolesOf h) 0 ≡ Accepted (a .end)
+unfolding headerOf
+read-from h a =
+    sym (ap (λ (b : Bool). cond b (Refused (stopAt (faultOf R.HeaderLength) 0)) (headerFrom (rolesOf h) 0)) (accepted-good h (a .end) (a .accepted)))
+    ∙ a .accepted
+
+-- its names are those that its cards give
+listed : (h : List ℕ) → IsAccepted h → namesListed h ≡ firstNames [] (effects idle (toEnd (rolesOf h)))
+listed h a =
+    let roles = rolesOf h in
+    let name : ℕ → List ℕ = λ (i : ℕ). nameOf (getD roles i neutral) in
+    ap (λ (x : Listing). map name (take (x .count) (x .first))) (contents h (a .end) (a .accepted))
+    ∙ ap (map name) (take-filled free places (firstsOf roles))
+    ∙ names-are roles [] roles 0 refl
+    ∙ sym (naming.by-effects roles [] idle naming.free)
+
+-- a name that is not K is answered by the cards that are not K's
+by-others : (k name : List ℕ) → (k ≡ name → ⊥) → (rs : List Role) → lookup name rs ≡ answer name (others k (effects idle (toEnd rs)))
+by-others k name other rs =
+    sym (lookup-to-end name rs) ∙ by-effects name (toEnd rs) ∙ sym (answer-others k name other (effects idle (toEnd rs)))
+
+module _ (g h k : List ℕ) (a : IsAccepted g) (b : IsAccepted h) (but : EqualBut k g h (a .end)) where
+  -- card by card both bear K or do the same
+  twin : Twin k (effects idle (toEnd (rolesOf g))) (effects idle (toEnd (rolesOf h)))
+  twin =
+      twins k (roleOf []) idle idle equal (rolesOf g) (rolesOf h) 0 0 (a .end) (b .end) (read-from g a) (read-from h b)
+      (λ (p : ℕ) (u : 0 + p ≤ a .end). but .places p (omega (arith, u)))
+      (λ p u d.
+      List·getD-map roleOf (cardsOf g) p []
+      ∙ ap roleOf (but .cards p (omega (arith, u)) d)
+      ∙ sym (List·getD-map roleOf (cardsOf h) p []))
+
+pub isolation-to-end : IsolationToEnd
+isolation-to-end g h k a b but name other text comment =
+    by-cards g a name text comment
     ∙ ap (λ (v : Option Held). given v text comment)
-    (demand-3-bytes roleOf k name other (cardsOf g) (cardsOf h) long places cards)
-    ∙ sym (by-cards h ha name text comment)
+    (by-others k name other (rolesOf g) ∙ ap (answer name) (twin-others k (twin g h k a b but)) ∙ sym (by-others k name other (rolesOf h)))
+    ∙ sym (by-cards h b name text comment)
+
+-- cards that are equal throughout are equal up to END
+pub isolation : Isolation
+isolation g h k a b long places cards name other text comment =
+    isolation-to-end g h k a b (record { places = λ p _. places p; cards = λ p _. cards p }) name other text comment
+
+pub order-kept : OrderKept
+order-kept g h k a b but = listed g a ∙ twin-names k (twin g h k a b but) [] ∙ sym (listed h b)
+
+pub readings-kept : ReadingsKept
+readings-kept g h k a b but name other i j s t text comment =
+    agreement g (a .end) (a .accepted) name i s text comment
+    ∙ isolation-to-end g h k a b but name (λ (e : k ≡ name). other (sym e)) text comment
+    ∙ sym (agreement h (b .end) (b .accepted) name j t text comment)

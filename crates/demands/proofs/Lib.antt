@@ -1,2 +1,4 @@
--- The proofs of what `Demands` states.
+-- The demands, proved.
+pub mod Ending
+pub mod Naming
 pub mod Isolated

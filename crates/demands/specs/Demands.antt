@@ -5,17 +5,20 @@
 --    `rice::decode` and the others that docs/PROMISES.md lists.
 -- 2. Each answer, and each lent buffer after it, is a definition's: `lookupOf` for a lookup (crates/entries/specs/Answers.antt), whose
 --    contract is one equation for the answer and the two buffers.
--- 3. Isolation, stated here: no card of K touches what another name is answered.
-use Prim.Native.Nat.{ℕ}
+-- 3. Isolation, stated here: no card of K touches what another name is answered, nor the names of the list and their order.
+use Prim.Native.Nat.{ℕ, _≤_}
 use mathlib.Core.Path.{_≡_}
 use mathlib.Core.Bool.{Bool, false}
-use mathlib.Core.List.{List, []}
-use lib.ListN.{length, getD}
+use mathlib.Core.List.{List, [], map}
+use lib.ListN.{length, getD, take}
+use Rattle.roles.specs.Roles.{neutral}
 use Rattle.joining.specs.Belonging.{belongs}
 use Rattle.roles.specs.Cards.{cardsOf, rolesOf}
 use Rattle.finding.specs.declared.Header.the-variants.{Accepted}
 use Rattle.finding.specs.Finding.{headerOf}
 use Rattle.entries.specs.Answers.{lookupOf}
+use Rattle.listing.specs.Listing.{nameOf, listOf, placeOfEntry}
+use Rattle.agreeing.specs.Agreeing.{StandsAt}
 
 -- the header h is accepted: its END stands at some card
 pub record IsAccepted (h : List ℕ) : Type 0 where
@@ -35,3 +38,36 @@ Isolation =
     → ((p : ℕ) → isOf k g p ≡ false → getD (cardsOf g) p [] ≡ getD (cardsOf h) p [])
     → (name : List ℕ) → (k ≡ name → ⊥)
     → (text comment : List ℕ) → lookupOf g name text comment ≡ lookupOf h name text comment
+
+-- ---- the cards behind END, which are not looked at, need not be equal nor equally many
+
+-- up to END the same places belong to K in both headers, and all other cards are equal byte for byte
+pub record EqualBut (k g h : List ℕ) (end : ℕ) : Type 0 where
+  pub places : (p : ℕ) → p ≤ end → isOf k g p ≡ isOf k h p
+  pub cards : (p : ℕ) → p ≤ end → isOf k g p ≡ false → getD (cardsOf g) p [] ≡ getD (cardsOf h) p []
+
+-- the stronger form: two accepted headers that are equal but for K up to the first one's END
+abbrev pub IsolationToEnd : Type 0
+IsolationToEnd =
+    (g h k : List ℕ) (a : IsAccepted g) → IsAccepted h → EqualBut k g h (a .end)
+    → (name : List ℕ) (other : k ≡ name → ⊥) (text comment : List ℕ)
+    → lookupOf g name text comment ≡ lookupOf h name text comment
+
+-- ---- the list of names
+
+-- the names of the list in its order: each by the first card that bears it
+abbrev pub namesListed : List ℕ → List (List ℕ)
+namesListed h = map (λ (i : ℕ). nameOf (getD (rolesOf h) i neutral)) (take (listOf h .count) (listOf h .first))
+
+-- the list has the same names in the same order
+abbrev pub OrderKept : Type 0
+OrderKept =
+    (g h k : List ℕ) (a : IsAccepted g) → IsAccepted h → EqualBut k g h (a .end) → namesListed g ≡ namesListed h
+
+-- the entry at another name's place, with the same lent buffers, keeps its reading
+abbrev pub ReadingsKept : Type 0
+ReadingsKept =
+    (g h k : List ℕ) (a : IsAccepted g) → IsAccepted h → EqualBut k g h (a .end)
+    → (name : List ℕ) → (name ≡ k → ⊥) → (i j : ℕ) → StandsAt g name i → StandsAt h name j
+    → (text comment : List ℕ)
+    → placeOfEntry g (listOf g .last) i text comment ≡ placeOfEntry h (listOf h .last) j text comment

@@ -2,4 +2,3 @@
 pub mod Names
 pub mod Answers
 pub mod Owning
-pub mod Demand3

@@ -1,4 +1,4 @@
--- What stands open where K's entry was the last: nothing, or that entry.
+-- What stands open where K's entry was the last: nothing, or that entry; and what stands open alike in two headers.
 use Prim.Native.Nat.{ℕ}
 use mathlib.Core.List.{List}
 use mathlib.Core.Path.{_≡_, refl, sym, _∙_}
@@ -32,3 +32,19 @@ module _ (k : List ℕ) where
   like-idle (own x) neutral b = refl
   like-idle (own x) last b = refl
   like-idle (own x) (refused f) b = refl
+
+  -- what stands open in two headers is the same, or K's affair in both
+  pub data Alike : Open → Open → Type 0 where
+    equal : {q : Open} → Alike q q
+    owned : {q r : Open} → Own q → Own r → Alike q r
+
+  -- so an equal card that does not bear K does the same in both headers, and leaves them alike
+  pub effect : {q r : Open} → Alike q r → (c : Role) → bears k (does q c) ≡ false → bears k (does r c) ≡ false
+      → does q c ≡ does r c
+  effect equal c a b = refl
+  effect (owned x y) c a b = like-idle x c a ∙ sym (like-idle y c b)
+
+  pub after : (q r : Open) → Alike q r → (f : Effect) → Alike (leaves q f) (leaves r f)
+  after q r s (gives e) = equal
+  after q r s nothing = s
+  after q r s stops = equal

@@ -39,7 +39,7 @@ use Rattle.listing.proofs.Marking.{length-filled}
 use Rattle.listing.proofs.Bearing.{name-read, role-is, bears-dotted, bears-plain, place-within, put-behind}
 
 -- ---- arrays
-take-filled : (mark n : ℕ) (l : List ℕ) → take (length l) (filled mark n l) ≡ l
+pub take-filled : (mark n : ℕ) (l : List ℕ) → take (length l) (filled mark n l) ≡ l
 unfolding filled
 take-filled mark n l = take-append-seam l _
 
