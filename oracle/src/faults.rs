@@ -20,6 +20,8 @@ macro_rules! faults {
 #[derive(Clone, Copy, PartialEq, Eq, Debug)]
 pub enum Subject {
     Cards,
+    /// A card's decimal record, of which the Rust tells the nearest float alone.
+    Records,
     Headers,
     Tiles,
 }
@@ -115,6 +117,17 @@ faults! {
         UnitLast = "a unit ends at the last bracket",
         UnitAnywhere = "a unit stands anywhere",
         UnitEmptyNone = "an empty unit is none",
+        UnitBracket = "a unit keeps its brackets",
+        UnitUnclosed = "a unit needs no closing bracket",
+    }
+    Records {
+        ZeroPower = "a decimal zero keeps its power",
+        ZerosInFront = "zeros in front stay among the digits",
+        ZerosAtEnd = "zeros at the end stay among the digits",
+        CapHigher = "an exponent is capped at 100,000",
+        CapLower = "an exponent is capped at 99,998",
+        CapOfPower = "the power is capped, not the written exponent",
+        CapInvalid = "an exponent beyond the cap is invalid",
     }
     Headers {
         CommentCloses = "a comment closes an open string",
@@ -149,7 +162,8 @@ faults! {
         UndefinedValueNone = "an undefined value gives no entry",
         InvalidNone = "an invalid value gives no entry",
         UndefinedEntry = "an undefined card gives an entry",
-        EndPassed = "reading goes on behind END",
+        EndPassed = "cards behind END are looked at",
+        EndRefuses = "a refused card behind END refuses the header",
         EndNotNeeded = "END is not needed",
         RefusedPassed = "a refused card is passed over",
         RefusedLast = "the last refused card is named",
@@ -175,6 +189,7 @@ faults! {
         RemainderFirst = "the remainder stands before the zeros",
         RemainderTurned = "the remainder's lowest bit is first",
         SumTruncated = "n times 2^fs is cut to 16 bits",
+        NotWrapped = "u is not wrapped at 2^32",
         OddRounded = "an odd u means -u/2 rounded to zero",
         NotUnmapped = "u is the difference",
         RawNotUnmapped = "a raw field is the difference",

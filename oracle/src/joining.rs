@@ -26,7 +26,7 @@ impl Model {
             match read(bytes) {
                 Card::End => {
                     ended = true;
-                    if !self.has(Fault::EndPassed) {
+                    if !self.has(Fault::EndPassed) && !self.has(Fault::EndRefuses) {
                         break;
                     }
                 }
@@ -39,6 +39,7 @@ impl Model {
                         break;
                     }
                 }
+                _ if ended && self.has(Fault::EndRefuses) => (),
                 Card::Value(entry) => self.put(&mut list, entry, false),
                 Card::Hierarch(entry) => self.put(&mut list, entry, true),
                 Card::Continue(text, comment) => self.go_on(&mut list, text, comment),

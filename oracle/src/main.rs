@@ -11,6 +11,8 @@ mod joining;
 mod model;
 mod ours;
 mod power;
+mod printed;
+mod purposes;
 mod random;
 mod reading;
 mod stored;
@@ -18,6 +20,7 @@ mod tally;
 mod theirs;
 mod tiles;
 mod unpacking;
+mod variants;
 mod views;
 
 use tally::{Outcome, Tally};

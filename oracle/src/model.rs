@@ -21,6 +21,9 @@ struct Split {
     comment: Option<Vec<u8>>,
 }
 
+/// What a written exponent counts as at most.
+const CAP: i64 = 99_999;
+
 /// A refusal's number, or an answer.
 type Answer<T> = Result<T, u8>;
 
@@ -160,13 +163,17 @@ impl Model {
             c = &c[c.iter().position(|&b| b == b'[')?..];
         }
         let rest = c.strip_prefix(b"[")?;
-        let end = if self.has(Fault::UnitLast) {
-            rest.iter().rposition(|&b| b == b']')?
-        } else {
-            rest.iter().position(|&b| b == b']')?
+        let closes = |&b: &u8| b == b']';
+        let end = match self.0 {
+            Fault::UnitLast => rest.iter().rposition(closes)?,
+            Fault::UnitUnclosed => rest.iter().position(closes).unwrap_or(rest.len()),
+            _ => rest.iter().position(closes)?,
         };
         if end == 0 && self.has(Fault::UnitEmptyNone) {
             return None;
+        }
+        if self.has(Fault::UnitBracket) {
+            return Some([b"[", &rest[..=end]].concat());
         }
         Some(rest[..end].to_vec())
     }
@@ -348,16 +355,22 @@ impl Model {
             power -= part.len() as i64;
         }
         let front = digits.iter().take_while(|&&d| d == b'0').count();
-        digits.drain(..front);
+        if !self.has(Fault::ZerosInFront) || front == digits.len() {
+            digits.drain(..front);
+        }
         if self.has(Fault::SeventeenDigits) {
             digits.iter_mut().skip(17).for_each(|d| *d = b'0');
         }
-        while digits.last() == Some(&b'0') {
+        while digits.last() == Some(&b'0') && !self.has(Fault::ZerosAtEnd) {
             digits.pop();
             power += 1;
         }
+        if self.has(Fault::CapOfPower) {
+            power = power.clamp(-CAP, CAP);
+        }
         if digits.is_empty() {
-            return Some(Value::Decimal(Decimal::finite(minus && !self.has(Fault::ZeroSignLost), digits, 0)));
+            let power = if self.has(Fault::ZeroPower) { power } else { 0 };
+            return Some(Value::Decimal(Decimal::finite(minus && !self.has(Fault::ZeroSignLost), digits, power)));
         }
         Some(Value::Decimal(Decimal::finite(minus, digits, power)))
     }
@@ -379,12 +392,22 @@ impl Model {
         if digits.is_empty() && !self.has(Fault::NoExponentDigits) {
             return None;
         }
+        let cap = match self.0 {
+            Fault::CapHigher => CAP + 1,
+            Fault::CapLower => CAP - 1,
+            Fault::CapOfPower => i64::from(i32::MAX),
+            _ => CAP,
+        };
         let mut e: i64 = 0;
         for d in digits {
             if !d.is_ascii_digit() {
                 return None;
             }
-            e = (e * 10 + (d - b'0') as i64).min(99_999);
+            e = e * 10 + (d - b'0') as i64;
+            if e > cap && self.has(Fault::CapInvalid) {
+                return None;
+            }
+            e = e.min(cap);
         }
         if self.has(Fault::EightBitExponent) {
             e %= 256;

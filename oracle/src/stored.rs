@@ -1,29 +1,23 @@
-//! The stored list: headers and tiles with the Rust's answers, for programs that replay them.
+//! The stored list: headers and tiles with the Rust's answers, to be replayed. `printed.rs` has its form.
 //!
-//! `headers.bin` holds one header behind the other: the number of its cards in two bytes, the higher first, then for
-//! each card a length and so many bytes, which spaces fill to 80. `headers.txt` holds what the program `cards` prints
-//! of each. `lookups.txt` holds the same lines, and behind each name's line one that begins with / where there is a
-//! comment and one that begins with [ where there is a unit.
-//!
-//! `tiles.bin` holds one tile behind the other: the width in a byte, nx, nblock and the tile's length in three bytes
-//! each, the highest first, then the tile. `tiles.txt` holds three lines for each. The first has the word whole, and the
-//! whole bytes used, or the word refused, the number and how many pixels were written. The second has the word pixels
-//! and those pixels. The third has the word blocks, and the whole bytes used after each block where one block is read at
-//! a time; where a block fails, the word refused, the number and how many of its pixels were written; and the word apart
-//! where the pixels of the blocks are not those of the second line.
+//! `headers.bin` and `tiles.bin` hold one case behind the other, `headers.txt` and `tiles.txt` what is printed of them.
+//! The digits and power of a decimal, of which the Rust has the nearest float alone, are the model's; both floats are
+//! compared when the list is made.
 
 use crate::faults::{Fault, Subject, FAULTS};
 use crate::model::Model;
+use crate::printed::{self, Whole, UNTOUCHED};
+use crate::purposes::{self, Cards};
 use crate::random::Random;
-use crate::reading::{Entry, Header, Value};
+use crate::reading::{shown, Header, Value};
 use crate::tiles::Case;
+use crate::variants::{self, WITNESSES};
 use crate::{cards, headers, theirs, tiles};
 use std::collections::{BTreeMap, HashSet};
 use std::path::Path;
 use std::{fs, io};
 
-/// How many witnesses each misreading gets, and how many headers of each refusal there are at least.
-const WITNESSES: usize = 8;
+/// How many headers of each refusal there are at least.
 const REFUSALS: usize = 24;
 
 /// How many headers and tiles there are in all.
@@ -34,182 +28,98 @@ const TILES: usize = 1_000;
 const TILE_BYTES: usize = 2_000;
 const TILE_PIXELS: usize = 256;
 
-/// Misreadings that the stored list cannot show: a header's entries hold no commentary and no undefined card, and a
-/// float gives back no record of more than 17 digits.
-const UNSEEN: &[Fault] = &[
-    Fault::EmptyTab,
-    Fault::EmptyIsSpace,
-    Fault::CommentaryNotReplaced,
-    Fault::CommentaryEndKept,
-    Fault::CommentaryFrom9,
-    Fault::UndefinedCut,
-    Fault::SeventeenDigits,
-];
+// ---- headers
 
-/// A decimal as `cards` prints it, where the float gives the record back.
-fn decimal(value: &Value) -> Option<String> {
-    let Value::Decimal(d) = value else {
+/// The Rust's answer with the model's digits and powers, or nothing where the Rust panics or tells no refusal's number.
+/// All else of the model's answer, and the nearest floats, must be the Rust's.
+fn recorded(header: &[[u8; 80]]) -> Option<Header> {
+    let mut rust = theirs::header(header)?;
+    if matches!(rust, Header::Refused(0, _)) {
         return None;
-    };
-    let float = f64::from_bits(d.bits);
-    let sign = if float.is_sign_negative() { "-" } else { "" };
-    if float.is_nan() {
-        return Some(format!("{sign}nan"));
     }
-    if float.is_infinite() {
-        return Some(format!("{sign}inf"));
-    }
-    let shortest = format!("{:e}", float.abs());
-    let (digits, power) = shortest.split_once('e')?;
-    let (whole, part) = digits.split_once('.').unwrap_or((digits, ""));
-    let all = format!("{whole}{part}");
-    let cut = all.trim_end_matches('0');
-    if cut.is_empty() {
-        return Some(format!("{sign}0e0"));
-    }
-    let power = power.parse::<i64>().ok()? - part.len() as i64 + (all.len() - cut.len()) as i64;
-    Some(format!("{sign}{cut}e{power}"))
-}
-
-/// A decimal's record as document 01 has it.
-fn record(value: &Value) -> Option<String> {
-    let Value::Decimal(d) = value else {
-        return None;
-    };
-    let float = f64::from_bits(d.bits);
-    let sign = if float.is_sign_negative() { "-" } else { "" };
-    let (digits, power) = d.record.as_ref()?;
-    let word = match (digits.is_empty(), float.is_nan(), float.is_infinite()) {
-        (true, true, _) => "nan".to_string(),
-        (true, _, true) => "inf".to_string(),
-        (true, ..) => "0e0".to_string(),
-        _ => format!("{}e{power}", String::from_utf8_lossy(digits)),
-    };
-    Some(format!("{sign}{word}"))
-}
-
-/// A name's line: name, kind and reading.
-fn line(entry: &Entry, out: &mut Vec<u8>) {
-    out.extend_from_slice(&entry.name);
-    let (kind, reading) = match &entry.value {
-        Value::Integer(z) => (b'I', z.to_string().into_bytes()),
-        Value::Decimal(d) if d.record.is_some() => (b'D', record(&entry.value).unwrap_or_default().into_bytes()),
-        Value::Decimal(_) => (b'D', decimal(&entry.value).unwrap_or_default().into_bytes()),
-        Value::Logical(t) => (b'L', vec![if *t { b'T' } else { b'F' }]),
-        Value::Text(t) => (b'S', t.clone()),
-        Value::Undefined => (b'U', Vec::new()),
-        Value::Invalid(t) => (b'X', t.clone()),
-    };
-    out.extend_from_slice(&[b' ', kind]);
-    if !reading.is_empty() {
-        out.push(b' ');
-        out.extend_from_slice(&reading);
-    }
-    out.push(b'\n');
-}
-
-/// What is printed of a header, with or without comments and units.
-fn printed(header: &Header, more: bool) -> Vec<u8> {
-    let mut out = Vec::new();
-    match header {
-        Header::Refused(number, at) => out.extend_from_slice(format!("refused {number} at {at}\n").as_bytes()),
-        Header::Entries(entries) => {
-            for entry in entries {
-                line(entry, &mut out);
-                let rest = [(b'/', &entry.comment), (b'[', &entry.unit)];
-                for (mark, text) in rest.into_iter().filter(|_| more) {
-                    if let Some(text) = text {
-                        out.push(mark);
-                        out.extend_from_slice(text);
-                        out.push(b'\n');
-                    }
-                }
+    let plain = Model(Fault::None);
+    let model = plain.header(header, |c| plain.card(c));
+    assert!(rust == model, "{}: the Rust has {rust:?}, the model {model:?}", shown(header.as_flattened()));
+    if let (Header::Entries(theirs), Header::Entries(ours)) = (&mut rust, model) {
+        for (entry, other) in theirs.iter_mut().zip(ours) {
+            if let (Value::Decimal(d), Value::Decimal(e)) = (&mut entry.value, other.value) {
+                d.record = e.record;
             }
-            out.extend_from_slice(format!("{} keywords\n", entries.len()).as_bytes());
         }
     }
-    out
+    Some(rust)
 }
 
-fn packed(header: &[[u8; 80]]) -> Vec<u8> {
-    let mut out = (header.len() as u16).to_be_bytes().to_vec();
-    for card in header {
-        let n = card.iter().rposition(|&b| b != b' ').map_or(0, |i| i + 1);
-        out.push(n as u8);
-        out.extend_from_slice(&card[..n]);
+/// The answer to a header of the equality domain.
+fn answer(header: &[[u8; 80]]) -> Option<Header> {
+    if header.len() > headers::MOST_CARDS || headers::aside(header).is_some() {
+        return None;
     }
-    out
+    recorded(header)
 }
 
 /// The headers that are taken, and what they stand for.
 struct Chosen {
-    headers: Vec<Vec<[u8; 80]>>,
+    headers: Vec<(Cards, Header)>,
     seen: HashSet<Vec<u8>>,
-    witnesses: Vec<(Fault, Subject, usize)>,
+    witnesses: Vec<(Subject, Fault, usize)>,
     refusals: BTreeMap<u8, usize>,
 }
 
 impl Chosen {
     fn new() -> Self {
-        let misread =
-            FAULTS.iter().filter(|f| f.0 != Subject::Tiles && !UNSEEN.contains(&f.1)).map(|f| (f.1, f.0, 0)).collect();
-        Chosen { headers: Vec::new(), seen: HashSet::new(), witnesses: misread, refusals: BTreeMap::new() }
+        let witnesses = variants::misreadings().map(|(subject, fault, _)| (subject, fault, 0)).collect();
+        Chosen { headers: Vec::new(), seen: HashSet::new(), witnesses, refusals: BTreeMap::new() }
     }
 
-    /// The Rust's answer, where all that `cards` prints of it can be had from it.
-    fn answer(header: &[[u8; 80]]) -> Option<Header> {
-        if header.len() > headers::MOST_CARDS || headers::aside(header).is_some() {
-            return None;
-        }
-        let rust = theirs::header(header)?;
-        let plain = Model(Fault::None);
-        (printed(&rust, true) == printed(&plain.header(header, |c| plain.card(c)), true)).then_some(rust)
-    }
-
-    fn take(&mut self, header: &[[u8; 80]]) -> bool {
-        let new = self.seen.insert(packed(header));
+    /// Takes a header that is not there yet.
+    fn take(&mut self, header: &[[u8; 80]], answer: Header) -> bool {
+        let new = self.seen.insert(printed::packed(header));
         if new {
-            self.headers.push(header.to_vec());
+            if let Header::Refused(number, _) = answer {
+                *self.refusals.entry(number).or_default() += 1;
+            }
+            self.headers.push((header.to_vec(), answer));
         }
         new
     }
 
     /// Takes a header where it tells apart a misreading that has few witnesses, or meets a refusal that few meet.
     fn offer(&mut self, header: &[[u8; 80]]) {
-        let Some(rust) = Self::answer(header) else {
+        let Some(rust) = answer(header) else {
             return;
         };
-        let told = printed(&rust, true);
-        let mut wanted = false;
-        let mut hits = Vec::new();
-        for (i, (fault, subject, n)) in self.witnesses.iter().enumerate() {
-            if *n >= WITNESSES {
-                continue;
-            }
-            let wrong = Model(*fault);
-            let read = match subject {
-                Subject::Cards => Model(Fault::None).header(header, |c| wrong.card(c)),
-                _ => wrong.header(header, |c| Model(Fault::None).card(c)),
-            };
-            if printed(&read, true) != told {
-                hits.push(i);
-                wanted = true;
-            }
-        }
-        if let Header::Refused(number, _) = rust {
-            wanted |= self.refusals.get(&number).copied().unwrap_or(0) < REFUSALS;
-        }
-        if wanted && self.take(header) {
+        let told = printed::header(&rust);
+        let few = |w: &(Subject, Fault, usize)| w.2 < WITNESSES && variants::misread(header, w.0, w.1) != told;
+        let hits: Vec<usize> = (0..self.witnesses.len()).filter(|&i| few(&self.witnesses[i])).collect();
+        let rare = match rust {
+            Header::Refused(number, _) => self.refusals.get(&number).copied().unwrap_or(0) < REFUSALS,
+            Header::Entries(_) => false,
+        };
+        if (rare || !hits.is_empty()) && self.take(header, rust) {
             hits.into_iter().for_each(|i| self.witnesses[i].2 += 1);
-            if let Header::Refused(number, _) = rust {
-                *self.refusals.entry(number).or_default() += 1;
+        }
+    }
+
+    /// Takes the headers that are made on purpose. Those that differ behind END alone have the same answer.
+    fn take_purposes(&mut self) {
+        for (words, made) in purposes::headers() {
+            let before = self.headers.len();
+            for header in made {
+                let rust = answer(&header).expect("a header made on purpose lies outside the domain");
+                self.take(&header, rust);
             }
+            println!("    {:>6} headers on purpose: {words}", self.headers.len() - before);
+        }
+        for family in purposes::behind_end() {
+            let first = answer(&family[0]).map(|a| printed::header(&a));
+            assert!(family.iter().all(|h| answer(h).map(|a| printed::header(&a)) == first), "a card behind END counts");
         }
     }
 }
 
 /// A card in a header of its own: a CONTINUE has an open string before it.
-fn alone(card: &[u8; 80]) -> Vec<[u8; 80]> {
+fn alone(card: &[u8; 80]) -> Cards {
     let mut header = vec![*card, cards::card_of(b"END")];
     if card[..8].trim_ascii() == b"CONTINUE" {
         header.insert(0, cards::card_of(b"OPEN    = 'open &' / first"));
@@ -218,7 +128,7 @@ fn alone(card: &[u8; 80]) -> Vec<[u8; 80]> {
 }
 
 /// Headers with a byte of 128 or more in a keyword, which the Rust refuses too.
-fn high(random: &mut Random) -> Vec<[u8; 80]> {
+fn high(random: &mut Random) -> Cards {
     let mut header = headers::random_header(random);
     header.truncate(6);
     let at = random.below(header.len());
@@ -226,14 +136,22 @@ fn high(random: &mut Random) -> Vec<[u8; 80]> {
     header
 }
 
+/// A header of the most cards, all of which are joined.
+fn most() -> Cards {
+    let mut most = vec![cards::card_of(b"LAST    = 'x&'")];
+    most.resize(headers::MOST_CARDS - 1, cards::card_of(b"CONTINUE '0123456789 &' / c"));
+    most.push(cards::card_of(b"END"));
+    most
+}
+
 fn choose(seed: u64) -> Chosen {
     let mut chosen = Chosen::new();
     let mut random = Random::new(seed);
+    chosen.take_purposes();
     cards::cases(seed, 4, 30_000, &mut |part, card| {
-        if part.starts_with("all pairs") && !random.once_in(40) {
-            return true;
+        if !part.starts_with("all pairs") || random.once_in(40) {
+            chosen.offer(&alone(card));
         }
-        chosen.offer(&alone(card));
         true
     });
     headers::cases(seed, 3, 30_000, &mut |_, header| {
@@ -242,34 +160,107 @@ fn choose(seed: u64) -> Chosen {
         }
         true
     });
-    let mut highs = 0;
-    while highs < REFUSALS {
+    while chosen.refusals.get(&1).copied().unwrap_or(0) < REFUSALS {
         let header = high(&mut random);
-        if theirs::header(&header).is_some_and(|h| matches!(h, Header::Refused(1, _))) && chosen.take(&header) {
-            highs += 1;
+        if matches!(theirs::header(&header), Some(Header::Refused(1, _))) {
+            let rust = recorded(&header).expect("a refusal");
+            chosen.take(&header, rust);
         }
     }
-    chosen.refusals.insert(1, highs);
     while chosen.headers.len() < HEADERS {
         let header = match random.below(3) {
             0 => alone(&cards::random_card(&mut random)),
             _ => headers::random_header(&mut random),
         };
-        if header.len() < 60 && Chosen::answer(&header).is_some() {
-            chosen.take(&header);
+        if let (true, Some(rust)) = (header.len() < 60, answer(&header)) {
+            chosen.take(&header, rust);
         }
     }
-    let mut most = vec![cards::card_of(b"LAST    = 'x&'")];
-    most.resize(headers::MOST_CARDS - 1, cards::card_of(b"CONTINUE '0123456789 &' / c"));
-    most.push(cards::card_of(b"END"));
-    chosen.take(&most);
+    let rust = answer(&most()).expect("the most cards");
+    chosen.take(&most(), rust);
     chosen
 }
 
-/// The tiles that are taken: witnesses of each misreading, then random ones.
-fn choose_tiles(seed: u64) -> (Vec<Case>, usize) {
+/// Prints how many entries of each kind and refusals of each number there are, and on what decimals rest.
+fn print_kinds(chosen: &Chosen) {
+    let mut kinds: BTreeMap<String, usize> = BTreeMap::new();
+    let (mut decimals, mut given_back) = (0, 0);
+    for (_, answer) in &chosen.headers {
+        let entries = match answer {
+            Header::Refused(number, _) => {
+                *kinds.entry(format!("refused {number}")).or_default() += 1;
+                continue;
+            }
+            Header::Entries(entries) => entries,
+        };
+        for entry in entries {
+            let kind = format!("{:?}", entry.value);
+            *kinds.entry(kind.split(' ').next().unwrap_or_default().to_string()).or_default() += 1;
+            if let Value::Decimal(d) = &entry.value {
+                decimals += 1;
+                given_back += usize::from(printed::decimal(d) == printed::shortest(d));
+            }
+        }
+    }
+    println!("    {kinds:?}");
+    let rest = decimals - given_back;
+    println!("    {decimals} decimals: {given_back} whose record the Rust's float gives back, {rest} by the model");
+}
+
+fn write_headers(folder: &Path, seed: u64) -> io::Result<usize> {
+    let chosen = choose(seed);
+    let input: Vec<u8> = chosen.headers.iter().flat_map(|h| printed::packed(&h.0)).collect();
+    let lines: Vec<u8> = chosen.headers.iter().flat_map(|h| printed::header(&h.1)).collect();
+    fs::write(folder.join("headers.bin"), &input)?;
+    fs::write(folder.join("headers.txt"), &lines)?;
+    println!("{} headers: {} bytes in, {} bytes of answers", chosen.headers.len(), input.len(), lines.len());
+    print_kinds(&chosen);
+    let rare =
+        [1, 2, 3, 4, 5, 6, 7, 10].iter().filter(|n| chosen.refusals.get(n).copied().unwrap_or(0) < REFUSALS).count();
+    Ok(rare + variants::headers(&chosen.headers))
+}
+
+// ---- tiles
+
+/// What the Rust's whole decoding leaves; how many pixels were written is told by two runs over buffers that are filled
+/// differently. It must be what the model says.
+fn whole(case: &Case) -> Whole {
+    let run = |fill| theirs::left(&case.tile, case.nx, case.nblock, case.width, fill).expect("the Rust panics");
+    let left = run(UNTOUCHED);
+    let written = theirs::common(&left.pixels, &run(!UNTOUCHED).pixels);
+    let (refused, bytes) = if left.read { (0, left.bytes) } else { (16, 0) };
+    let whole = Whole { refused, written, bytes, buffer: left.pixels };
+    assert!(whole.lines() == variants::misread_tile(case, Fault::None), "{case:02x?}: the Rust has {whole:?}");
+    whole
+}
+
+/// What is printed of a tile, read whole and block by block.
+fn told(case: &Case, whole: &Whole) -> String {
+    let run = |fill| theirs::steps(&case.tile, case.nx, case.nblock, case.width, fill).expect("the Rust panics");
+    let steps = run(UNTOUCHED);
+    let mut blocks = printed::numbers(&steps.places);
+    if steps.done < case.nx {
+        let written = theirs::common(&steps.pixels, &run(!UNTOUCHED).pixels) - steps.done;
+        blocks += &format!(" refused {} {written}", whole.refused);
+    }
+    if steps.pixels != whole.buffer {
+        blocks += " apart";
+    }
+    format!("{}blocks{blocks}\n", whole.lines())
+}
+
+/// The tiles that are taken: those made on purpose, witnesses of each misreading, then random ones.
+fn choose_tiles(seed: u64) -> Vec<(Case, Whole)> {
     let mut left: Vec<(Fault, usize)> = FAULTS.iter().filter(|f| f.0 == Subject::Tiles).map(|f| (f.1, 0)).collect();
     let mut taken = Vec::new();
+    for (words, made) in purposes::tiles() {
+        println!("    {:>6} tiles on purpose: {words}", made.len());
+        for case in made {
+            assert!(case.tile.len() <= TILE_BYTES && tiles::aside(&case).is_none(), "{case:02x?}");
+            let rust = whole(&case);
+            taken.push((case, rust));
+        }
+    }
     let mut random = Random::new(seed);
     tiles::cases(seed, true, 20_000, &mut |part, case| {
         if case.tile.len() > TILE_BYTES
@@ -279,103 +270,44 @@ fn choose_tiles(seed: u64) -> (Vec<Case>, usize) {
         {
             return true;
         }
-        let rust = theirs::tile(&case.tile, case.nx, case.nblock, case.width);
+        let rust = whole(case);
+        let told = rust.lines();
         let mut wanted = taken.len() < TILES && random.once_in(60);
         for (fault, n) in left.iter_mut().filter(|l| l.1 < WITNESSES) {
-            if rust.as_ref() != Some(&Model(*fault).tile(&case.tile, case.nx, case.nblock, case.width)) {
+            if variants::misread_tile(case, *fault) != told {
                 *n += 1;
                 wanted = true;
             }
         }
         if wanted {
-            taken.push(case.clone());
+            taken.push((case.clone(), rust));
         }
         true
     });
-    (taken, left.iter().filter(|l| l.1 < WITNESSES).count())
+    taken
 }
 
-/// What is printed of a tile, read whole and block by block.
-fn told(case: &Case) -> String {
-    let whole = theirs::tile(&case.tile, case.nx, case.nblock, case.width).expect("the Rust panics");
-    let (places, parts) = theirs::blocks(&case.tile, case.nx, case.nblock, case.width).expect("the Rust panics");
-    let refused = |written: usize| format!(" refused {} {written}", whole.refused);
-    let numbers = |list: &mut dyn Iterator<Item = String>| list.map(|n| format!(" {n}")).collect::<String>();
-    let first = if whole.refused == 0 { format!(" {}", whole.bytes) } else { refused(whole.pixels.len()) };
-    let pixels = numbers(&mut whole.pixels.iter().map(i32::to_string));
-    let mut blocks = numbers(&mut places.iter().map(usize::to_string));
-    if parts.len() < case.nx {
-        blocks += &refused(whole.pixels.len() - parts.len());
-    }
-    if parts[..] != whole.pixels[..parts.len()] {
-        blocks += " apart";
-    }
-    format!("whole{first}\npixels{pixels}\nblocks{blocks}\n")
-}
-
-fn three(n: usize) -> [u8; 3] {
-    let b = (n as u32).to_be_bytes();
-    [b[1], b[2], b[3]]
-}
-
-/// Writes the stored list into a folder; answers how many misreadings have too few witnesses.
-pub fn write(folder: &Path, seed: u64) -> io::Result<usize> {
-    fs::create_dir_all(folder)?;
-    let chosen = choose(seed);
-    let (mut input, mut lines, mut lookups) = (Vec::new(), Vec::new(), Vec::new());
-    let mut kinds: BTreeMap<String, usize> = BTreeMap::new();
-    for header in &chosen.headers {
-        let rust = theirs::header(header).expect("the Rust panics");
-        input.extend(packed(header));
-        lines.extend(printed(&rust, false));
-        lookups.extend(printed(&rust, true));
-        match rust {
-            Header::Refused(number, _) => *kinds.entry(format!("refused {number}")).or_default() += 1,
-            Header::Entries(entries) => {
-                for entry in entries {
-                    let kind = format!("{:?}", entry.value);
-                    let kind = kind.split(' ').next().unwrap_or_default().to_string();
-                    *kinds.entry(kind).or_default() += 1;
-                }
-            }
-        }
-    }
-    fs::write(folder.join("headers.bin"), &input)?;
-    fs::write(folder.join("headers.txt"), &lines)?;
-    fs::write(folder.join("lookups.txt"), &lookups)?;
-    println!(
-        "{} headers: {} bytes in, {} bytes of cards' lines, {} with comments and units",
-        chosen.headers.len(),
-        input.len(),
-        lines.len(),
-        lookups.len()
-    );
-    println!("    {kinds:?}");
-    let mut few = 0;
-    for (fault, _, n) in &chosen.witnesses {
-        if *n < WITNESSES {
-            few += 1;
-            println!("    {fault:?} has {n} witnesses");
-        }
-    }
-
-    let (taken, bare) = choose_tiles(seed);
-    let (mut input, mut lines) = (Vec::new(), Vec::new());
-    for case in &taken {
-        input.push(case.width as u8);
-        for n in [case.nx, case.nblock, case.tile.len()] {
-            input.extend(three(n));
-        }
-        input.extend_from_slice(&case.tile);
-        lines.extend_from_slice(told(case).as_bytes());
-    }
+fn write_tiles(folder: &Path, seed: u64) -> io::Result<usize> {
+    let taken = choose_tiles(seed);
+    let input: Vec<u8> = taken.iter().flat_map(|t| printed::packed_tile(&t.0)).collect();
+    let lines: String = taken.iter().map(|(case, whole)| told(case, whole)).collect();
     fs::write(folder.join("tiles.bin"), &input)?;
     fs::write(folder.join("tiles.txt"), &lines)?;
+    println!("{} tiles: {} bytes in, {} bytes of answers", taken.len(), input.len(), lines.len());
+    let of = |width: usize| taken.iter().filter(|t| t.0.width == width).count();
+    let refused = taken.iter().filter(|t| t.1.refused != 0).count();
     println!(
-        "{} tiles: {} bytes in, {} bytes of answers, {bare} misreadings with too few",
-        taken.len(),
-        input.len(),
-        lines.len()
+        "    {} of 8, {} of 16, {} of 32 bits; {} read, {refused} refused",
+        of(8),
+        of(16),
+        of(32),
+        taken.len() - refused
     );
-    Ok(few + bare)
+    Ok(variants::tiles(&taken))
+}
+
+/// Writes the stored list into a folder; answers how many wrong variants and refusals have too few witnesses.
+pub fn write(folder: &Path, seed: u64) -> io::Result<usize> {
+    fs::create_dir_all(folder)?;
+    Ok(write_headers(folder, seed)? + write_tiles(folder, seed)?)
 }

@@ -120,46 +120,77 @@ fn pixels(raw: &[u8], width: usize) -> Vec<i32> {
     }
 }
 
+/// A buffer of nx pixels that all hold one number.
+fn filled(nx: usize, width: usize, fill: i32) -> Vec<u8> {
+    fill.to_le_bytes()[..width / 8].repeat(nx)
+}
+
+/// What the Rust leaves of a tile that is decoded in one call.
+pub struct Left {
+    pub read: bool,
+    pub pixels: Vec<i32>,
+    pub bytes: usize,
+}
+
+/// One tile, decoded in one call into a buffer whose pixels all hold one number, or nothing where the Rust panics.
+pub fn left(tile: &[u8], nx: usize, nblock: usize, width: usize, fill: i32) -> Option<Left> {
+    caught(|| {
+        let mut raw = filled(nx, width, fill);
+        let mut decoder = fitsrs::Decoder::new(tile, width, nblock as i32, nx as i32);
+        let read = decoder.read(&mut raw).is_ok();
+        Left { read, pixels: pixels(&raw, width), bytes: tile.len() - decoder.left() }
+    })
+}
+
+/// How many pixels two runs over buffers that are filled differently have in common from the front.
+pub fn common(a: &[i32], b: &[i32]) -> usize {
+    a.iter().zip(b).take_while(|(a, b)| a == b).count()
+}
+
 /// One tile, decoded in one call, or nothing where the Rust panics. What was written before a fault is told by
 /// two runs over buffers that are filled differently.
 pub fn tile(tile: &[u8], nx: usize, nblock: usize, width: usize) -> Option<Tile> {
-    let size = width / 8;
-    let run = |fill: u8| {
-        caught(|| {
-            let mut raw = vec![fill; nx * size];
-            let mut decoder = fitsrs::Decoder::new(tile, width, nblock as i32, nx as i32);
-            let read = decoder.read(&mut raw);
-            (read.is_ok(), raw, tile.len() - decoder.left())
-        })
-    };
-    let (ok, raw, bytes) = run(0)?;
-    if ok {
-        return Some(Tile { refused: 0, pixels: pixels(&raw, width), bytes });
+    let Left { read, mut pixels, bytes } = left(tile, nx, nblock, width, 0)?;
+    if read {
+        return Some(Tile { refused: 0, pixels, bytes });
     }
-    let (_, other, _) = run(255)?;
-    let same = raw.iter().zip(&other).take_while(|(a, b)| a == b).count();
-    Some(Tile { refused: 16, pixels: pixels(&raw[..same / size * size], width), bytes: 0 })
+    pixels.truncate(common(&pixels, &left(tile, nx, nblock, width, !0)?.pixels));
+    Some(Tile { refused: 16, pixels, bytes: 0 })
+}
+
+/// What the Rust leaves of a tile that is read one block at a time, up to the first block that fails.
+pub struct Steps {
+    /// The whole bytes used after each block that is read.
+    pub places: Vec<usize>,
+    /// The pixels of these blocks.
+    pub done: usize,
+    pub pixels: Vec<i32>,
+}
+
+/// One tile, read one block at a time into a buffer whose pixels all hold one number, or nothing where the Rust panics.
+pub fn steps(tile: &[u8], nx: usize, nblock: usize, width: usize, fill: i32) -> Option<Steps> {
+    let size = width / 8;
+    caught(|| {
+        let mut decoder = fitsrs::Decoder::new(tile, width, nblock as i32, nx as i32);
+        let mut raw = filled(nx, width, fill);
+        let mut places = Vec::new();
+        let mut done = 0;
+        while done < nx {
+            let end = nx.min(done + nblock);
+            if decoder.read(&mut raw[done * size..end * size]).is_err() {
+                break;
+            }
+            places.push(tile.len() - decoder.left());
+            done = end;
+        }
+        Steps { places, done, pixels: pixels(&raw, width) }
+    })
 }
 
 /// The whole bytes used after each block, read with a buffer of one block at a time, with all the pixels; it ends at
 /// the first block that fails.
 pub fn blocks(tile: &[u8], nx: usize, nblock: usize, width: usize) -> Option<(Vec<usize>, Vec<i32>)> {
-    let size = width / 8;
-    caught(|| {
-        let mut decoder = fitsrs::Decoder::new(tile, width, nblock as i32, nx as i32);
-        let mut places = Vec::new();
-        let mut all = Vec::new();
-        let mut done = 0;
-        while done < nx {
-            let n = nblock.min(nx - done);
-            let mut raw = vec![0; n * size];
-            if decoder.read(&mut raw).is_err() {
-                break;
-            }
-            all.extend(pixels(&raw, width));
-            places.push(tile.len() - decoder.left());
-            done += n;
-        }
-        (places, all)
-    })
+    let Steps { places, done, mut pixels } = steps(tile, nx, nblock, width, 0)?;
+    pixels.truncate(done);
+    Some((places, pixels))
 }

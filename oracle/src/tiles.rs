@@ -21,13 +21,13 @@ pub type Visit<'a> = &'a mut dyn FnMut(&'static str, &Case) -> bool;
 
 /// Bits put one behind the other, highest first.
 #[derive(Default)]
-struct Writer {
-    bytes: Vec<u8>,
+pub struct Writer {
+    pub bytes: Vec<u8>,
     used: usize,
 }
 
 impl Writer {
-    fn bit(&mut self, bit: u64) {
+    pub fn bit(&mut self, bit: u64) {
         if self.used % 8 == 0 {
             self.bytes.push(0);
         }
@@ -35,7 +35,7 @@ impl Writer {
         self.used += 1;
     }
 
-    fn field(&mut self, value: u64, n: usize) {
+    pub fn field(&mut self, value: u64, n: usize) {
         for i in (0..n).rev() {
             self.bit(value >> i & 1);
         }
@@ -43,7 +43,7 @@ impl Writer {
 }
 
 /// A tile that holds pixels, each block coded with an fs of the chooser's.
-fn encoded(pixels: &[i32], nblock: usize, width: usize, mut choose: impl FnMut(&[u32]) -> i64) -> Vec<u8> {
+pub fn encoded(pixels: &[i32], nblock: usize, width: usize, mut choose: impl FnMut(&[u32]) -> i64) -> Vec<u8> {
     let (field_bits, top) = field_of(width);
     let mask = (1u64 << width) - 1;
     let mut out = Writer::default();

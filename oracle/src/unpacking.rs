@@ -120,7 +120,7 @@ impl Model {
         if fs == top && !self.has(Fault::TopNotRaw) {
             let narrow = usize::from(self.has(Fault::RawNarrow));
             let u = bits.field(width - narrow).ok_or(16)?;
-            return Ok(if self.has(Fault::RawNotUnmapped) { u as i64 } else { self.unmapped(u as u32, width) });
+            return Ok(if self.has(Fault::RawNotUnmapped) { u as i64 } else { self.unmapped(u, width) });
         }
         let fs = fs.max(0) as usize;
         let stop = u64::from(!self.has(Fault::OnesCounted));
@@ -135,14 +135,17 @@ impl Model {
         if self.has(Fault::RemainderTurned) && fs > 0 {
             r = r.reverse_bits() >> (64 - fs);
         }
-        let mut u = ((n << fs) + r) as u32;
+        let mut u = (n << fs) + r;
+        if !self.has(Fault::NotWrapped) {
+            u &= 0xffff_ffff;
+        }
         if self.has(Fault::SumTruncated) {
             u &= 0xffff;
         }
         Ok(self.unmapped(u, width))
     }
 
-    fn unmapped(self, mut u: u32, width: usize) -> i64 {
+    fn unmapped(self, mut u: u64, width: usize) -> i64 {
         if self.has(Fault::MaskedToWidth) && width < 32 {
             u &= (1 << width) - 1;
         }

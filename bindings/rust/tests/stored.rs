@@ -1,8 +1,8 @@
-//! The stored headers of `crates/replay_headers`, whose expected lines are the published Rust's answers as `cards` prints them.
+//! The stored headers of `crates/replay_headers`, whose expected lines are the oracle's (oracle/README.md).
 
 use std::fs;
 use std::path::Path;
-use widrekas::{Header, Value};
+use widrekas::{Entry, Header, Text, Value};
 
 fn stored(name: &str) -> Vec<u8> {
     let path = Path::new(env!("CARGO_MANIFEST_DIR")).join("../../crates/replay_headers").join(name);
@@ -37,7 +37,28 @@ fn letter(value: &Value) -> char {
     }
 }
 
-/// What `cards` prints of a header.
+/// Bytes in double quotes: those outside 32..126, a double quote and a backslash as \xNN.
+fn quoted(bytes: &[u8]) -> String {
+    let byte = |&b: &u8| match b {
+        b'"' | b'\\' | 0..=31 | 127.. => format!("\\x{b:02x}"),
+        _ => char::from(b).to_string(),
+    };
+    format!("\"{}\"", bytes.iter().map(byte).collect::<String>())
+}
+
+/// The line behind an entry's line: comment, unit, and the digits and power of a finite decimal.
+fn more(entry: &Entry) -> String {
+    let some = |text: Option<&Text>| text.map_or("none".to_string(), |t| quoted(t.as_bytes()));
+    let record = match &entry.value {
+        Value::Float(d) if !d.is_infinite() && !d.is_nan() => {
+            format!(" digits {} power {}", quoted(d.digits()), d.power())
+        }
+        _ => String::new(),
+    };
+    format!(" comment {} unit {}{record}\n", some(entry.comment.as_ref()), some(entry.unit().as_ref()))
+}
+
+/// What `crates/replay_headers` prints of a header.
 fn lines(bytes: &[u8]) -> String {
     let header = match Header::parse(bytes) {
         Ok(header) => header,
@@ -47,7 +68,7 @@ fn lines(bytes: &[u8]) -> String {
     for (name, entry) in header.entries() {
         let reading = entry.value.to_string();
         let space = if reading.is_empty() { "" } else { " " };
-        all += &format!("{name} {}{space}{reading}\n", letter(&entry.value));
+        all += &format!("{name} {}{space}{reading}\n{}", letter(&entry.value), more(&entry));
         assert_eq!(header.get(name), Some(entry));
     }
     all + &format!("{} keywords\n", header.len())

@@ -1,11 +1,11 @@
 // Reads stored tiles on standard input, one behind the other, decodes each whole and block by block, and prints three lines of it: the
 // whole bytes used; the pixels; and the whole bytes used after each block. Where the tile is refused, the refusal's number and the
-// number of pixels written stand in place of the bytes. The expected output is that of the published Rust (oracle/README.md).
+// number of pixels written stand in place of the bytes. The pixels are all that the lent slice then holds, the untouched ones too.
+// The expected output is that of the published Rust (oracle/README.md).
 // A stored tile is its width in a byte, then nx, nblock and the tile's length in three bytes each, the highest first, then the tile.
 ghost use mathlib.Core.Path.{_≡_};
 ghost use mathlib.Core.Bool.{true};
 ghost use Prim.Native.Nat.{_+_, _/_, _<_};
-ghost use lib.ListN.{take};
 use libc::STDIN_FILENO;
 use refusal::Fault;
 use rice::Cursor;
@@ -19,6 +19,9 @@ use test_output::put_space;
 
 // The most pixels of a stored tile.
 const PIXELS: usize = 256;
+
+// What a pixel holds before a tile is decoded.
+const UNTOUCHED: i32 = 77;
 
 // More tiles than the list has.
 const TILES: usize = 10000;
@@ -79,8 +82,8 @@ fn wide(b: u8) -> usize
 // A stored tile and its pixels, in fresh memory.
 fn replay(t: Stored) {
     let mut bytes = [0u8; 2000];
-    let mut whole = [0i32; 256];
-    let mut parts = [0i32; 256];
+    let mut whole = [UNTOUCHED; 256];
+    let mut parts = [UNTOUCHED; 256];
     put_tile(t, &mut bytes, &mut whole, &mut parts);
 }
 
@@ -115,28 +118,12 @@ fn put_tile(t: Stored, bytes: &mut [u8], whole: &mut [i32], parts: &mut [i32]) {
 fn put_whole(tile: &[u8], t: Stored, pixels: &mut [i32]) {
     put(b"whole");
     match rice::decode(tile, t.nx, t.nblock, t.bits, pixels) {
-        Decoded::Whole(used) => {
-            put_bytes(used);
-            put(b"\npixels");
-            put_pixels(pixels);
-        }
-        Decoded::Refused { fault, written } => {
-            put_refused(fault, written);
-            put(b"\npixels");
-            put_pixels(first_of(pixels, written));
-        }
+        Decoded::Whole(used) => put_bytes(used),
+        Decoded::Refused { fault, written } => put_refused(fault, written),
     }
+    put(b"\npixels");
+    put_pixels(pixels);
     put(b"\n");
-}
-
-// The first n pixels: all where there are no more.
-fn first_of(pixels: &[i32], n: usize) -> &[i32]
-    ensures { λ r. ⌜ now r ≡ take n (now (pixels .entry)) ⌝ }
-{
-    if n < pixels.len() {
-        return &pixels[..n];
-    }
-    pixels
 }
 
 // ---- block by block

@@ -36,8 +36,8 @@ slice-aggregate-text-of-cards c = search needs
 text-of-cards-requires : tie.Need-text-of-cards-requires Inv-headers μ-headers
 text-of-cards-requires c κs = search needs
 
-print-header-requires : tie.Need-print-header-requires Inv-headers μ-headers
-print-header-requires c κs = search needs
+put-header-requires : tie.Need-put-header-requires Inv-headers μ-headers
+put-header-requires c κs = search needs
 
 headers-less : tie.Need-headers-less Inv-headers μ-headers
 headers-less c = search needs
@@ -65,7 +65,7 @@ main-spec =
     enum-told
     slice-aggregate-text-of-cards
     text-of-cards-requires
-    print-header-requires
+    put-header-requires
     headers-less
     headers-again
     returns
