@@ -5,3 +5,4 @@ pub mod Valuing
 pub mod Scaling
 pub mod Reading
 pub mod Worth
+pub mod Lengths

@@ -1,4 +1,6 @@
 -- One answer: a tile opened, read, stepped through and decoded whole, with the lent pixels; a field through a reader.
+use Prim.Native.Nat.{ℕ}
+use mathlib.Core.List.{List}
 use mathlib.Core.Path.{_≡_, sym, _∙_}
 use denote.Ref.{now}
 use Rattle.one_answer.specs.OneAnswer.{OneAnswer, pairOf}
@@ -8,11 +10,9 @@ use Rattle.rice.proofs.Cursor.take_bits.Reads as cursor-take-bits-reads
 use Rattle.rice.proofs.Cursor.skip_zeros.Reads as cursor-skip-zeros-reads
 use Rattle.rice.proofs.Cursor.step.Reads as cursor-step-reads
 use Rattle.rice.proofs.decode.Reads as decode-reads
-use Rattle.reader.proofs.new.Reads as reader-new-reads
-use Rattle.reader.proofs.place.Reads as reader-place-reads
-use Rattle.reader.proofs.take_bits.Reads as reader-take-bits-reads
-use Rattle.reader.proofs.skip_zeros.Reads as reader-skip-zeros-reads
 use Rattle.reader.proofs.field_at.Reads as reader-field-at-reads
+use Rattle.reader.specs.declared.Field.{Field}
+use Rattle.reader.specs.Fields.{fieldOf, zerosOf}
 
 -- `rice::open`
 pub open-tile : OneAnswer open-tile-reads.Post (λ r s. r)
@@ -34,22 +34,29 @@ cursor-step κs a r q s t x y = both (x .0 ∙ sym (y .0)) (x .1 ∙ sym (y .1))
 pub decode : OneAnswer decode-reads.Post (λ r s. pairOf r (now (s .1 .1 .1 .1 .0)))
 decode κs a r q s t x y = both (x .0 ∙ sym (y .0)) (x .1 ∙ sym (y .1))
 
--- `reader::new`
-pub reader-new : OneAnswer reader-new-reads.Post (λ r s. pairOf (r .tile) (r .bit))
-reader-new κs a r q s t x y = both (x .0 ∙ sym (y .0)) (x .1 ∙ sym (y .1))
-
--- `reader::place`
-pub reader-place : OneAnswer reader-place-reads.Post (λ r s. pairOf (r .tile) (r .bit))
-reader-place κs a r q s t x y = both (x .0 ∙ sym (y .0)) (x .1 ∙ sym (y .1))
-
--- `reader::take_bits`
-pub reader-take-bits : OneAnswer reader-take-bits-reads.Post (λ r s. r)
-reader-take-bits κs a r q s t x y = x ∙ sym y
-
--- `reader::skip_zeros`
-pub reader-skip-zeros : OneAnswer reader-skip-zeros-reads.Post (λ r s. r)
-reader-skip-zeros κs a r q s t x y = x ∙ sym y
-
 -- `reader::field_at`
 pub reader-field-at : OneAnswer reader-field-at-reads.Post (λ r s. r)
 reader-field-at κs a r q s t x y = x ∙ sym y
+
+-- ---- The functions that take or hand out the reader itself are proved by hand and have no plain reading, so their contracts are
+-- repeated here: the tile's bytes and the place are what a reader holds.
+pub record Holds : Type 0 where
+  pub tile : List ℕ
+  pub bit : ℕ
+
+-- `reader::new`
+pub reader-new : OneAnswer {S = Holds} (λ (κs : Unit {0}) (tile : List ℕ) (r s : Holds). (r .tile ≡ tile) × (r .bit ≡ 0)) (λ r s. r)
+reader-new κs a r q s t x y = λ j. record { tile = (x .0 ∙ sym (y .0)) j; bit = (x .1 ∙ sym (y .1)) j }
+
+-- `reader::place`
+pub reader-place : (bit : ℕ) → OneAnswer {S = Holds} (λ (κs : Unit {0}) (a r s : Holds). (r .tile ≡ a .tile) × (r .bit ≡ bit)) (λ r s. r)
+reader-place bit κs a r q s t x y = λ j. record { tile = (x .0 ∙ sym (y .0)) j; bit = (x .1 ∙ sym (y .1)) j }
+
+-- `reader::take_bits`
+pub reader-take-bits : (n : ℕ)
+    → OneAnswer {S = Holds} (λ (κs : Unit {0}) (a : Holds) (f : Field) (s : Holds). f ≡ fieldOf (a .tile) (a .bit) n) (λ r s. r)
+reader-take-bits n κs a r q s t x y = x ∙ sym y
+
+-- `reader::skip_zeros`
+pub reader-skip-zeros : OneAnswer {S = Holds} (λ (κs : Unit {0}) (a : Holds) (f : Field) (s : Holds). f ≡ zerosOf (a .tile) (a .bit)) (λ r s. r)
+reader-skip-zeros κs a r q s t x y = x ∙ sym y

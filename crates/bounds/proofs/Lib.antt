@@ -1,0 +1,4 @@
+-- The bounds, proved.
+pub mod Parts
+pub mod Cards
+pub mod Joined
