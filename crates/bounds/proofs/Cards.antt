@@ -116,8 +116,15 @@ module _ (c : List ℕ) (whole : length c ≡ 80) where
 
       text : length (trim isSpace (inside held)) ≤ cardWords
       text =
-          omega (arith, shorter isSpace (inside held), length-take (length held - 1 - 1) (drop 1 held), length-drop 1 held,
-          bytes-len (h .value), split-short (drop 10 c) .value, from 10 (omega arith))
+          omega (
+            arith,
+            shorter isSpace (inside held),
+            length-take (length held - 1 - 1) (drop 1 held),
+            length-drop 1 held,
+            bytes-len (h .value),
+            split-short (drop 10 c) .value,
+            from 10 (omega arith),
+          )
 
       by : (b : Bool) → CardShort (cond b (cardAs C.Xtension name (textOf (trim isSpace (inside held)))) (cardRefused (faultOf R.ExtensionNotQuoted)))
       by true = record { text = text; comment = omega arith }

@@ -62,6 +62,10 @@ unfoldable pub refusedLine : Refusal → ℕ → List ℕ
 refusedLine why card =
     ascii "refused " ++ decimalDigits (numberOf why) ++ ascii " at " ++ decimalDigits card ++ lineFeed ∷ []
 
+-- no line is longer than its text and so many bytes
+abbrev pub lineRoom : ℕ
+lineRoom = 321
+
 -- ---- a line in a lent buffer
 
 -- an answer, and the lent buffer after it

@@ -53,3 +53,7 @@ readingTail (Logical b) empty = logicalOf b
 readingTail String empty = []
 readingTail Undefined empty = []
 readingTail Invalid empty = []
+
+-- three texts of 80 bytes and the line feed
+abbrev pub segmentRoom : ℕ
+segmentRoom = 241

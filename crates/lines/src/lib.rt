@@ -2,14 +2,14 @@
 ghost use mathlib.Core.Path.{_≡_};
 ghost use mathlib.Core.Bool.{cond};
 ghost use mathlib.Core.List.{[], _∷_, _++_};
-ghost use Prim.Native.Nat.{_≤_};
+ghost use Prim.Native.Nat.{_+_, _≤_};
 ghost use lib.ListN.{length};
 ghost use lib.Seq.{sets};
 ghost use Rattle.text.specs.Bytes.{lineFeed};
 ghost use Rattle.text.specs.Text.{size, textOf, bytesOf};
 ghost use Rattle.numbers.specs.Digits.{isEmpty};
-ghost use Rattle.lines.specs.Lines.{entryLine, countLine, refusedLine, lineOutcome, laid};
-ghost use Rattle.lines.specs.Segments.{lineHead, middleOf, sizeTail, readingTail};
+ghost use Rattle.lines.specs.Lines.{entryLine, countLine, refusedLine, lineRoom, lineOutcome, laid};
+ghost use Rattle.lines.specs.Segments.{lineHead, middleOf, sizeTail, readingTail, segmentRoom};
 use numbers::Size;
 use numbers::Value;
 use refusal::Fault;
@@ -28,10 +28,12 @@ pub enum Middle {
     Nothing,
 }
 
-// The line of an entry: its name, its kind and its reading. Beside a value stand the digits of a decimal and a text.
+// The line of an entry: its name, its kind and its reading. Beside a value stand the digits of a decimal and a text. A buffer of 321
+// bytes more than the text is long enough.
 pub fn entry_line(name: Text, value: Value, digits: Text, text: &[u8], out: &mut [u8]) -> Line
     ensures { λ r. ⌜ lineOutcome r (now (out .exit))
         ≡ laid (entryLine (bytesOf name) value (bytesOf digits) (now (text .entry))) (now (out .entry)) ⌝ }
+    ensures { λ _. ⌜ length (entryLine (bytesOf name) value (bytesOf digits) (now (text .entry))) ≤ lineRoom + length (now (text .entry)) ⌝ }
 {
     let own = digits.bytes;
     let shown = text::first_of(&own, digits.len);
@@ -47,6 +49,7 @@ pub fn entry_line(name: Text, value: Value, digits: Text, text: &[u8], out: &mut
 // The line of the count of names.
 pub fn count_line(n: usize, out: &mut [u8]) -> Line
     ensures { λ r. ⌜ lineOutcome r (now (out .exit)) ≡ laid (countLine n) (now (out .entry)) ⌝ }
+    ensures { λ _. ⌜ length (countLine n) ≤ lineRoom ⌝ }
 {
     let count = numerals::natural_text(n as u64);
     let none = text::empty_text();
@@ -56,6 +59,7 @@ pub fn count_line(n: usize, out: &mut [u8]) -> Line
 // The line of a refused header: the refusal's number, and the card's.
 pub fn refused_line(fault: Fault, card: usize, out: &mut [u8]) -> Line
     ensures { λ r. ⌜ lineOutcome r (now (out .exit)) ≡ laid (refusedLine (fault .why) card) (now (out .entry)) ⌝ }
+    ensures { λ _. ⌜ length (refusedLine (fault .why) card) ≤ lineRoom ⌝ }
 {
     let word = text::text_of(b"refused ");
     let number = numerals::natural_text(fault.number() as u64);
@@ -165,6 +169,8 @@ fn held(t: Text) -> usize
 fn put_line(a: Text, b: Text, middle: &[u8], d: Text, out: &mut [u8]) -> Line
     ensures { λ r. ⌜ lineOutcome r (now (out .exit))
         ≡ laid (bytesOf a ++ bytesOf b ++ now (middle .entry) ++ bytesOf d ++ lineFeed ∷ []) (now (out .entry)) ⌝ }
+    ensures { λ _. ⌜ length (bytesOf a ++ bytesOf b ++ now (middle .entry) ++ bytesOf d ++ lineFeed ∷ [])
+        ≤ segmentRoom + length (now (middle .entry)) ⌝ }
 {
     let to_b = held(a);
     let to_middle = to_b + held(b);

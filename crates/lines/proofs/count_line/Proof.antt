@@ -1,7 +1,9 @@
 -- `lines::count_line` meets its contract: its segments make up the line.
 use Prim.Native.Nat.{ℕ}
+use native.Mathlib.Omega.{arith}
 use mathlib.Core.Path.{ap, _∙_}
 use mathlib.Core.List.{List}
+use lib.ListN.{length}
 use borrow.Author.Needs.{needs}
 use Rattle.lines.specs.Lines.{laid}
 use Rattle.lines.proofs.Segmenting.{count-segments}
@@ -29,7 +31,7 @@ returns c =
     let texts = put .before .before .before in
     let a = texts .before .before .before .args in
     let e = count-segments (a .n) (texts .before .natural-text .ensures) (texts .empty-text .ensures) in
-    put .put-line .ensures ∙ ap (λ (l : List ℕ). laid l (a .out .now)) e
+    (put .put-line .ensures .0 ∙ ap (λ (l : List ℕ). laid l (a .out .now)) e, omega (arith, put .put-line .ensures .1, ap length e))
 
 pub count-line-spec : {M : Type 1} → statement M
 count-line-spec =

@@ -1,15 +1,18 @@
 -- `lines::entry_line` meets its contract: its segments make up the line, whatever stands in its middle.
-use Prim.Native.Nat.{ℕ}
+use Prim.Native.Nat.{ℕ, _+_, _≤_}
+use native.Mathlib.Omega.{arith}
 use mathlib.Core.Path.{_≡_, refl, sym, ap, _∙_}
 use mathlib.Core.Bool.{Bool}
 use mathlib.Core.List.{List, [], _∷_, _++_}
 use borrow.Author.Needs.{needs}
 use Rattle.text.specs.Bytes.{lineFeed}
-use Rattle.text.specs.Text.{textOf, bytesOf}
+use Rattle.text.specs.Text.{size, textOf, bytesOf}
+use Rattle.text.proofs.Texts.{bytes-fit}
 use Rattle.numbers.specs.Digits.{isEmpty}
 use Rattle.lines.specs.declared.Middle.{Middle}
-use Rattle.lines.specs.Lines.{laid, entryLine}
-use Rattle.lines.specs.Segments.{lineHead, middleBytes, readingTail}
+use lib.ListN.{length}
+use Rattle.lines.specs.Lines.{LineOutcome, laid, entryLine, lineRoom}
+use Rattle.lines.specs.Segments.{lineHead, middleBytes, readingTail, segmentRoom}
 use Rattle.lines.proofs.Segmenting.{entry-segments}
 use Rattle.lines.proofs.entry_line.Statement.{statement}
 use Rattle.lines.proofs.entry_line.Tie as tie
@@ -39,6 +42,23 @@ line-told m k x e f =
     (f ∙ ap (middle m) (sym e ∙ m .middle-of .ensures))
     (tails m .tail-of .ensures
     ∙ ap (λ (t : Bool). textOf (readingTail (a .value) t)) (tails m .before .is-empty2 .ensures ∙ ap isEmpty shown))
+
+-- the digits fill their array at most
+few-digits : (m : tie.After-middle-of) → length (heads m .before .before .first-of .result .now) ≤ 80
+few-digits m =
+    let own = start m .args .digits in
+    let long : length (own .bytes) ≡ size = search needs in
+    omega (arith, ap length (heads m .before .before .first-of .ensures), bytes-fit own long)
+
+-- the segments that were laid are the line, and it is not longer than it may be
+said : (m : tie.After-middle-of) (x l : List ℕ) {r : LineOutcome} → let a = start m .args in
+    r ≡ laid l (a .out .now) → length l ≤ segmentRoom + length x → l ≡ entryLine (bytesOf (a .name)) (a .value) (bytesOf (a .digits)) (a .text .now)
+    → length x ≤ 80 + length (a .text .now)
+    → (r ≡ laid (entryLine (bytesOf (a .name)) (a .value) (bytesOf (a .digits)) (a .text .now)) (a .out .now))
+    × (length (entryLine (bytesOf (a .name)) (a .value) (bytesOf (a .digits)) (a .text .now)) ≤ lineRoom + length (a .text .now))
+said m x l p few e h =
+    let a = start m .args in
+    (p ∙ ap (λ (k : List ℕ). laid k (a .out .now)) e, omega (arith, few, ap length e))
 
 slice-aggregate-first-of : tie.Need-slice-aggregate-first-of
 slice-aggregate-first-of c = search needs
@@ -91,7 +111,7 @@ returns c =
     let told = put .before .before in
     let m = told .before .before in
     let e = line-told m _ _ (told .enum-told .given .1) (heads m .before .before .first-of .ensures) in
-    put .put-line .ensures ∙ ap (λ (l : List ℕ). laid l (start m .args .out .now)) e
+    said m (heads m .before .before .first-of .result .now) _ (put .put-line .ensures .0) (put .put-line .ensures .1) e (omega (arith, few-digits m))
 
 same-length-2 : tie.Need-same-length-2
 same-length-2 c = search needs
@@ -102,7 +122,7 @@ returns-2 c =
     let told = put .before .before in
     let m = told .before .before in
     let e = line-told m _ _ (told .enum-told2 .given .1) refl in
-    put .put-line2 .ensures ∙ ap (λ (l : List ℕ). laid l (start m .args .out .now)) e
+    said m (start m .args .text .now) _ (put .put-line2 .ensures .0) (put .put-line2 .ensures .1) e (omega arith)
 
 same-length-3 : tie.Need-same-length-3
 same-length-3 c = search needs
@@ -113,7 +133,7 @@ returns-3 c =
     let told = put .before .before .before in
     let m = told .before .before in
     let e = line-told m _ _ (told .enum-told3 .given .1) refl in
-    put .put-line3 .ensures ∙ ap (λ (l : List ℕ). laid l (start m .args .out .now)) e
+    said m [] _ (put .put-line3 .ensures .0) (put .put-line3 .ensures .1) e (omega arith)
 
 pub entry-line-spec : {M : Type 1} → statement M
 entry-line-spec =

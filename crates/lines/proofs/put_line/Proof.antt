@@ -1,5 +1,5 @@
 -- `lines::put_line` meets its contract: each segment is stored behind those before it, where all of them fit.
-use Prim.Native.Nat.{ℕ, _+_}
+use Prim.Native.Nat.{ℕ, _+_, _≤_}
 use native.Mathlib.Omega.{arith}
 use mathlib.Core.Path.{_≡_, _∙_}
 use mathlib.Core.List.{List, [], _∷_, _++_}
@@ -10,6 +10,7 @@ use Rattle.text.specs.Text.{bytesOf}
 use Rattle.text.proofs.Laying.{sets-behind}
 use Rattle.lines.specs.declared.Line.the-variants.{Written}
 use Rattle.lines.specs.Lines.{lineOutcome}
+use Rattle.lines.specs.Segments.{segmentRoom}
 use Rattle.lines.proofs.Segmenting.{laid-short, laid-fits, length-segments}
 use Rattle.lines.proofs.put_line.Statement.{statement}
 use Rattle.lines.proofs.put_line.Tie as tie
@@ -29,6 +30,10 @@ start c = c .before .before .before .before .before
 abbrev end : tie.After-held3 → ℕ
 end c = c .before .before .held .result + c .before .held2 .result + c .held3 .result + length (start c .args .middle .now)
 
+-- the three texts have 80 bytes each at most
+few : (c : tie.After-held3) → length (line (start c)) ≤ segmentRoom + length (start c .args .middle .now)
+few c = omega (arith, line-length (start c), c .before .before .held .ensures .0, c .before .held2 .ensures .0, c .held3 .ensures .0)
+
 held-requires : tie.Need-held-requires
 held-requires c κs = search needs
 
@@ -47,7 +52,7 @@ add-short c = search needs
 returns : tie.Need-returns
 returns c =
     let s = start (c .before) in
-    laid-short (line s) (s .args .out .now) (omega (arith, line-length s))
+    (laid-short (line s) (s .args .out .now) (omega (arith, line-length s)), few (c .before))
 
 sub-if2 : tie.Need-sub-if2
 sub-if2 c = search needs
@@ -55,7 +60,7 @@ sub-if2 c = search needs
 returns-2 : tie.Need-returns-2
 returns-2 c =
     let s = start (c .before .before) in
-    laid-short (line s) (s .args .out .now) (omega (arith, line-length s))
+    (laid-short (line s) (s .args .out .now) (omega (arith, line-length s)), few (c .before .before))
 
 add-to-d : tie.Need-add-to-d
 add-to-d c = search needs
@@ -110,7 +115,7 @@ returns-3 c =
     let p₄ = sets-behind d (x ++ y ++ m) z p₃ (omega arith) (at-d .put-text3 .ensures) in
     let p₅ = sets-behind d (x ++ y ++ m ++ z) (lineFeed ∷ []) p₄ (omega arith) (at-f .put-at2 .ensures) in
     let n : end h + 1 ≡ length (line s) = omega (arith, line-length s) in
-    (λ j. lineOutcome (Written (n j)) (p₅ j)) ∙ laid-fits (line s) d (omega (arith, line-length s))
+    ((λ j. lineOutcome (Written (n j)) (p₅ j)) ∙ laid-fits (line s) d (omega (arith, line-length s)), few h)
 
 pub put-line-spec : {M : Type 1} → statement M
 put-line-spec =

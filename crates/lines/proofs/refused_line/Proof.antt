@@ -1,7 +1,9 @@
 -- `lines::refused_line` meets its contract: its segments make up the line.
 use Prim.Native.Nat.{ℕ}
+use native.Mathlib.Omega.{arith}
 use mathlib.Core.Path.{ap, _∙_}
 use mathlib.Core.List.{List}
+use lib.ListN.{length}
 use borrow.Author.Needs.{needs}
 use Rattle.text.specs.Text.{textOf}
 use Rattle.numerals.specs.Numerals.{decimalDigits}
@@ -46,7 +48,7 @@ returns c =
     let number = texts .natural-text .ensures ∙ ap (λ (n : ℕ). textOf (decimalDigits n)) (texts .before .number .ensures) in
     let word = texts .before .before .text-of .ensures in
     let e = refused-segments (a .fault .why) (a .card) word number (last .natural-text2 .ensures) in
-    put .put-line .ensures ∙ ap (λ (l : List ℕ). laid l (a .out .now)) e
+    (put .put-line .ensures .0 ∙ ap (λ (l : List ℕ). laid l (a .out .now)) e, omega (arith, put .put-line .ensures .1, ap length e))
 
 pub refused-line-spec : {M : Type 1} → statement M
 refused-line-spec =
