@@ -5,6 +5,7 @@
 //! crate is not proved. It lends memory and takes the answers apart, and decides nothing of what a card says or which are joined.
 //!
 //! - [`Header`]: the names of a header and the [`Entry`] of each, strings joined over CONTINUE cards.
+//! - [`ReadOn`]: the same of a header with refused cards, where the names that they could touch are errors.
 //! - [`Card`]: one card of 80 bytes.
 //! - [`tile`]: a Rice tile, decoded whole or block by block.
 //!
@@ -25,7 +26,7 @@ mod value;
 
 pub use card::Card;
 pub use decimal::Decimal;
-pub use header::{Header, LONGEST};
+pub use header::{Header, ReadOn, LONGEST};
 pub use refusal::Refusal;
 pub use text::Text;
 pub use value::{Entry, Value};
