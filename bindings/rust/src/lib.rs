@@ -3,6 +3,7 @@
 //! What is read is what fitsrs 0.4.1 reads, on the domain that the project's document 01 names; any other input gets a reading or
 //! one numbered [`Refusal`]. What is proved of the functions behind the C boundary stands in the project's docs/PROMISES.md; this
 //! crate is not proved. It lends memory and takes the answers apart, and decides nothing of what a card says or which are joined.
+//! [`ReadOn`] adds one rule: which names a refused card touches.
 //!
 //! - [`Header`]: the names of a header and the [`Entry`] of each, strings joined over CONTINUE cards.
 //! - [`ReadOn`]: the same of a header with refused cards, where the names that they could touch are errors.
