@@ -6,7 +6,7 @@
 -- 2. Each answer, and each lent buffer after it, is a definition's: `lookupOf` for a lookup (crates/entries/specs/Answers.antt), whose
 --    contract is one equation for the answer and the two buffers.
 -- 3. Isolation, stated here: no card of K touches what another name is answered, nor the names of the list and their order.
-use Prim.Native.Nat.{ℕ, _≤_}
+use Prim.Native.Nat.{ℕ, suc, _≤_}
 use mathlib.Core.Path.{_≡_}
 use mathlib.Core.Bool.{Bool, false}
 use mathlib.Core.List.{List, [], map}

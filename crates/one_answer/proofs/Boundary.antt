@@ -1,0 +1,124 @@
+-- One answer: the C boundary, with all memory that C lends.
+use Prim.Native.Nat.{ℕ}
+use mathlib.Core.List.{List}
+use lib.IntN.{ℤ}
+use mathlib.Core.Path.{_≡_, sym, _∙_}
+use denote.Ref.{now}
+use Rattle.abi_card.specs.Records.{cardOutcome}
+use Rattle.abi_header.specs.Headers.{EntryOutcome, ListOutcome}
+use Rattle.abi_tile.specs.Tiles.{cursorOf}
+use Rattle.one_answer.specs.OneAnswer.{OneAnswer, pairOf}
+use Rattle.one_answer.proofs.Both.{both}
+use Rattle.abi_value.proofs.value_told.Reads as value-told-reads
+use Rattle.abi_value.proofs.bit.Reads as bit-reads
+use Rattle.abi_value.proofs.unit_end.Reads as unit-end-reads
+use Rattle.abi_card.proofs.read_into.Reads as read-into-reads
+use Rattle.abi_header.proofs.lookup_into.Reads as lookup-into-reads
+use Rattle.abi_header.proofs.entry_into.Reads as entry-into-reads
+use Rattle.abi_header.proofs.list_into.Reads as list-into-reads
+use Rattle.abi_tile.proofs.open_into.Reads as open-into-reads
+use Rattle.abi_tile.proofs.step_into.Reads as step-into-reads
+use Rattle.abi_tile.proofs.decode_into.Reads as decode-into-reads
+use Rattle.widrekas.proofs.widrekas_version.Reads as widrekas-version-reads
+use Rattle.widrekas.proofs.widrekas_unit.Reads as widrekas-unit-reads
+use Rattle.widrekas.proofs.widrekas_card.Reads as widrekas-card-reads
+use Rattle.widrekas.proofs.widrekas_lookup.Reads as widrekas-lookup-reads
+use Rattle.widrekas.proofs.widrekas_entry.Reads as widrekas-entry-reads
+use Rattle.widrekas.proofs.widrekas_list.Reads as widrekas-list-reads
+use Rattle.widrekas.proofs.widrekas_open.Reads as widrekas-open-reads
+use Rattle.widrekas.proofs.widrekas_step.Reads as widrekas-step-reads
+use Rattle.widrekas.proofs.widrekas_decode.Reads as widrekas-decode-reads
+
+abbrev entryLeft : ℕ → List ℕ → List ℕ → List ℕ → List ℕ → ℤ → EntryOutcome
+entryLeft r text comment digits out number =
+    record { answer = r; text = text; comment = comment; digits = digits; numbers = out; number = number }
+
+abbrev listLeft : ℕ → List ℕ → List ℕ → ℕ → ListOutcome
+listLeft r first last count = record { answer = r; first = first; last = last; count = count }
+
+-- `abi_value::value_told`
+pub value-told : OneAnswer value-told-reads.Post (λ r s. r)
+value-told κs a r q s t x y = x ∙ sym y
+
+-- `abi_value::bit`
+pub bit : OneAnswer bit-reads.Post (λ r s. r)
+bit κs a r q s t x y = x ∙ sym y
+
+-- `abi_value::unit_end`
+pub unit-end : OneAnswer unit-end-reads.Post (λ r s. r)
+unit-end κs a r q s t x y = x ∙ sym y
+
+-- `abi_card::read_into`
+pub read-into : OneAnswer read-into-reads.Post (λ r s. cardOutcome r (now (s .1 .0)) (now (s .1 .1 .0)))
+read-into κs a r q s t x y = x ∙ sym y
+
+-- `abi_header::lookup_into`
+pub lookup-into : OneAnswer lookup-into-reads.Post
+    (λ r s. entryLeft r (now (s .1 .1 .0)) (now (s .1 .1 .1 .0)) (now (s .1 .1 .1 .1 .0)) (now (s .1 .1 .1 .1 .1 .0)) (now (s .1 .1 .1 .1 .1 .1 .0)))
+lookup-into κs a r q s t x y = x ∙ sym y
+
+-- `abi_header::entry_into`
+pub entry-into : OneAnswer entry-into-reads.Post
+    (λ r s. entryLeft r (now (s .1 .1 .0)) (now (s .1 .1 .1 .0)) (now (s .1 .1 .1 .1 .0)) (now (s .1 .1 .1 .1 .1 .0)) (now (s .1 .1 .1 .1 .1 .1 .0)))
+entry-into κs a r q s t x y = x ∙ sym y
+
+-- `abi_header::list_into`
+pub list-into : OneAnswer list-into-reads.Post (λ r s. listLeft r (now (s .1 .0)) (now (s .1 .1 .0)) (now (s .1 .1 .1 .0)))
+list-into κs a r q s t x y = x ∙ sym y
+
+-- `abi_tile::open_into`
+pub open-into : OneAnswer open-into-reads.Post
+    (λ r s. pairOf r (cursorOf (now (s .1 .1 .1 .1 .0)) (now (s .1 .1 .1 .1 .1 .0)) (now (s .1 .1 .1 .1 .1 .1 .0))))
+open-into κs a r q s t x y = both (x .answer ∙ sym (y .answer)) (x .place ∙ sym (y .place))
+
+-- `abi_tile::step_into`
+pub step-into : OneAnswer step-into-reads.Post
+    (λ r s. pairOf (pairOf r (cursorOf (now (s .1 .1 .1 .1 .0)) (now (s .1 .1 .1 .1 .1 .0)) (now (s .1 .1 .1 .1 .1 .1 .0)))) (pairOf (now (s .1 .1 .1 .1 .1 .1 .1 .0)) (now (s .1 .1 .1 .1 .1 .1 .1 .1 .0))))
+step-into κs a r q s t x y = both (both (x .answer ∙ sym (y .answer)) (x .place ∙ sym (y .place))) (both (x .content ∙ sym (y .content)) (x .told ∙ sym (y .told)))
+
+-- `abi_tile::decode_into`
+pub decode-into : OneAnswer decode-into-reads.Post
+    (λ r s. pairOf r (pairOf (now (s .1 .1 .1 .1 .0)) (now (s .1 .1 .1 .1 .1 .0))))
+decode-into κs a r q s t x y = both (x .answer ∙ sym (y .answer)) (both (x .content ∙ sym (y .content)) (x .told ∙ sym (y .told)))
+
+-- `widrekas::widrekas_version`
+pub widrekas-version : OneAnswer widrekas-version-reads.Post (λ r s. r)
+widrekas-version κs a r q s t x y = x ∙ sym y
+
+-- `widrekas::widrekas_unit`
+pub widrekas-unit : OneAnswer widrekas-unit-reads.Post (λ r s. r)
+widrekas-unit κs a r q s t x y = x ∙ sym y
+
+-- `widrekas::widrekas_card`
+pub widrekas-card : OneAnswer widrekas-card-reads.Post (λ r s. cardOutcome r (now (s .1 .0)) (now (s .1 .1 .0)))
+widrekas-card κs a r q s t x y = x ∙ sym y
+
+-- `widrekas::widrekas_lookup`
+pub widrekas-lookup : OneAnswer widrekas-lookup-reads.Post
+    (λ r s. entryLeft r (now (s .1 .1 .0)) (now (s .1 .1 .1 .0)) (now (s .1 .1 .1 .1 .0)) (now (s .1 .1 .1 .1 .1 .0)) (now (s .1 .1 .1 .1 .1 .1 .0)))
+widrekas-lookup κs a r q s t x y = x ∙ sym y
+
+-- `widrekas::widrekas_entry`
+pub widrekas-entry : OneAnswer widrekas-entry-reads.Post
+    (λ r s. entryLeft r (now (s .1 .1 .0)) (now (s .1 .1 .1 .0)) (now (s .1 .1 .1 .1 .0)) (now (s .1 .1 .1 .1 .1 .0)) (now (s .1 .1 .1 .1 .1 .1 .0)))
+widrekas-entry κs a r q s t x y = x ∙ sym y
+
+-- `widrekas::widrekas_list`
+pub widrekas-list : OneAnswer widrekas-list-reads.Post
+    (λ r s. listLeft r (now (s .1 .0)) (now (s .1 .1 .0)) (now (s .1 .1 .1 .0)))
+widrekas-list κs a r q s t x y = x ∙ sym y
+
+-- `widrekas::widrekas_open`
+pub widrekas-open : OneAnswer widrekas-open-reads.Post
+    (λ r s. pairOf r (cursorOf (now (s .1 .1 .1 .1 .0)) (now (s .1 .1 .1 .1 .1 .0)) (now (s .1 .1 .1 .1 .1 .1 .0))))
+widrekas-open κs a r q s t x y = both (x .answer ∙ sym (y .answer)) (x .place ∙ sym (y .place))
+
+-- `widrekas::widrekas_step`
+pub widrekas-step : OneAnswer widrekas-step-reads.Post
+    (λ r s. pairOf (pairOf r (cursorOf (now (s .1 .1 .1 .1 .0)) (now (s .1 .1 .1 .1 .1 .0)) (now (s .1 .1 .1 .1 .1 .1 .0)))) (pairOf (now (s .1 .1 .1 .1 .1 .1 .1 .0)) (now (s .1 .1 .1 .1 .1 .1 .1 .1 .0))))
+widrekas-step κs a r q s t x y = both (both (x .answer ∙ sym (y .answer)) (x .place ∙ sym (y .place))) (both (x .content ∙ sym (y .content)) (x .told ∙ sym (y .told)))
+
+-- `widrekas::widrekas_decode`
+pub widrekas-decode : OneAnswer widrekas-decode-reads.Post
+    (λ r s. pairOf r (pairOf (now (s .1 .1 .1 .1 .0)) (now (s .1 .1 .1 .1 .1 .0))))
+widrekas-decode κs a r q s t x y = both (x .answer ∙ sym (y .answer)) (both (x .content ∙ sym (y .content)) (x .told ∙ sym (y .told)))

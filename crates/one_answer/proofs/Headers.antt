@@ -1,0 +1,66 @@
+-- One answer: a header's cards, finding, entries and the list, each with the buffers that are lent.
+use mathlib.Core.Path.{_≡_, sym, _∙_}
+use denote.Ref.{now}
+use Rattle.entries.specs.Answers.{leftBy}
+use Rattle.listing.specs.Inserting.{insertionBy}
+use Rattle.one_answer.specs.OneAnswer.{OneAnswer}
+use Rattle.roles.proofs.is_bad_length.Reads as is-bad-length-reads
+use Rattle.roles.proofs.card_count.Reads as card-count-reads
+use Rattle.roles.proofs.card_at.Reads as card-at-reads
+use Rattle.roles.proofs.role_of.Reads as role-of-reads
+use Rattle.finding.proofs.find.Reads as find-reads
+use Rattle.finding.proofs.read_header.Reads as read-header-reads
+use Rattle.finding.proofs.stop_at.Reads as stop-at-reads
+use Rattle.entries.proofs.lookup.Reads as lookup-reads
+use Rattle.entries.proofs.read_entry.Reads as read-entry-reads
+use Rattle.listing.proofs.list.Reads as list-reads
+use Rattle.listing.proofs.entry.Reads as entry-reads
+use Rattle.listing.proofs.insert.Reads as insert-reads
+
+-- `roles::is_bad_length`
+pub is-bad-length : OneAnswer is-bad-length-reads.Post (λ r s. r)
+is-bad-length κs a r q s t x y = x ∙ sym y
+
+-- `roles::card_count`
+pub card-count : OneAnswer card-count-reads.Post (λ r s. r)
+card-count κs a r q s t x y = x ∙ sym y
+
+-- `roles::card_at`
+pub card-at : OneAnswer card-at-reads.Post (λ r s. r)
+card-at κs a r q s t x y = x ∙ sym y
+
+-- `roles::role_of`
+pub role-of : OneAnswer role-of-reads.Post (λ r s. r)
+role-of κs a r q s t x y = x ∙ sym y
+
+-- `finding::find`
+pub find : OneAnswer find-reads.Post (λ r s. r)
+find κs a r q s t x y = x ∙ sym y
+
+-- `finding::read_header`
+pub read-header : OneAnswer read-header-reads.Post (λ r s. r)
+read-header κs a r q s t x y = x ∙ sym y
+
+-- `finding::stop_at`
+pub stop-at : OneAnswer stop-at-reads.Post (λ r s. r)
+stop-at κs a r q s t x y = x ∙ sym y
+
+-- `entries::lookup`
+pub lookup : OneAnswer lookup-reads.Post (λ r s. leftBy r (now (s .1 .1 .0)) (now (s .1 .1 .1 .0)))
+lookup κs a r q s t x y = x ∙ sym y
+
+-- `entries::read_entry`
+pub read-entry : OneAnswer read-entry-reads.Post (λ r s. leftBy r (now (s .1 .1 .0)) (now (s .1 .1 .1 .0)))
+read-entry κs a r q s t x y = x ∙ sym y
+
+-- `listing::list`
+pub list : OneAnswer list-reads.Post (λ r s. r)
+list κs a r q s t x y = x ∙ sym y
+
+-- `listing::entry`
+pub entry : OneAnswer entry-reads.Post (λ r s. leftBy r (now (s .1 .1 .1 .0)) (now (s .1 .1 .1 .1 .0)))
+entry κs a r q s t x y = x ∙ sym y
+
+-- `listing::insert`
+pub insert : OneAnswer insert-reads.Post (λ r s. insertionBy r (now (s .1 .1 .1 .1 .0)) (now (s .1 .1 .1 .1 .1 .0)))
+insert κs a r q s t x y = x ∙ sym y

@@ -1,0 +1,2 @@
+-- What it means that a contract admits one answer.
+pub mod OneAnswer
