@@ -259,7 +259,7 @@ enum Made {
     Commentary,
 }
 
-/// The text of a string, which begins with &-less letters and may end in &.
+/// A string within quotes, perhaps with a comment; it ends in & where it is open.
 fn quoted(random: &mut Random, open: bool) -> String {
     let letters: String = (0..random.below(6)).map(|_| random.pick(&['F', 'K', '7', '-', ' ', '/'])).collect();
     format!("'{letters}{}'{}", if open { "&" } else { "" }, random.pick(&["", " / seal", " /[mm] ring"]))
