@@ -15,9 +15,16 @@ const CARD: usize = 80;
 const BLOCK: usize = 2880;
 
 /// The name of the string over several cards, and the last name of a header, with its value.
-const JOINED: &str = "KIT";
+pub const JOINED: &str = "KIT";
 const LAST: &str = "LASTNAME";
 const NUMBER: i64 = 4711;
+
+/// The cards with which a header begins, without which CFITSIO does not open it.
+pub const FIRST: [&str; 3] = [
+    "SIMPLE  =                    T / a FITS file",
+    "BITPIX  =                    8",
+    "NAXIS   =                    0",
+];
 
 fn card(at: usize) -> String {
     match at % 8 {
@@ -34,13 +41,7 @@ fn card(at: usize) -> String {
 
 /// A header of so many cards, END included, with a string over `more` CONTINUE cards, padded to whole blocks.
 pub fn bytes(cards: usize, more: usize) -> Vec<u8> {
-    let mut all: Vec<String> = [
-        "SIMPLE  =                    T / a FITS file",
-        "BITPIX  =                    8",
-        "NAXIS   =                    0",
-    ]
-    .map(String::from)
-    .into();
+    let mut all: Vec<String> = FIRST.map(String::from).into();
     let tail = more + 3;
     all.extend((all.len()..cards - tail).map(card));
     all.push(format!("{JOINED:8}= 'SEAL-KIT-{}'", if more > 0 { "&" } else { "" }));
@@ -51,15 +52,20 @@ pub fn bytes(cards: usize, more: usize) -> Vec<u8> {
     all.push(format!("{LAST:8}= {NUMBER:20} / the last one"));
     all.push("END".to_string());
     assert!(all.len() == cards);
-    let mut bytes: Vec<u8> = all.iter().flat_map(|card| format!("{card:80}").into_bytes()).collect();
-    assert!(bytes.len() == cards * CARD);
+    blocks(&all)
+}
+
+/// The bytes of cards, padded to whole blocks.
+pub fn blocks(cards: &[String]) -> Vec<u8> {
+    let mut bytes: Vec<u8> = cards.iter().flat_map(|card| format!("{card:80}").into_bytes()).collect();
+    assert!(bytes.len() == cards.len() * CARD);
     bytes.resize(bytes.len().next_multiple_of(BLOCK), b' ');
     bytes
 }
 
 /// What is done with a header.
 #[derive(Clone, Copy, PartialEq)]
-enum Work {
+pub enum Work {
     /// From bytes to the list of names: ours is one call of the boundary.
     List,
     /// From bytes to all entries, over the boundary.
@@ -90,6 +96,8 @@ struct Headers {
     last: CString,
     /// What each side's last run came to.
     said: [Option<Said>; 3],
+    /// Whether all entries were held to each other.
+    compared: bool,
 }
 
 /// A count, a number or a string, in one form for all.
@@ -115,9 +123,8 @@ fn integer(value: &fitsrs::card::Value) -> i64 {
 }
 
 impl Headers {
-    fn new(work: Work, cards: usize, more: usize, units: usize) -> Self {
-        let bytes = bytes(cards, more);
-        let mut headers = Headers {
+    fn new(work: Work, bytes: Vec<u8>, cards: usize, units: usize) -> Self {
+        Headers {
             work,
             cards,
             units,
@@ -129,9 +136,8 @@ impl Headers {
             last: cfitsio::name(LAST),
             bytes,
             said: [None, None, None],
-        };
-        headers.compare();
-        headers
+            compared: false,
+        }
     }
 
     /// Holds every entry of the three sides to each other.
@@ -141,7 +147,9 @@ impl Headers {
         assert!(names == theirs, "the names differ");
         assert!(self.opened.cards() + 1 == self.cards, "CFITSIO counts other cards");
         for (name, entry) in self.ours.entries() {
-            let (shown, asked) = (name.to_string(), cfitsio::name(&name.to_string()));
+            // CFITSIO has the pieces of a HIERARCH name as they stand.
+            let shown = name.to_string();
+            let asked = cfitsio::name(&shown.replace('.', " "));
             use fitsrs::card::Value as V;
             let (same, comment) = match (&entry.value, theirs::value(&self.theirs, &shown)) {
                 (Value::Integer(a), V::Integer { value, comment }) => {
@@ -231,6 +239,10 @@ impl Job for Headers {
     }
 
     fn check(&mut self) {
+        if !self.compared {
+            self.compare();
+            self.compared = true;
+        }
         let [ours, theirs, cfitsio] = &self.said;
         assert!(ours.is_some() && ours == theirs, "fitsrs comes to something else: {ours:?}, {theirs:?}");
         // CFITSIO tells its cards, END not counted, where the others tell names.
@@ -249,7 +261,25 @@ fn spec(group: &'static str, name: String, unit: &'static str, work: Work, cards
         "CONTINUE card" => more,
         _ => 1,
     };
-    Spec { group, name, unit, make: Box::new(move || Box::new(Headers::new(work, cards, more, units))) }
+    of_bytes(group, name, unit, work, units, move || bytes(cards, more))
+}
+
+/// A job on a header whose cards fill its bytes, padded to whole blocks.
+pub fn of_bytes(
+    group: &'static str,
+    name: String,
+    unit: &'static str,
+    work: Work,
+    units: usize,
+    bytes: impl Fn() -> Vec<u8> + 'static,
+) -> Spec {
+    let make = move || -> Box<dyn Job> {
+        let bytes = bytes();
+        let end = bytes.chunks_exact(CARD).position(|card| card.starts_with(b"END "));
+        let cards = end.expect("an END card") + 1;
+        Box::new(Headers::new(work, bytes, cards, units))
+    };
+    Spec { group, name, unit, make: Box::new(make) }
 }
 
 /// The jobs: three headers read whole, one name looked up, and headers and strings of growing size.

@@ -17,6 +17,7 @@ mod random;
 mod report;
 mod theirs;
 mod tiles;
+mod worst;
 
 use job::{Side, Spec};
 use std::io::Write;
@@ -32,6 +33,7 @@ const COUNTED: (usize, usize) = (4, 4096);
 fn specs((rows, large): (usize, usize)) -> Vec<Spec> {
     let mut specs = tiles::specs(rows, large);
     specs.extend(headers::specs());
+    specs.extend(worst::specs(rows));
     specs
 }
 
@@ -54,7 +56,7 @@ fn measure(short: bool) {
 
 /// The jobs whose instructions are counted; of a short run the first of each group.
 fn jobs(short: bool) {
-    for group in ["rows", "headers", "lookups"] {
+    for group in ["rows", "headers", "lookups", worst::GROUP] {
         let specs = specs(COUNTED).into_iter().filter(|spec| spec.group == group);
         for spec in specs.take(if short { 1 } else { usize::MAX }) {
             println!("{group}\t{}", spec.name);

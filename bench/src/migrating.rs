@@ -94,60 +94,45 @@ fn headers() {
     assert_eq!(found, name.as_deref());
 }
 
-/// fitsrs' reading of a file's cards: one that cannot be parsed is undefined.
-fn undefined_instead(bytes: &[u8]) -> Vec<Card> {
-    let cards = bytes.chunks_exact(80).filter_map(|card| card.first_chunk());
-    let read = |card: &[u8; 80]| Card::try_from(card).unwrap_or(Card::Undefined(String::from_utf8_lossy(card).into()));
-    cards.map(read).collect()
+/// A header of cards, a tilde standing for the degree sign of Latin-1.
+fn damaged(cards: &[&str]) -> Vec<u8> {
+    let bytes = cards.iter().flat_map(|card| format!("{card:80}").into_bytes());
+    bytes.map(|byte| if byte == b'~' { 0xb0 } else { byte }).collect()
 }
 
-/// The header as fitsrs' file reader takes it, and the refusals that were met, as the guide has it.
-fn read_on(file: &[u8]) -> Result<(Header, Vec<Refusal>), Refusal> {
-    let mut bytes = file[..file.len().min(widrekas::LONGEST)].to_vec();
-    let mut met = Vec::new();
-    loop {
-        match Header::parse_file(&bytes) {
-            Err(refusal @ Refusal { number: 1..=8, card: Some(card) }) => {
-                let card = &mut bytes[card * 80..][..80];
-                if refusal.number == 1 {
-                    card.iter_mut().filter(|byte| **byte >= 128).for_each(|byte| *byte = 127);
-                } else {
-                    card.fill(b' ');
-                }
-                met.push(refusal);
-            }
-            read => return read.map(|header| (header, met)),
-        }
-    }
-}
-
-/// A header with cards that are refused.
+/// Headers with cards that are refused: where our side answers, fitsrs' file reader answers alike.
 fn refused_cards() {
-    let cards = [
+    let bytes = damaged(&[
+        "SIZE    = 12",
         "KIT     = 'FKM-&'",
         "WCS     = (1.0, 2.0)",
         "CONTINUE  '75&'",
         "NOTE    = 'not closed",
-        "HIERARCH no equals sign",
         "CONTINUE  ' ring' / joined",
         "TEMP    =                -20.5 /[K] in ~C",
-        "SIZE    = 12",
+        "SEAL    = 'NBR-&'",
+        "CONTINUE  '70'",
         "END",
-    ];
-    let mut bytes: Vec<u8> = cards.iter().flat_map(|card| format!("{card:80}").into_bytes()).collect();
-    // A degree sign, as Latin-1 has it.
-    bytes.iter_mut().filter(|byte| **byte == b'~').for_each(|byte| *byte = 0xb0);
-    let old = fitsrs::header(undefined_instead(&bytes)).expect("fitsrs reads on");
-    let (new, met) = read_on(&bytes).expect("the rest is read");
-    let told: Vec<(u8, Option<usize>)> = met.iter().map(|refusal| (refusal.number, refusal.card)).collect();
-    assert_eq!(told, [(5, Some(1)), (3, Some(3)), (6, Some(4)), (1, Some(6))]);
-    assert!(old.keywords().eq(new.keywords().map(|name| name.to_string()).collect::<Vec<_>>().iter()));
+    ]);
+    let (old, _) = theirs::read_on(&bytes);
+    let new = Header::read_on(&bytes).expect("the rest is read");
+    let told: Vec<(u8, Option<usize>)> = new.refusals().iter().map(|refusal| (refusal.number, refusal.card)).collect();
+    assert_eq!(told, [(5, Some(2)), (3, Some(4)), (1, Some(6))]);
     assert_eq!(old.get("KIT").and_then(string), Some("FKM-75 ring"));
-    assert_eq!(new.get("KIT").as_ref().and_then(|e| e.value.as_str()), Some("FKM-75 ring"));
-    let Some(Value::Float { comment: Some(comment), .. }) = old.get("TEMP") else { panic!("fitsrs has no TEMP") };
-    let other = new.get("TEMP").and_then(|e| e.comment).map(|text| text.to_string().replace('\u{7f}', "\u{fffd}"));
-    assert_eq!(Some(comment), other.as_ref());
-    assert_eq!(new.get("SIZE").and_then(|e| e.value.as_i64()), old.get_parsed("SIZE").ok());
+    for touched in ["KIT", "WCS", "NOTE", "TEMP"] {
+        assert!(new.get(touched).is_err(), "{touched}");
+    }
+    let entry = |name: &str| new.get(name).expect("a name that nothing touches");
+    assert_eq!(entry("SIZE").and_then(|e| e.value.as_i64()), old.get_parsed("SIZE").ok());
+    assert_eq!(entry("SEAL").as_ref().and_then(|e| e.value.as_str()), old.get("SEAL").and_then(string));
+    assert_eq!((entry("NONE"), old.get("NONE").is_none()), (None, true));
+
+    // The guide's own header.
+    let bytes = damaged(&["SIZE    = 12", "KIT     = 'FKM-&'", "CONTINUE  '75-&", "CONTINUE  'A2'", "END"]);
+    let (old, _) = theirs::read_on(&bytes);
+    assert_eq!(old.get("KIT").and_then(string), Some("FKM-A2"));
+    let new = Header::read_on(&bytes).expect("the rest is read");
+    assert_eq!(new.get("KIT"), Err(Refusal { number: 3, card: Some(2) }));
 }
 
 /// Tiles.

@@ -1,6 +1,6 @@
 //! The text of the figures.
 
-use crate::picture;
+use crate::{picture, worst};
 use std::collections::HashMap;
 use std::fmt::Write;
 use std::path::Path;
@@ -178,13 +178,42 @@ fn growth(text: &mut String, figures: &Figures, group: &str, what: &str) -> std:
     writeln!(text)
 }
 
+/// What slow inputs take, over what the ordinary one of their kind takes: the first of those whose names begin alike.
+fn worst_cases(text: &mut String, figures: &Figures) -> std::fmt::Result {
+    writeln!(
+        text,
+        "## Worst cases\n\n\
+         Inputs that are made to be slow, below an ordinary one of their kind. The first two columns are what ours takes over what ours takes on\n\
+         the ordinary input, in time (of the medians) and in instructions. Every header has 720 cards, of which CFITSIO wants the first three.\n\
+         Open strings: every card is `'&'`. One string: over 716 cards, each full. Refused cards: every one has a complex value. Names that\n\
+         are slow to tell apart are made by `bench/slow_names.py`. One name is a string out of the bytes. Read on is `Header::read_on`, for fitsrs\n\
+         its file reader with undefined cards, for CFITSIO the list. Tiles are rows of 4,096.\n"
+    )?;
+    writeln!(
+        text,
+        "| What | ours / ordinary | instructions | ours / fitsrs | ours / CFITSIO |\n|---|---|---|---|---|"
+    )?;
+    let kind = |row: &Row| row.name.split_once(": ").map(|(kind, _)| kind.to_string());
+    for row in figures.of(worst::GROUP) {
+        let ordinary = figures.of(worst::GROUP).find(|first| kind(first) == kind(row));
+        let over = |of: fn(&Row) -> &HashMap<String, f64>| match (of(row).get("ours"), ordinary.map(of)) {
+            (Some(ours), Some(ordinary)) => ordinary.get("ours").map_or("-".into(), |ordinary| shown(ours / ordinary)),
+            _ => "-".to_string(),
+        };
+        let (time, count) = (over(|row| &row.times), over(|row| &row.counts));
+        let [a, b] = ["fitsrs", "cfitsio"].map(|side| ratio(Some(row), side));
+        writeln!(text, "| {} | {time} | {count} | {a} | {b} |", row.name)?;
+    }
+    writeln!(text)
+}
+
 fn instructions(text: &mut String, figures: &Figures) -> std::fmt::Result {
     writeln!(
         text,
         "## Instructions\n\nOne run of a job under `valgrind --tool=callgrind`, after one that is not counted.\n"
     )?;
     writeln!(text, "| Job | for a | ours | fitsrs | CFITSIO |\n|---|---|---|---|---|")?;
-    for row in figures.rows.iter().filter(|row| !row.counts.is_empty()) {
+    for row in figures.rows.iter().filter(|row| !row.counts.is_empty() && row.group != worst::GROUP) {
         let [a, b, c] =
             ["ours", "fitsrs", "cfitsio"].map(|side| row.counts.get(side).map_or("-".into(), |n| counted(*n)));
         writeln!(text, "| {} | {} | {a} | {b} | {c} |", row.name, row.unit)?;
@@ -246,6 +275,7 @@ fn text(figures: &Figures) -> Result<String, std::fmt::Error> {
     growth(all, figures, "continued", "CONTINUE cards")?;
     writeln!(all, "A tile of 16-bit noise, by its pixels:\n")?;
     growth(all, figures, "pixels", "Pixels")?;
+    worst_cases(all, figures)?;
     instructions(all, figures)?;
     writeln!(all, "Memory: behind the boundary no heap is used. What it takes of the stack is said in TRUST.md.")?;
     Ok(text)

@@ -21,6 +21,26 @@ pub fn header(bytes: &[u8]) -> Header<Any> {
     fitsrs::header(cards).expect("fitsrs' reading of a header")
 }
 
+/// Reads a header as the reader of files does, with an undefined card for one that cannot be parsed; answers how many those are too.
+pub fn read_on(bytes: &[u8]) -> (Header<Any>, usize) {
+    let mut cards = Vec::new();
+    let mut unread = 0;
+    for bytes in bytes.chunks_exact(80) {
+        let mut buffer = [0; 80];
+        buffer.copy_from_slice(bytes);
+        let card = Card::try_from(&buffer).unwrap_or_else(|_| {
+            unread += 1;
+            Card::Undefined(String::from_utf8_lossy(&buffer).into())
+        });
+        let end = card == Card::End;
+        cards.push(card);
+        if end {
+            break;
+        }
+    }
+    (fitsrs::header(cards).expect("fitsrs' reading of a header"), unread)
+}
+
 /// An entry.
 pub fn value<'a>(header: &'a Header<Any>, name: &str) -> &'a Value {
     header.get(name).expect("fitsrs' entry")

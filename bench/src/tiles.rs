@@ -35,6 +35,7 @@ fn pixel(content: Content, bits: usize, random: &mut Random) -> i32 {
 /// Tiles of equally many pixels, and where each side puts them.
 struct Tiles {
     bits: usize,
+    nblock: usize,
     nx: usize,
     truth: Vec<i32>,
     tiles: Vec<Vec<u8>>,
@@ -44,12 +45,13 @@ struct Tiles {
 }
 
 impl Tiles {
-    fn new(bits: usize, nx: usize, many: usize, content: Content) -> Self {
+    fn new(bits: usize, nblock: usize, nx: usize, many: usize, content: Content) -> Self {
         let mut random = Random::new(20_261_115 + bits as u64);
         let truth: Vec<i32> = (0..nx * many).map(|_| pixel(content, bits, &mut random)).collect();
-        let tiles = truth.chunks_exact(nx).map(|row| cfitsio::encode(row, NBLOCK, bits)).collect();
+        let tiles = truth.chunks_exact(nx).map(|row| cfitsio::encode(row, nblock, bits)).collect();
         Tiles {
             bits,
+            nblock,
             nx,
             tiles,
             ours: vec![0; nx * many],
@@ -71,21 +73,21 @@ impl Job for Tiles {
     }
 
     fn run(&mut self, side: Side) {
-        let (nx, bits) = (self.nx, self.bits);
+        let (nx, nblock, bits) = (self.nx, self.nblock, self.bits);
         match side {
             Side::Ours => {
                 for (tile, pixels) in self.tiles.iter().zip(self.ours.chunks_exact_mut(nx)) {
-                    assert!(ours::decode(tile, NBLOCK, bits, pixels) == 0, "our reading of a tile");
+                    assert!(ours::decode(tile, nblock, bits, pixels) == 0, "our reading of a tile");
                 }
             }
             Side::Fitsrs => {
                 for (tile, raw) in self.tiles.iter().zip(self.theirs.chunks_exact_mut(nx * (bits / 8))) {
-                    theirs::decode(tile, NBLOCK, bits, raw);
+                    theirs::decode(tile, nblock, bits, raw);
                 }
             }
             Side::Cfitsio => {
                 for (tile, pixels) in self.tiles.iter().zip(&mut self.cfitsio) {
-                    cfitsio::decode(tile, NBLOCK, pixels);
+                    cfitsio::decode(tile, nblock, pixels);
                 }
             }
         }
@@ -112,12 +114,28 @@ fn told(content: Content, bits: usize) -> String {
     match content {
         Content::Constant => "constant".to_string(),
         Content::Raw => "raw".to_string(),
-        Content::Noise(_) => format!("noise {:.1}", Tiles::new(bits, 4096, 4, content).density()),
+        Content::Noise(_) => format!("noise {:.1}", Tiles::new(bits, NBLOCK, 4096, 4, content).density()),
     }
 }
 
 fn spec(group: &'static str, name: String, bits: usize, nx: usize, many: usize, content: Content) -> Spec {
-    Spec { group, name, unit: "pixel", make: Box::new(move || Box::new(Tiles::new(bits, nx, many, content))) }
+    Spec { group, name, unit: "pixel", make: Box::new(move || Box::new(Tiles::new(bits, NBLOCK, nx, many, content))) }
+}
+
+/// Rows of 4,096 pixels of each width in blocks of 32, and in blocks of 1, which no writer makes and every side decodes.
+pub fn blocks(group: &'static str, rows: usize) -> Vec<Spec> {
+    let mut specs = Vec::new();
+    for (bits, contents) in CONTENTS {
+        // One value and noise.
+        for content in [contents[0], contents[2]] {
+            for nblock in [NBLOCK, 1] {
+                let make = move || -> Box<dyn Job> { Box::new(Tiles::new(bits, nblock, 4096, rows, content)) };
+                let name = format!("{bits} bits, {}: blocks of {nblock}", told(content, bits));
+                specs.push(Spec { group, name, unit: "pixel", make: Box::new(make) });
+            }
+        }
+    }
+    specs
 }
 
 /// The contents of each width.

@@ -265,6 +265,17 @@ static void is_refused_entry(struct asked a, size_t text, size_t comment, int re
     give_back(&a);
 }
 
+/* A refused card that is met leaves its number and nothing else, also where there is no room. */
+static void meets_refused(struct asked a, int refusal, size_t card)
+{
+    for (size_t room = 0; room <= 80; room += 40) {
+        CHECK(ask(&a, room, room) == refusal && a.out[WIDREKAS_ENTRY_CARD] == card);
+        CHECK(untouched(a.text, room) && untouched(a.comment, room) && untouched(a.digits, WIDREKAS_DIGITS));
+        CHECK(untouched(a.out + 1, (WIDREKAS_NUMBERS - 1) * sizeof(size_t)) && a.number == -1);
+        give_back(&a);
+    }
+}
+
 /* An entry, with room to spare, with room that is just enough, and with a byte too little. */
 static void is_entry(struct asked a, size_t kind, size_t flag, int64_t number, const char *digits, const char *text,
                      const char *comment)
@@ -343,6 +354,58 @@ static void test_entries(void)
     uint8_t digits[WIDREKAS_DIGITS];
     CHECK(widrekas_entry(few, 79, 0, few, 0, few, 0, digits, WIDREKAS_DIGITS, out, WIDREKAS_NUMBERS, &number) == 9);
     CHECK(out[0] == 0 && number == -1);
+}
+
+/* Entries by their cards' numbers, where refused cards and END stand around them. */
+static void test_met(void)
+{
+    static const char *const broken[] = {"KIT     = 'a&'", "WCS     = (1", "CONTINUE  'b'", "END"};
+    uint8_t *header = cards(broken, 4);
+    struct asked a = {header, 320, NULL, 0, NULL, NULL, NULL, NULL, 0};
+    meets_refused(a, WIDREKAS_COMPLEX, 1);
+    a.card = 1;
+    meets_refused(a, WIDREKAS_COMPLEX, 1);
+    a.card = 2;
+    is_refused_entry(a, 80, 80, WIDREKAS_NAME_NOT_FOUND);
+    a.card = 3;
+    is_refused_entry(a, 80, 80, WIDREKAS_NAME_NOT_FOUND);
+    a.name = "KIT";
+    meets_refused(a, WIDREKAS_COMPLEX, 1);
+    free(header);
+
+    /* Only an open string meets a refused card, and the first one. */
+    static const char *const complete[] = {"KIT     = 'a' / b", "WCS     = (1", "B       = 'c&'", "COMMENT",   "CONTINUE  'd'",
+                                           "CONTINUE  'e",      "C       = 5",  "CONTINUE  f'",   "D       = '&'", "COMMENT",
+                                           "CONTINUE  'g",      "CONTINUE  h'", "E       = '&'",  "END",       "F       = '"};
+    header = cards(complete, 15);
+    struct asked b = {header, 15 * WIDREKAS_CARD, NULL, 0, NULL, NULL, NULL, NULL, 0};
+    is_entry(b, WIDREKAS_STRING, 0, 0, "", "a", " b");
+    b.card = 2;
+    is_entry(b, WIDREKAS_STRING, 0, 0, "", "cd", NULL);
+    b.card = 6;
+    is_entry(b, WIDREKAS_INTEGER, 0, 5, "", "", NULL);
+    b.card = 7;
+    meets_refused(b, WIDREKAS_STRING_NOT_OPENED, 7);
+    b.card = 8;
+    meets_refused(b, WIDREKAS_STRING_NOT_CLOSED, 10);
+    b.card = 12;
+    is_entry(b, WIDREKAS_STRING, 0, 0, "", "&", NULL);
+    free(header);
+
+    /* Behind END an entry is read by its number, and has no name for the others. */
+    static const char *const behind[] = {"END", "KIT     = 'a&'", "CONTINUE  'b'", "END", "WCS     = (1"};
+    header = cards(behind, 5);
+    struct asked c = {header, 5 * WIDREKAS_CARD, NULL, 1, NULL, NULL, NULL, NULL, 0};
+    is_entry(c, WIDREKAS_STRING, 0, 0, "", "ab", NULL);
+    c.card = 4;
+    meets_refused(c, WIDREKAS_COMPLEX, 4);
+    c.name = "KIT";
+    is_refused_entry(c, 80, 80, WIDREKAS_NAME_NOT_FOUND);
+    size_t *first, *last, count;
+    CHECK(list(header, 5, &first, &last, &count) == 0 && count == 0);
+    free(first);
+    free(last);
+    free(header);
 }
 
 /* ---- tiles */
@@ -489,6 +552,7 @@ int main(void)
     test_units();
     test_lists();
     test_entries();
+    test_met();
     test_decode();
     test_tile_refusals();
     test_random();

@@ -108,7 +108,7 @@ enum widrekas_record {
 
 /* The numbers of an entry. */
 enum widrekas_number {
-    WIDREKAS_ENTRY_CARD = 0, /* 0; where the header is refused, the card's number */
+    WIDREKAS_ENTRY_CARD = 0, /* 0; with the header's refusals, 1 to 10, the card's number */
     WIDREKAS_ENTRY_KIND = 1,
     WIDREKAS_ENTRY_FLAG = 2,
     WIDREKAS_ENTRY_COMMENTED = 3, /* 1 where there is a comment, which may be empty */
@@ -149,12 +149,15 @@ uint8_t widrekas_list(const uint8_t *header, size_t header_length, size_t *first
                       size_t last_length, size_t *count);
 
 /*
- * Reads the entry at a card's number, joined with the CONTINUE cards behind it. The header's length is tested and its cards from
- * there on are read; whether the header is accepted is for widrekas_list to say.
+ * Reads the entry at a card's number, joined with the CONTINUE cards behind it. The header's length is tested. Of its cards that one
+ * is read and those behind it, up to where the entry ends; others are not looked at. So an entry behind END is read if its number is
+ * asked for, and whether the header is accepted is for widrekas_list to say.
  *
  * 0: out, 7 numbers, is the entry (enum widrekas_number); text begins with the string or invalid text, comment with the comment,
  * by their lengths, and what is beyond stays; digits, 80 bytes, is the decimal's digits, then zeros; *number is the integer or
  * the power of ten, or 0.
+ * 1 to 8: a refused card is met, with that card's number in out[0]. It is the card itself, or the first one that is refused while the
+ * entry's string is open. A string that is complete before a refused card is read, as is any other value.
  * 9, with 0 in out[0]. 12: there is no such card, or it is no entry. 13: text or comment is too short; the answer does not say by
  * how much, WIDREKAS_ROOM is always enough. 255: digits_length is not 80 or out_length not 7. All leave the rest as it was.
  */

@@ -8,6 +8,10 @@ use crate::value::{Entry, Value};
 use std::fmt;
 use std::sync::OnceLock;
 
+mod read_on;
+
+pub use read_on::ReadOn;
+
 /// The bytes of the longest header: 720 cards.
 pub const LONGEST: usize = PLACES * CARD;
 
@@ -75,6 +79,13 @@ fn up_to_end(bytes: &[u8]) -> &[u8] {
     }
 }
 
+/// The whole cards among the first 57,600 bytes of a file.
+fn front_of(file: &[u8]) -> &[u8] {
+    let front = file.get(..LONGEST).unwrap_or(file);
+    let whole = front.len() - front.len() % CARD;
+    front.get(..whole).unwrap_or_default()
+}
+
 impl Header {
     /// Reads a header of 1 to 720 cards of 80 bytes. Nothing behind its END is looked at, or kept.
     ///
@@ -93,9 +104,15 @@ impl Header {
     ///
     /// As many bytes of the file are enough: `file.take(widrekas::LONGEST as u64).read_to_end(&mut bytes)`.
     pub fn parse_file(bytes: &[u8]) -> Result<Header, Refusal> {
-        let front = bytes.get(..LONGEST).unwrap_or(bytes);
-        let whole = front.len() - front.len() % CARD;
-        Header::parse(front.get(..whole).unwrap_or_default())
+        Header::parse(front_of(bytes))
+    }
+
+    /// Reads the header with which a file begins past cards that are refused: names that they could touch are errors, the other
+    /// ones answer. The file is given as to [`Header::parse_file`].
+    ///
+    /// Refusals 9 and 10, for the length and the missing END, refuse the whole header here too.
+    pub fn read_on(file: &[u8]) -> Result<ReadOn, Refusal> {
+        ReadOn::of(front_of(file))
     }
 
     /// The entry of a name, joined; of equal names the last one's. Names are compared byte for byte.

@@ -3,8 +3,10 @@
 //! What is read is what fitsrs 0.4.1 reads, on the domain that the project's document 01 names; any other input gets a reading or
 //! one numbered [`Refusal`]. What is proved of the functions behind the C boundary stands in the project's docs/PROMISES.md; this
 //! crate is not proved. It lends memory and takes the answers apart, and decides nothing of what a card says or which are joined.
+//! [`ReadOn`] adds one rule: which names a refused card touches.
 //!
 //! - [`Header`]: the names of a header and the [`Entry`] of each, strings joined over CONTINUE cards.
+//! - [`ReadOn`]: the same of a header with refused cards, where the names that they could touch are errors.
 //! - [`Card`]: one card of 80 bytes.
 //! - [`tile`]: a Rice tile, decoded whole or block by block.
 //!
@@ -25,7 +27,7 @@ mod value;
 
 pub use card::Card;
 pub use decimal::Decimal;
-pub use header::{Header, LONGEST};
+pub use header::{Header, ReadOn, LONGEST};
 pub use refusal::Refusal;
 pub use text::Text;
 pub use value::{Entry, Value};

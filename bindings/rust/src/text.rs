@@ -1,5 +1,6 @@
 //! Texts, byte for byte.
 
+use std::borrow::Borrow;
 use std::fmt;
 
 /// A name, a string, a comment or another text of a header: its bytes as they stand.
@@ -33,6 +34,13 @@ impl Text {
 
 impl AsRef<[u8]> for Text {
     fn as_ref(&self) -> &[u8] {
+        &self.0
+    }
+}
+
+/// Texts are equal, ordered and hashed as their bytes are.
+impl Borrow<[u8]> for Text {
+    fn borrow(&self) -> &[u8] {
         &self.0
     }
 }
