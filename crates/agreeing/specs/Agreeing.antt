@@ -3,9 +3,9 @@
 -- made up are not spoken of: `placeOfEntry` reads whatever number stands in them.
 use Prim.Native.Nat.{ℕ, _<_}
 use mathlib.Core.Path.{_≡_}
-use mathlib.Core.List.{List}
+use mathlib.Core.List.{List, map}
 use mathlib.Core.Option.{some}
-use lib.ListN.{getD}
+use lib.ListN.{getD, take}
 use Rattle.refusal.specs.declared.Refusal.the-variants as R
 use Rattle.refusal.specs.Numbers.{faultOf}
 use Rattle.roles.specs.Roles.{Held, Role, entry, neutral}
@@ -16,7 +16,7 @@ use Rattle.finding.specs.declared.Header.the-variants.{Accepted, Refused}
 use Rattle.finding.specs.Finding.{headerOf, lastOf}
 use Rattle.entries.specs.declared.LookupAnswer.the-variants as L
 use Rattle.entries.specs.Answers.{untouched, lookupOf, entryAt}
-use Rattle.listing.specs.Listing.{free, empty, tabled, listOf, placeOfEntry}
+use Rattle.listing.specs.Listing.{free, nameOf, empty, tabled, listOf, placeOfEntry}
 use Rattle.agreeing.specs.Firsts.{firstsOf, lastsOf}
 
 -- the arrays of an accepted header hold its first cards and, for the name of each, its last entry; then free marks.
@@ -29,6 +29,10 @@ Contents =
 -- what a name is answered is the entry at the last card that bears it: none where no card does
 abbrev pub ByLast : Type 0
 ByLast = (name : List ℕ) (roles : List Role) → lookup name roles ≡ entryAt (lastOf name roles) roles
+
+-- the names of the list in its order: each by the first card that bears it
+abbrev pub namesListed : List ℕ → List (List ℕ)
+namesListed h = map (λ (i : ℕ). nameOf (getD (rolesOf h) i neutral)) (take (listOf h .count) (listOf h .first))
 
 -- the name stands at place k of the list: the first card of that place is an entry that bears it
 pub record StandsAt (h name : List ℕ) (k : ℕ) : Type 0 where

@@ -9,16 +9,15 @@
 use Prim.Native.Nat.{ℕ, suc, _≤_}
 use mathlib.Core.Path.{_≡_}
 use mathlib.Core.Bool.{Bool, false}
-use mathlib.Core.List.{List, [], map}
-use lib.ListN.{length, getD, take}
-use Rattle.roles.specs.Roles.{neutral}
+use mathlib.Core.List.{List, []}
+use lib.ListN.{length, getD}
 use Rattle.joining.specs.Belonging.{belongs}
 use Rattle.roles.specs.Cards.{cardsOf, rolesOf}
 use Rattle.finding.specs.declared.Header.the-variants.{Accepted}
 use Rattle.finding.specs.Finding.{headerOf}
 use Rattle.entries.specs.Answers.{lookupOf}
-use Rattle.listing.specs.Listing.{nameOf, listOf, placeOfEntry}
-use Rattle.agreeing.specs.Agreeing.{StandsAt}
+use Rattle.listing.specs.Listing.{listOf, placeOfEntry}
+use Rattle.agreeing.specs.Agreeing.{StandsAt, namesListed}
 
 -- the header h is accepted: its END stands at some card
 pub record IsAccepted (h : List ℕ) : Type 0 where
@@ -54,10 +53,6 @@ IsolationToEnd =
     → lookupOf g name text comment ≡ lookupOf h name text comment
 
 -- ---- the list of names
-
--- the names of the list in its order: each by the first card that bears it
-abbrev pub namesListed : List ℕ → List (List ℕ)
-namesListed h = map (λ (i : ℕ). nameOf (getD (rolesOf h) i neutral)) (take (listOf h .count) (listOf h .first))
 
 -- the list has the same names in the same order
 abbrev pub OrderKept : Type 0
