@@ -1,65 +1,104 @@
-// Prints what document 01 says of a header: its names, each with its kind and reading, and their count; or its refusal. What the
-// lines are is proved in `lines`, what is listed in `listing`.
+// Prints what document 01 says of a header: its names, each with its kind and reading, and their count; or its refusal. Each line is proved
+// up to its write, and none is left out: the buffers hold every line that a header can give.
+ghost use mathlib.Core.Path.{_≡_};
+ghost use mathlib.Core.List.{[]};
+ghost use Prim.Native.Nat.{_<_, _≤_};
+ghost use lib.ListN.{length, take, getD};
+ghost use Rattle.listing.specs.Listing.{listOf};
+ghost use Rattle.lines.specs.Lines.{countLine, refusedLine, lineRoom};
+ghost use Rattle.printing.specs.Output.{nameLines};
+ghost use Rattle.printing.specs.Ready.{IsListed, IsWide, lengthOf};
 use entries::LookupAnswer;
 use finding::Header;
+use finding::Stop;
 use libc::STDOUT_FILENO;
 use lines::Line;
 use listing::Listing;
-use listing::PLACES;
 
-// Prints the lines of a header to standard output.
+// Prints `outputOf` the header to standard output.
 pub fn print_header(header: &[u8]) {
     let listing = listing::list(header);
     let answer = listing.header;
     match answer {
         Header::Accepted(_) => print_names(header, listing),
-        Header::Refused(stop) => {
-            let fault = stop.fault;
-            // Longer than "refused", two numbers and the words between them.
-            let mut line = [0u8; 64];
-            let written = lines::refused_line(fault, stop.card, &mut line);
-            print_line(written, &line);
-        }
+        Header::Refused(stop) => print_refusal(stop),
     }
+}
+
+// The line of a refusal.
+fn print_refusal(stop: Stop) {
+    let mut line = [0u8; 321];
+    let n = refused_part(stop, &mut line);
+    io::write_all(STDOUT_FILENO, text::first_of(&line, n));
 }
 
 // The lines of the names in their order, then that of their count.
-fn print_names(header: &[u8], listing: Listing) {
+fn print_names(header: &[u8], listing: Listing)
+    requires { ⌜ IsListed (now header) (listing .first) (listing .last) × (listing .count ≡ listOf (now header) .count) ⌝ }
+{
     let first = listing.first;
     let last = listing.last;
     let count = listing.count;
-    // A text or a comment has at most 68 bytes of its own card and 71 of each card that is joined to it.
     let mut text = [0u8; 51200];
-    // For an entry's comment, which is not printed, and then for its line: at most a name, a letter, a text and three bytes more.
-    let mut line = [0u8; 51360];
+    // For an entry's comment, which is not printed, and then for its line.
+    let mut line = [0u8; 52640];
     let mut k = 0;
-    while k < count && k < PLACES {
-        print_entry(header, first[k], last[k], &mut text, &mut line);
+    while k < count {
+        let n = name_part(header, &first, &last, k, &mut text, &mut line);
+        io::write_all(STDOUT_FILENO, text::first_of(&line, n));
         k += 1;
     }
-    let written = lines::count_line(count, &mut line);
-    print_line(written, &line);
+    let n = count_part(count, &mut line);
+    io::write_all(STDOUT_FILENO, text::first_of(&line, n));
 }
 
-// The line of an entry: its name stands on the first card that bears it, its reading on the last.
-fn print_entry(header: &[u8], first: usize, last: usize, text: &mut [u8], line: &mut [u8]) {
-    let entry = roles::card_at(header, first);
-    let looked = entries::read_entry(header, last, text, line);
+// ---- the lines, each at the front of a lent buffer, by their lengths
+
+fn refused_part(stop: Stop, line: &mut [u8]) -> usize
+    requires { ⌜ lineRoom ≤ length (now line) ⌝ }
+    ensures { λ r. ⌜ take r (now (line .exit)) ≡ refusedLine (stop .fault .why) (stop .card) ⌝ }
+{
+    let fault = stop.fault;
+    length_of(lines::refused_line(fault, stop.card, line))
+}
+
+fn count_part(count: usize, line: &mut [u8]) -> usize
+    requires { ⌜ lineRoom ≤ length (now line) ⌝ }
+    ensures { λ r. ⌜ take r (now (line .exit)) ≡ countLine count ⌝ }
+{
+    length_of(lines::count_line(count, line))
+}
+
+// The line of the name at place k: the name stands on the first card that bears it, its reading on the last.
+fn name_part(
+    header: &[u8],
+    first: &[usize],
+    last: &[usize],
+    k: usize,
+    text: &mut [u8],
+    line: &mut [u8],
+) -> usize
+    requires { ⌜ IsListed (now header) (now first) (now last) × (k < listOf (now header) .count) × IsWide (now text) (now line) ⌝ }
+    ensures { λ r. ⌜ take r (now (line .exit)) ≡ getD (nameLines (now (header .entry))) k [] ⌝ }
+{
+    let card = roles::card_at(header, first[k]);
+    let looked = entries::read_entry(header, last[k], text, line);
     let answer = looked.answer;
     let LookupAnswer::Found(value) = answer else {
-        return;
+        return 0;
     };
-    let name = entry.name;
+    let name = card.name;
     let digits = looked.digits;
     let shown = text::first_of(text, looked.text);
-    let written = lines::entry_line(name, value, digits, shown, line);
-    print_line(written, line);
+    length_of(lines::entry_line(name, value, digits, shown, line))
 }
 
-// The front of a buffer, as far as a line reaches.
-fn print_line(written: Line, line: &[u8]) {
-    let Line::Written(n) = written else {
-        return;
-    };
-    io::write_all(STDOUT_FILENO, text::first_of(line, n));
+// How many bytes a line has that was written.
+fn length_of(written: Line) -> usize
+    ensures { λ r. ⌜ r ≡ lengthOf written ⌝ }
+{
+    match written {
+        Line::Written(n) => n,
+        Line::Short => 0,
+    }
 }

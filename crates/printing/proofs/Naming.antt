@@ -1,0 +1,149 @@
+-- The line of the name at a place: what is read there, and that it fits.
+use Prim.Native.Nat.{ℕ, zero, suc, _+_, _-_, _/_, _≤_, _<_}
+use native.Mathlib.Omega.{arith}
+use mathlib.Core.Path.{_≡_, refl, sym, ap, ap₂, subst, _∙_}
+use mathlib.Core.Bool.{Bool, true, false, cond, _&&_}
+use mathlib.Core.List.{List, [], _∷_, _++_, map}
+use mathlib.Core.Option.{Option, none, some}
+use borrow.Author.Tests.{le-leb}
+use lib.Dec.{leb, ltb}
+use lib.ListN.{length, getD, take, replicate, length-append, length-map, length-take}
+use lib.Seq.{sets}
+use Rattle.text.specs.Text.{filled, textOf, bytesOf}
+use Rattle.numbers.specs.declared.Value.{Value}
+use Rattle.card.specs.declared.CardRead.{CardRead}
+use Rattle.card.specs.Cards.{cardOf}
+use Rattle.roles.specs.declared.Role.{Role as Told}
+use Rattle.roles.specs.declared.Role.the-variants as T
+use Rattle.roles.specs.Roles.{Held, Role, entry, more, neutral, last, refused, roleBy, roleIn, roleRead, roleOf}
+use Rattle.roles.specs.Cards.{rolesOf, cardNo, roleNo, cardAt}
+use Rattle.roles.proofs.Cards.{role-count}
+use Rattle.roles.proofs.Counting.{card-here}
+use Rattle.joining.specs.Lookup.{lookup}
+use Rattle.finding.specs.declared.Stop.{Stop}
+use Rattle.finding.specs.declared.Header.{Header}
+use Rattle.finding.specs.declared.Header.the-variants.{Accepted, Refused}
+use Rattle.finding.specs.Finding.{headerOf}
+use Rattle.entries.specs.declared.LookupAnswer.the-variants as L
+use Rattle.entries.specs.declared.Looked.{Looked}
+use Rattle.entries.specs.Answers.{LookupOutcome, leftBy, bytesIn, foundAs, untouched, written, given, lookedUp, lookupOf, entryOf}
+use Rattle.entries.proofs.Looking.{accepted-good}
+use Rattle.listing.specs.declared.Listing.{Listing}
+use Rattle.listing.specs.Listing.{places, free, nameOf, listOf, placeOfEntry}
+use Rattle.listing.proofs.Bearing.{role-is}
+use Rattle.lines.specs.Lines.{entryLine}
+use Rattle.agreeing.specs.Firsts.{firstsOf, lastsOf}
+use Rattle.agreeing.specs.Agreeing.{StandsAt, PlaceTaken, FoundIn, namesListed}
+use Rattle.agreeing.proofs.Agreed.{agreement, each-taken, each-standing, contents}
+use Rattle.bounds.specs.Longest.{longestText, longestRemark, Short}
+use Rattle.bounds.proofs.Joined.{each-short}
+use Rattle.printing.specs.Output.{lineFor, nameLines}
+
+-- ---- lists
+at-map : {A B : Type 0} (f : A → B) (l : List A) (k : ℕ) (d : A) (e : B) → k < length l → getD (map f l) k e ≡ f (getD l k d)
+at-map f [] k d e p = absurd (omega arith)
+at-map f (x ∷ l) zero d e p = refl
+at-map f (x ∷ l) (suc k) d e p = at-map f l k d e (omega arith)
+
+at-take : (l : List ℕ) (n k d : ℕ) → k < n → getD (take n l) k d ≡ getD l k d
+at-take l zero k d p = absurd (omega arith)
+at-take [] (suc n) k d p = refl
+at-take (x ∷ l) (suc n) zero d p = refl
+at-take (x ∷ l) (suc n) (suc k) d p = at-take l n k d (omega arith)
+
+-- another default, where there is an element
+pub at-within : (l : List ℕ) (k d e : ℕ) → k < length l → getD l k d ≡ getD l k e
+at-within [] k d e p = absurd (omega arith)
+at-within (x ∷ l) zero d e p = refl
+at-within (x ∷ l) (suc k) d e p = at-within l k d e (omega arith)
+
+filled-long : (mark n : ℕ) (l : List ℕ) → length l ≤ length (filled mark n l)
+unfolding filled
+filled-long mark n l = omega (arith, length-append l (replicate (n - length l) mark))
+
+-- ---- a card that is an entry bears its name
+entry-named : (t : Told) (r : CardRead) (n : List ℕ) (v : Held) → roleIn t r ≡ entry n v → bytesOf (r .name) ≡ n
+entry-named (T.Entry w joins) r n v e = cc
+entry-named T.More r n v e = cc
+entry-named T.Neutral r n v e = cc
+entry-named T.Last r n v e = cc
+entry-named (T.Refused f) r n v e = cc
+
+inside : (rs : List Role) (i : ℕ) (n : List ℕ) (v : Held) → getD rs i neutral ≡ entry n v → i < length rs
+inside [] i n v e = absurd (let z : _≡_ {A = ℕ} 0 1 = cc in omega arith)
+inside (r ∷ rs) zero n v e = omega arith
+inside (r ∷ rs) (suc i) n v e = omega (arith, inside rs i n v e)
+
+card-named : (h : List ℕ) (i : ℕ) (n : List ℕ) (v : Held) → getD (rolesOf h) i neutral ≡ entry n v → bytesOf (cardAt h i .name) ≡ n
+card-named h i n v e =
+    let within : i < length h / 80 = omega (arith, inside (rolesOf h) i n v e, role-count h) in
+    ap (λ (r : CardRead). bytesOf (r .name)) (card-here h i within)
+    ∙ entry-named (roleBy (cardOf (cardNo h i) .answer)) (cardOf (cardNo h i)) n v (sym (role-is h i within) ∙ e)
+
+-- ---- the name at place k of an accepted header
+module _ (h : List ℕ) (end : ℕ) (a : headerOf h ≡ Accepted end) where
+  -- its table is long enough for every place
+  pub first-long : listOf h .count ≤ length (listOf h .first)
+  first-long =
+      let is = contents h end a in
+      let count : listOf h .count ≡ length (firstsOf (rolesOf h)) = ap (λ (x : Listing). x .count) is in
+      let first : length (listOf h .first) ≡ length (filled free places (firstsOf (rolesOf h))) = ap (λ (x : Listing). length (x .first)) is in
+      omega (arith, count, first, filled-long free places (firstsOf (rolesOf h)))
+
+  pub last-long : listOf h .count ≤ length (listOf h .last)
+  last-long =
+      let is = contents h end a in
+      let count : listOf h .count ≡ length (firstsOf (rolesOf h)) = ap (λ (x : Listing). x .count) is in
+      let last : length (listOf h .last) ≡ length (filled free places (lastsOf (rolesOf h))) = ap (λ (x : Listing). length (x .last)) is in
+      let same : length (lastsOf (rolesOf h)) ≡ length (firstsOf (rolesOf h)) = length-map (firstsOf (rolesOf h)) _ in
+      omega (arith, count, last, same, filled-long free places (lastsOf (rolesOf h)))
+
+  module _ (k : ℕ) (p : k < listOf h .count) where
+    pub taken : PlaceTaken h k
+    taken = each-taken h end a k p
+
+    abbrev pub name : List ℕ
+    name = taken .name
+
+    pub found : FoundIn h name
+    found = each-standing h end a name (record { place = k; stands = taken .stands })
+
+    abbrev pub value : Held
+    value = found .held
+
+    short : Short value
+    short = each-short h name value (accepted-good h end a) (found .is)
+
+    -- the place's first card bears the name
+    pub first-named : bytesOf (cardAt h (getD (listOf h .first) k free) .name) ≡ name
+    first-named = card-named h (getD (listOf h .first) k free) name (taken .stands .held) (taken .stands .bears)
+
+    -- the entry at its last card is read whole where the buffers are wide
+    pub read-whole : (text line : List ℕ) → longestText ≤ length text → longestRemark ≤ length line
+        → entryOf h (getD (listOf h .last) k free) text line
+        ≡ leftBy (foundAs value) (sets text 0 (value .words .text)) (sets line 0 (bytesIn (value .words .comment)))
+    unfolding placeOfEntry lookupOf written
+    read-whole text line wide wider =
+        let s = value .words .text in
+        let c = bytesIn (value .words .comment) in
+        agreement h end a name k (taken .stands) text line
+        ∙ ap (λ (x : Header). lookedUp x (rolesOf h) name text line) a
+        ∙ ap (λ (o : Option Held). given o text line) (found .is)
+        ∙ rw (le-leb (length s) (length text) (omega (arith, short .text)), le-leb (length c) (length line) (omega (arith, short .comment)))
+
+    -- the line is one of the header's
+    pub line-is : getD (nameLines h) k [] ≡ entryLine name (value .value) (value .digits) (value .words .text)
+    line-is =
+        let named : ℕ → List ℕ = λ i. nameOf (getD (rolesOf h) i neutral) in
+        let firsts = take (listOf h .count) (listOf h .first) in
+        let long : k < length firsts = omega (arith, p, first-long, length-take (listOf h .count) (listOf h .first)) in
+        let names-long : k < length (namesListed h) = omega (arith, long, length-map firsts named) in
+        let at-k : getD (namesListed h) k [] ≡ name =
+        at-map named firsts k free [] long ∙ ap named (at-take (listOf h .first) (listOf h .count) k free p) ∙ ap nameOf (taken .stands .bears) in
+        at-map (λ (n : List ℕ). lineFor n (lookup n (rolesOf h))) (namesListed h) k [] [] names-long
+        ∙ ap (λ (n : List ℕ). lineFor n (lookup n (rolesOf h))) at-k
+        ∙ ap (lineFor name) (found .is)
+
+    -- a text that fits its buffer
+    pub text-fits : length (value .words .text) ≤ longestText
+    text-fits = short .text
