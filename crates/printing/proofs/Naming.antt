@@ -1,5 +1,6 @@
 -- The line of the name at a place: what is read there, and that it fits.
 use Prim.Native.Nat.{ℕ, zero, suc, _+_, _-_, _/_, _≤_, _<_}
+use native.Mathlib.Nat.{add-assoc}
 use native.Mathlib.Omega.{arith}
 use mathlib.Core.Path.{_≡_, refl, sym, ap, ap₂, subst, _∙_}
 use mathlib.Core.Bool.{Bool, true, false, cond, _&&_}
@@ -8,7 +9,7 @@ use mathlib.Core.Option.{Option, none, some}
 use borrow.Author.Tests.{le-leb}
 use lib.Dec.{leb, ltb}
 use lib.ListN.{length, getD, take, replicate, length-append, length-map, length-take}
-use lib.Seq.{sets}
+use lib.Seq.{sets, take-length, length-take-le}
 use Rattle.text.specs.Text.{filled, textOf, bytesOf}
 use Rattle.numbers.specs.declared.Value.{Value}
 use Rattle.card.specs.declared.CardRead.{CardRead}
@@ -18,7 +19,7 @@ use Rattle.roles.specs.declared.Role.the-variants as T
 use Rattle.roles.specs.Roles.{Held, Role, entry, more, neutral, last, refused, roleBy, roleIn, roleRead, roleOf}
 use Rattle.roles.specs.Cards.{rolesOf, cardNo, roleNo, cardAt}
 use Rattle.roles.proofs.Cards.{role-count}
-use Rattle.roles.proofs.Counting.{card-here}
+use Rattle.roles.proofs.Counting.{good-cards, card-here}
 use Rattle.joining.specs.Lookup.{lookup}
 use Rattle.finding.specs.declared.Stop.{Stop}
 use Rattle.finding.specs.declared.Header.{Header}
@@ -32,12 +33,12 @@ use Rattle.listing.specs.declared.Listing.{Listing}
 use Rattle.listing.specs.Listing.{places, free, nameOf, listOf, placeOfEntry}
 use Rattle.listing.proofs.Bearing.{role-is}
 use Rattle.lines.specs.Lines.{entryLine}
-use Rattle.agreeing.specs.Firsts.{firstsOf, lastsOf}
+use Rattle.agreeing.specs.Firsts.{isAmong, firstsFrom, firstsOf, lastsOf}
 use Rattle.agreeing.specs.Agreeing.{StandsAt, PlaceTaken, FoundIn, namesListed}
 use Rattle.agreeing.proofs.Agreed.{agreement, each-taken, each-standing, contents}
 use Rattle.bounds.specs.Longest.{longestText, longestRemark, Short}
 use Rattle.bounds.proofs.Joined.{each-short}
-use Rattle.printing.specs.Output.{lineFor, nameLines}
+use Rattle.printing.specs.Output.{lineFor, nameLines, inOrder}
 
 -- ---- lists
 at-map : {A B : Type 0} (f : A → B) (l : List A) (k : ℕ) (d : A) (e : B) → k < length l → getD (map f l) k e ≡ f (getD l k d)
@@ -60,6 +61,39 @@ at-within (x ∷ l) (suc k) d e p = at-within l k d e (omega arith)
 filled-long : (mark n : ℕ) (l : List ℕ) → length l ≤ length (filled mark n l)
 unfolding filled
 filled-long mark n l = omega (arith, length-append l (replicate (n - length l) mark))
+
+-- ---- lines one behind the other
+pub in-order-next : (ls : List (List ℕ)) (k : ℕ) → k < length ls
+    → length (inOrder (take (k + 1) ls)) ≡ length (inOrder (take k ls)) + length (getD ls k [])
+unfolding inOrder
+in-order-next [] k p = absurd (omega arith)
+in-order-next (l ∷ ls) zero p = omega (arith, length-append l [])
+in-order-next (l ∷ ls) (suc k) p =
+    let number : suc k + 1 ≡ suc (k + 1) = omega arith in
+    let next : inOrder (take (suc k + 1) (l ∷ ls)) ≡ l ++ inOrder (take (k + 1) ls) = ap (λ (n : ℕ). inOrder (take n (l ∷ ls))) number in
+    ap length next
+    ∙ length-append l (inOrder (take (k + 1) ls))
+    ∙ ap (λ (n : ℕ). length l + n) (in-order-next ls k (omega arith))
+    ∙ sym (add-assoc (length l) (length (inOrder (take k ls))) (length (getD ls k [])))
+    ∙ ap (λ (n : ℕ). n + length (getD ls k [])) (sym (length-append l (inOrder (take k ls))))
+
+pub in-order-all : (ls : List (List ℕ)) (k : ℕ) → k ≡ length ls → inOrder (take k ls) ≡ inOrder ls
+in-order-all ls k e = ap (λ (n : ℕ). inOrder (take n ls)) e ∙ ap inOrder (take-length ls)
+
+-- no more names than cards
+few-firsts : (seen : List (List ℕ)) (rs : List Role) (i : ℕ) → length (firstsFrom seen rs i) ≤ length rs
+unfolding firstsFrom
+few-firsts seen [] i = omega arith
+few-firsts seen (entry n v ∷ rs) i = go (isAmong n seen) (few-firsts seen rs (suc i)) (few-firsts (n ∷ seen) rs (suc i))
+  where
+    go : (b : Bool) → length (firstsFrom seen rs (suc i)) ≤ length rs → length (firstsFrom (n ∷ seen) rs (suc i)) ≤ length rs
+        → length (cond b (firstsFrom seen rs (suc i)) (i ∷ firstsFrom (n ∷ seen) rs (suc i))) ≤ suc (length rs)
+    go true a b = omega arith
+    go false a b = omega arith
+few-firsts seen (more t c ∷ rs) i = omega (arith, few-firsts seen rs (suc i))
+few-firsts seen (neutral ∷ rs) i = omega (arith, few-firsts seen rs (suc i))
+few-firsts seen (last ∷ rs) i = omega arith
+few-firsts seen (refused f ∷ rs) i = omega (arith, few-firsts seen rs (suc i))
 
 -- ---- a card that is an entry bears its name
 entry-named : (t : Told) (r : CardRead) (n : List ℕ) (v : Held) → roleIn t r ≡ entry n v → bytesOf (r .name) ≡ n
@@ -97,6 +131,19 @@ module _ (h : List ℕ) (end : ℕ) (a : headerOf h ≡ Accepted end) where
       let last : length (listOf h .last) ≡ length (filled free places (lastsOf (rolesOf h))) = ap (λ (x : Listing). length (x .last)) is in
       let same : length (lastsOf (rolesOf h)) ≡ length (firstsOf (rolesOf h)) = length-map (firstsOf (rolesOf h)) _ in
       omega (arith, count, last, same, filled-long free places (lastsOf (rolesOf h)))
+
+  pub few-names : listOf h .count ≤ 720
+  few-names =
+      let count : listOf h .count ≡ length (firstsOf (rolesOf h)) = ap (λ (x : Listing). x .count) (contents h end a) in
+      omega (arith, count, few-firsts [] (rolesOf h) 0, role-count h, good-cards (length h) (accepted-good h end a))
+
+  -- a line for each name
+  pub as-many : length (nameLines h) ≡ listOf h .count
+  as-many =
+      let firsts = take (listOf h .count) (listOf h .first) in
+      let named : ℕ → List ℕ = λ i. nameOf (getD (rolesOf h) i neutral) in
+      let lined : List ℕ → List ℕ = λ n. lineFor n (lookup n (rolesOf h)) in
+      length-map (namesListed h) lined ∙ length-map firsts named ∙ length-take-le (listOf h .count) (listOf h .first) first-long
 
   module _ (k : ℕ) (p : k < listOf h .count) where
     pub taken : PlaceTaken h k

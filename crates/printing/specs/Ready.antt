@@ -2,7 +2,7 @@
 use Prim.Native.Nat.{ℕ, _<_, _≤_}
 use mathlib.Core.Path.{_≡_}
 use mathlib.Core.List.{List}
-use lib.ListN.{length}
+use lib.ListN.{length, take}
 use Rattle.finding.specs.declared.Header.the-variants.{Accepted}
 use Rattle.finding.specs.Finding.{headerOf}
 use Rattle.listing.specs.Listing.{listOf}
@@ -21,6 +21,12 @@ pub record IsListed (h first last : List ℕ) : Type 0 where
 pub record IsWide (text line : List ℕ) : Type 0 where
   pub for-text : longestText ≤ length text
   pub for-line : longestRemark ≤ length line
+
+-- the first n bytes of a buffer are a line
+pub record Front (n : ℕ) (out line : List ℕ) : Type 0 where
+  pub content : take n out ≡ line
+  pub count : n ≡ length line
+  pub few : n ≤ length out
 
 -- how many bytes a line has that was written
 abbrev pub lengthOf : Line → ℕ

@@ -1,13 +1,13 @@
 // Prints what document 01 says of a header: its names, each with its kind and reading, and their count; or its refusal. Each line is proved
 // up to its write, and none is left out: the buffers hold every line that a header can give.
 ghost use mathlib.Core.Path.{_≡_};
-ghost use mathlib.Core.List.{[]};
+ghost use mathlib.Core.List.{[], _++_};
 ghost use Prim.Native.Nat.{_<_, _≤_};
-ghost use lib.ListN.{length, take, getD};
+ghost use lib.ListN.{length, getD};
 ghost use Rattle.listing.specs.Listing.{listOf};
 ghost use Rattle.lines.specs.Lines.{countLine, refusedLine, lineRoom};
-ghost use Rattle.printing.specs.Output.{nameLines};
-ghost use Rattle.printing.specs.Ready.{IsListed, IsWide, lengthOf};
+ghost use Rattle.printing.specs.Output.{nameLines, inOrder, outputOf};
+ghost use Rattle.printing.specs.Ready.{IsListed, IsWide, Front, lengthOf};
 use entries::LookupAnswer;
 use finding::Header;
 use finding::Stop;
@@ -15,8 +15,10 @@ use libc::STDOUT_FILENO;
 use lines::Line;
 use listing::Listing;
 
-// Prints `outputOf` the header to standard output.
-pub fn print_header(header: &[u8]) {
+// Prints `outputOf` the header to standard output, and answers how many bytes that is.
+pub fn print_header(header: &[u8]) -> usize
+    ensures { λ r. ⌜ r ≡ length (outputOf (now (header .entry))) ⌝ }
+{
     let listing = listing::list(header);
     let answer = listing.header;
     match answer {
@@ -26,15 +28,19 @@ pub fn print_header(header: &[u8]) {
 }
 
 // The line of a refusal.
-fn print_refusal(stop: Stop) {
+fn print_refusal(stop: Stop) -> usize
+    ensures { λ r. ⌜ r ≡ length (refusedLine (stop .fault .why) (stop .card)) ⌝ }
+{
     let mut line = [0u8; 321];
     let n = refused_part(stop, &mut line);
     io::write_all(STDOUT_FILENO, text::first_of(&line, n));
+    n
 }
 
 // The lines of the names in their order, then that of their count.
-fn print_names(header: &[u8], listing: Listing)
+fn print_names(header: &[u8], listing: Listing) -> usize
     requires { ⌜ IsListed (now header) (listing .first) (listing .last) × (listing .count ≡ listOf (now header) .count) ⌝ }
+    ensures { λ r. ⌜ r ≡ length (inOrder (nameLines (now (header .entry))) ++ countLine (listing .count)) ⌝ }
 {
     let first = listing.first;
     let last = listing.last;
@@ -42,21 +48,24 @@ fn print_names(header: &[u8], listing: Listing)
     let mut text = [0u8; 51200];
     // For an entry's comment, which is not printed, and then for its line.
     let mut line = [0u8; 52640];
+    let mut printed = 0;
     let mut k = 0;
     while k < count {
         let n = name_part(header, &first, &last, k, &mut text, &mut line);
         io::write_all(STDOUT_FILENO, text::first_of(&line, n));
+        printed += n;
         k += 1;
     }
     let n = count_part(count, &mut line);
     io::write_all(STDOUT_FILENO, text::first_of(&line, n));
+    printed + n
 }
 
 // ---- the lines, each at the front of a lent buffer, by their lengths
 
 fn refused_part(stop: Stop, line: &mut [u8]) -> usize
     requires { ⌜ lineRoom ≤ length (now line) ⌝ }
-    ensures { λ r. ⌜ take r (now (line .exit)) ≡ refusedLine (stop .fault .why) (stop .card) ⌝ }
+    ensures { λ r. ⌜ Front r (now (line .exit)) (refusedLine (stop .fault .why) (stop .card)) ⌝ }
 {
     let fault = stop.fault;
     length_of(lines::refused_line(fault, stop.card, line))
@@ -64,7 +73,7 @@ fn refused_part(stop: Stop, line: &mut [u8]) -> usize
 
 fn count_part(count: usize, line: &mut [u8]) -> usize
     requires { ⌜ lineRoom ≤ length (now line) ⌝ }
-    ensures { λ r. ⌜ take r (now (line .exit)) ≡ countLine count ⌝ }
+    ensures { λ r. ⌜ Front r (now (line .exit)) (countLine count) ⌝ }
 {
     length_of(lines::count_line(count, line))
 }
@@ -79,7 +88,7 @@ fn name_part(
     line: &mut [u8],
 ) -> usize
     requires { ⌜ IsListed (now header) (now first) (now last) × (k < listOf (now header) .count) × IsWide (now text) (now line) ⌝ }
-    ensures { λ r. ⌜ take r (now (line .exit)) ≡ getD (nameLines (now (header .entry))) k [] ⌝ }
+    ensures { λ r. ⌜ Front r (now (line .exit)) (getD (nameLines (now (header .entry))) k []) ⌝ }
 {
     let card = roles::card_at(header, first[k]);
     let looked = entries::read_entry(header, last[k], text, line);

@@ -22,6 +22,7 @@ use Rattle.entries.proofs.LookupAnswer as answering
 use Rattle.listing.specs.Listing.{free, listOf}
 use Rattle.lines.specs.Lines.{entryLine}
 use Rattle.bounds.specs.Longest.{longestText}
+use Rattle.printing.specs.Ready.{Front}
 use Rattle.printing.proofs.Fitting.{front, written-line}
 use Rattle.printing.proofs.Naming as naming
 use borrow.Author.Needs.{needs}
@@ -151,10 +152,9 @@ returns-2 c =
     ≡ entryLine (name s) (v .value) (v .digits) t =
     λ j. entryLine (named j) (valued j) (digits j) (words j) in
     let long : length line₁ ≡ length (a .line .now) = search needs in
-    written-line (put .entry-line .result) (c .length-of .result) _ line₁ _ (c .length-of .ensures) (put .entry-line .ensures .0)
-    (omega (arith, put .entry-line .ensures .1, ap length words, naming.text-fits (a .header .now) (l .end) (l .accepted) (a .k) (s .pre .1), s .pre .2 .for-line, long))
-    ∙ line
-    ∙ sym (naming.line-is (a .header .now) (l .end) (l .accepted) (a .k) (s .pre .1))
+    subst (Front (c .length-of .result) _) (line ∙ sym (naming.line-is (a .header .now) (l .end) (l .accepted) (a .k) (s .pre .1)))
+    (written-line (put .entry-line .result) (c .length-of .result) _ line₁ _ (c .length-of .ensures) (put .entry-line .ensures .0)
+    (omega (arith, put .entry-line .ensures .1, ap length words, naming.text-fits (a .header .now) (l .end) (l .accepted) (a .k) (s .pre .1), s .pre .2 .for-line, long)))
 
 pub name-part-spec : {M : Type 1} → statement M
 name-part-spec =

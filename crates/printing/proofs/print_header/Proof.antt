@@ -1,33 +1,31 @@
--- `printing::print_header` meets what it calls: a list with an END is an accepted header's.
+-- `printing::print_header` meets its contract: the list says whether the header is accepted.
 use Prim.Native.Nat.{ℕ}
-use native.Mathlib.Omega.{arith}
 use mathlib.Core.Path.{_≡_, refl, sym, ap, subst, _∙_}
-use mathlib.Core.List.{List}
-use lib.ListN.{take}
-use Rattle.roles.specs.Roles.{Role}
-use Rattle.roles.specs.Cards.{rolesOf}
+use mathlib.Core.List.{List, _++_}
+use lib.ListN.{length}
 use Rattle.finding.specs.declared.Header.{Header}
 use Rattle.finding.specs.declared.Header.the-variants.{Accepted, Refused}
 use Rattle.finding.specs.Finding.{headerOf}
 use Rattle.listing.specs.declared.Listing.{Listing}
-use Rattle.listing.specs.Listing.{Listed, listed, full, byListed, byHeader, listFrom, empty, listOf}
+use Rattle.listing.specs.Listing.{listOf}
+use Rattle.agreeing.proofs.Agreed.{contents, same-refusal}
+use Rattle.lines.specs.Lines.{countLine}
+use Rattle.printing.specs.Output.{nameLines, inOrder, outputBy, outputOf}
 use Rattle.printing.specs.Ready.{IsListed}
 use borrow.Author.Needs.{needs}
 use Rattle.printing.proofs.print_header.Statement.{statement}
 use Rattle.printing.proofs.print_header.Tie as tie
 
--- a list with an END is an accepted header's
-list-accepted : (h : List ℕ) (e : ℕ) → listOf h .header ≡ Accepted e → headerOf h ≡ Accepted e
-unfolding listOf
-list-accepted h e d = go (headerOf h) d
+-- the list says what the header is
+list-header : (h : List ℕ) → listOf h .header ≡ headerOf h
+list-header h = go (headerOf h) refl
   where
-    by : (end : ℕ) (x : Listed) → byListed end x .header ≡ Accepted e → Accepted end ≡ Accepted e
-    by end (listed t) d = d
-    by end (full i) d = cc
+    go : (x : Header) → headerOf h ≡ x → listOf h .header ≡ headerOf h
+    go (Accepted end) e = ap (λ (x : Listing). x .header) (contents h end e) ∙ sym e
+    go (Refused s) e = ap (λ (x : Listing). x .header) (same-refusal h s e .0) ∙ sym e
 
-    go : (x : Header) → byHeader x (rolesOf h) .header ≡ Accepted e → x ≡ Accepted e
-    go (Accepted end) d = by end (listFrom (rolesOf h) (take end (rolesOf h)) 0 empty) d
-    go (Refused s) d = d
+known-header : (h : List ℕ) {r : Listing} {x : Header} → r ≡ listOf h → r .header ≡ x → headerOf h ≡ x
+known-header h is e = sym (list-header h) ∙ sym (ap (λ (x : Listing). x .header) is) ∙ e
 
 list-requires : tie.Need-list-requires
 list-requires c κs = search needs
@@ -40,11 +38,10 @@ print-names-requires c κs =
     let made = c .before .before in
     let h = made .before .before .args .header .now in
     let is = made .list .ensures in
-    let end = c .enum-told .given .0 .0 in
-    let accepted : listOf h .header ≡ Accepted end = sym (ap (λ (x : Listing). x .header) is) ∙ c .enum-told .given .1 in (
+    let end = c .enum-told .given .0 .0 in (
       record {
         end = end;
-        accepted = list-accepted h end accepted;
+        accepted = known-header h is (c .enum-told .given .1);
         first-cards = ap (λ (x : Listing). x .first) is;
         last-entries = ap (λ (x : Listing). x .last) is;
       },
@@ -57,11 +54,30 @@ enum-known-answer c = search needs
 print-refusal-requires : tie.Need-print-refusal-requires
 print-refusal-requires c κs = search needs
 
+-- by what the header is
+by-header : (h : List ℕ) (x : Header) → headerOf h ≡ x → length (outputBy x h) ≡ length (outputOf h)
+unfolding outputOf
+by-header h x e = sym (ap (λ (y : Header). length (outputBy y h)) e)
+
 returns : tie.Need-returns
-returns c = search needs
+returns c =
+    let told = c .before in
+    let made = told .before .before in
+    let h = made .before .before .args .header .now in
+    let is = made .list .ensures in
+    let end = told .enum-told .given .0 .0 in
+    c .print-names .ensures
+    ∙ ap (λ (x : Listing). length (inOrder (nameLines h) ++ countLine (x .count))) is
+    ∙ by-header h (Accepted end) (known-header h is (told .enum-told .given .1))
 
 returns-2 : tie.Need-returns-2
-returns-2 c = search needs
+returns-2 c =
+    let known = c .before .before in
+    let made = known .before .before in
+    let h = made .before .before .args .header .now in
+    let is = made .list .ensures in
+    let s = known .answer .given .0 .0 in
+    c .print-refusal .ensures ∙ by-header h (Refused s) (known-header h is (known .answer .given .1))
 
 pub print-header-spec : {M : Type 1} → statement M
 print-header-spec =

@@ -23,7 +23,7 @@ write-all-requires : tie.Need-write-all-requires
 write-all-requires c κs = search needs
 
 returns : tie.Need-returns
-returns c = search needs
+returns c = c .before .before .before .before .refused-part .ensures .count
 
 pub print-refusal-spec : {M : Type 1} → statement M
 print-refusal-spec =
