@@ -9,12 +9,12 @@ use Rattle.lines.proofs.refused_line.Reads as refused-line-reads
 
 -- `lines::entry_line`
 pub entry-line : OneAnswer entry-line-reads.Post (λ r s. lineOutcome r (now (s .1 .1 .1 .1 .0)))
-entry-line κs a r q s t x y = x ∙ sym y
+entry-line κs a r q s t x y = x .0 ∙ sym (y .0)
 
 -- `lines::count_line`
 pub count-line : OneAnswer count-line-reads.Post (λ r s. lineOutcome r (now (s .1 .0)))
-count-line κs a r q s t x y = x ∙ sym y
+count-line κs a r q s t x y = x .0 ∙ sym (y .0)
 
 -- `lines::refused_line`
 pub refused-line : OneAnswer refused-line-reads.Post (λ r s. lineOutcome r (now (s .1 .1 .0)))
-refused-line κs a r q s t x y = x ∙ sym y
+refused-line κs a r q s t x y = x .0 ∙ sym (y .0)
