@@ -1,5 +1,5 @@
 -- The starred rows of document 01's table "Readings at the edges": one table and one statement, proved by computing.
--- A row is a card, a header of several cards in which KIT is looked up, or a tile.
+-- A row is a card, a header of several cards in which KIT is looked up, or a tile. Rows of a header's entry by its card's number stand beside them.
 use Prim.Native.Nat.{ℕ}
 use Prim.Native.Char.{code}
 use Prim.Native.String.{String}
@@ -40,7 +40,7 @@ use Rattle.roles.specs.Cards.{cardsIn, isBadLength}
 use Rattle.finding.specs.Finding.{headerFrom, headerOf}
 use Rattle.entries.specs.declared.LookupAnswer.{LookupAnswer}
 use Rattle.entries.specs.declared.LookupAnswer.the-variants as L
-use Rattle.entries.specs.Answers.{LookupOutcome, written, lookupOf}
+use Rattle.entries.specs.Answers.{LookupOutcome, written, lookupOf, metOn, entryOf}
 use Rattle.rice.specs.declared.Decoded.{Decoded}
 use Rattle.rice.specs.declared.Decoded.the-variants as D
 use Rattle.rice.specs.Tile.{bitAt, fieldAt, zerosAt}
@@ -51,10 +51,12 @@ use Rattle.rice.specs.Steps.{inLimits, widthOf, planOf, stands, stepOf, openOf,
 
 -- ---- what is read
 
--- a card by its keyword and its value text; a header by the texts of its cards; a tile by its width, its number of pixels and its bytes
+-- a card by its keyword and its value text; a header by the texts of its cards; an entry by its card's number and these texts; a tile by its
+-- width, its number of pixels and its bytes
 pub data Input : Type 0 where
   card : String → String → Input
   header : List String → Input
+  entryNo : ℕ → List String → Input
   tile : ℕ → ℕ → List ℕ → Input
 
 -- bytes, then spaces up to n
@@ -73,12 +75,14 @@ headerBytes (t ∷ ts) = spacesTo 80 (ascii t) ++ headerBytes ts
 -- ---- the readings
 
 -- in the paper's terms: a string by its text, an integer, a decimal by its sign, digits and power of ten, a refusal by its number, a
--- tile by its pixels and the bits used, a refused tile by the number, the pixels written and the pixels lent
+-- tile by its pixels and the bits used, a refused tile by the number, the pixels written and the pixels lent, a refused card by the
+-- refusal's number and its own
 pub data Reading : Type 0 where
   string : List ℕ → Reading
   integer : ℤ → Reading
   decimal : Bool → List ℕ → ℤ → Reading
   refusal : ℕ → Reading
+  refusedAt : ℕ → ℕ → Reading
   pixels : List ℤ → ℕ → Reading
   stopped : ℕ → ℕ → List ℤ → Reading
   other : Reading
@@ -126,6 +130,15 @@ byLookup (L.Refused fault) text = refusal (numberOf (fault .why))
 abbrev pub ofLookup : LookupOutcome → Reading
 ofLookup o = byLookup (o .answer .answer) (take (o .answer .text) (o .text))
 
+-- an entry's by its card, likewise
+abbrev pub byEntry : LookupAnswer → List ℕ → Reading
+byEntry (L.Found v) text = byValue v text
+byEntry (L.Header stop) text = refusedAt (numberOf (stop .fault .why)) (stop .card)
+byEntry (L.Refused fault) text = refusal (numberOf (fault .why))
+
+abbrev pub ofEntry : LookupOutcome → Reading
+ofEntry o = byEntry (o .answer .answer) (take (o .answer .text) (o .text))
+
 -- a tile's, with its pixels in the lent slice
 abbrev pub byDecoded : Decoded → List ℤ → Reading
 byDecoded (D.Whole bits) content = pixels content bits
@@ -138,6 +151,7 @@ ofDecoding f = byDecoded (f .answer) (f .content)
 abbrev pub reading : Input → Reading
 reading (card keyword text) = ofCard (cardOf (cardBytes keyword text))
 reading (header texts) = ofLookup (lookupOf (headerBytes texts) (ascii "KIT") (replicate 80 0) (replicate 80 0))
+reading (entryNo i texts) = ofEntry (entryOf (headerBytes texts) i (replicate 80 0) (replicate 80 0))
 reading (tile bits nx bytes) = ofDecoding (decodeOf bytes nx 32 bits (replicate nx (pos 7)))
 
 -- ---- the table
@@ -161,6 +175,12 @@ table =
     ∷ row (header ("KIT     = 'FKM-&'" ∷ "COMMENT in between" ∷ "CONTINUE  '75'" ∷ "END" ∷ [])) (string (ascii "FKM-75"))
     ∷ row (header ("KIT     = 'FKM &'" ∷ "CONTINUE  ''" ∷ "END" ∷ [])) (string (ascii "FKM"))
     ∷ row (header ("KIT     = 'FKM-&'" ∷ "SIZE    = 5" ∷ "CONTINUE  '75'" ∷ "END" ∷ [])) (string (ascii "FKM-&"))
+    ∷ row (entryNo 0 ("KIT     = 'a&'" ∷ "WCS     = (1" ∷ "CONTINUE  'b'" ∷ "END" ∷ [])) (refusedAt 5 1)
+    ∷ row (entryNo 1 ("KIT     = 'a&'" ∷ "WCS     = (1" ∷ "CONTINUE  'b'" ∷ "END" ∷ [])) (refusedAt 5 1)
+    ∷ row (entryNo 0 ("KIT     = 'FKM-&'" ∷ "CONTINUE  '75-&" ∷ "CONTINUE  'A2'" ∷ "END" ∷ [])) (refusedAt 3 1)
+    ∷ row (entryNo 0 ("KIT     = 'FKM-&'" ∷ "CONTINUE  '75'" ∷ "WCS     = (1" ∷ "END" ∷ [])) (string (ascii "FKM-75"))
+    ∷ row (entryNo 2 ("KIT     = 'a'" ∷ "END" ∷ "KIT     = 'b'" ∷ [])) (string (ascii "b"))
+    ∷ row (entryNo 1 ("KIT     = 'a'" ∷ "END" ∷ [])) (refusal 12)
     ∷ row (tile 8 2 (0x0A ∷ 0x00 ∷ [])) (pixels (pos 10 ∷ pos 10 ∷ []) 11)
     ∷ row (tile 8 2 (0x0A ∷ 0x32 ∷ [])) (pixels (pos 10 ∷ pos 11 ∷ []) 15)
     ∷ row (tile 8 1 (0x00 ∷ 0x28 ∷ [])) (pixels (pos 255 ∷ []) 13)
@@ -176,7 +196,7 @@ unfolding isSpace isBlank isPrintable isDigit isZero shown dToE trimStart leadin
     after scanFrom byteClass splitOf settledOf opened unopened stringOf isSign isNegative unsigned isDigits digitsValueFrom
     integerOf fractionOf afterFraction isMark writtenOf exponentOf scaled finiteOf lowered isWord decimalOf readNumber
     startsNumber startOf ofString ofNumber valueWith valueOf hasHigh classOf otherOf continuationOf cardOf
-    endsOpen addsNothing joinText joinComment opens joinWords joinOn lookup cardsIn isBadLength headerFrom headerOf written lookupOf
+    endsOpen addsNothing joinText joinComment opens joinWords joinOn lookup cardsIn isBadLength headerFrom headerOf written lookupOf metOn entryOf
     decodeOf stepsOf stepOf openOf planOf inLimits widthOf stands blockOf codeOf runOf diffRead runRead fieldRead pixelOf inWidth modulo
     wrap difference bitAt fieldAt zerosAt
 edges = refl

@@ -1,3 +1,4 @@
--- The line of each name, and that no buffer is short for it.
+-- The line of each name, that no buffer is short for it, and document 01's example.
 pub mod Fitting
 pub mod Naming
+pub mod Example
