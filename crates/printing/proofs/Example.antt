@@ -29,12 +29,12 @@ use Rattle.lines.specs.Lines.{entryLine, countLine, refusedLine}
 use Rattle.printing.specs.Output.{inOrder, outputOf}
 
 -- cards by their texts
-cards : List String → List ℕ
+unfoldable pub cards : List String → List ℕ
 cards [] = []
 cards (t ∷ ts) = filled (code " ") 80 (ascii t) ++ cards ts
 
 -- lines by their texts
-lines : List String → List ℕ
+unfoldable pub lines : List String → List ℕ
 lines [] = []
 lines (t ∷ ts) = ascii t ++ lineFeed ∷ lines ts
 
@@ -42,10 +42,10 @@ pub record Row : Type 0 where
   pub header : List String
   pub printed : List String
 
-abbrev row : List String → List String → Row
+abbrev pub row : List String → List String → Row
 row header printed = record { header = header; printed = printed }
 
-abbrev table : List Row
+abbrev pub table : List Row
 table =
     row ("SIZE    = 12" ∷ "KIT     = 'FKM-&'" ∷ "CONTINUE  '75' / ring" ∷ "END" ∷ []) ("SIZE I 12" ∷ "KIT S FKM-75" ∷ "2 keywords" ∷ [])
     ∷ row ("KIT     = 1" ∷ "SIZE    = ''" ∷ "KIT     = 2" ∷ "END" ∷ []) ("KIT I 2" ∷ "SIZE S" ∷ "2 keywords" ∷ [])
