@@ -22,13 +22,12 @@ use Rattle.entries.specs.Answers.{given, lookedUp, lookupOf}
 use Rattle.entries.proofs.Looking.{accepted-good}
 use Rattle.listing.specs.declared.Listing.{Listing}
 use Rattle.listing.specs.Listing.{places, free, nameOf}
-use Rattle.listing.proofs.Placing.{take-filled}
 use Rattle.agreeing.specs.Firsts.{firstsOf}
 use Rattle.agreeing.specs.Agreeing.{namesListed}
 use Rattle.agreeing.proofs.Agreed.{agreement, contents}
 use Rattle.demands.specs.Demands.{IsAccepted, EqualBut, Isolation, IsolationToEnd, OrderKept, ReadingsKept}
 use Rattle.demands.proofs.Ending.{toEnd, lookup-to-end, Twin, twin-others, twins}
-use Rattle.demands.proofs.Naming.{firstNames, names-are, twin-names}
+use Rattle.demands.proofs.Naming.{take-filled, firstNames, names-are, twin-names}
 use Rattle.demands.proofs.Naming as naming
 
 -- an accepted header answers by its cards

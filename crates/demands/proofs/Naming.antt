@@ -1,10 +1,12 @@
 -- The names of the list, by what each card does.
-use Prim.Native.Nat.{ℕ, zero, suc}
+use Prim.Native.Nat.{ℕ, zero, suc, _-_}
 use mathlib.Core.Path.{_≡_, refl, sym, ap, ap₂, _∙_}
 use mathlib.Core.Bool.{Bool, true, false, cond, true≢false}
 use mathlib.Core.List.{List, [], _∷_, map}
-use lib.ListN.{drop, getD}
+use lib.ListN.{length, take, drop, getD, replicate}
+use lib.Seq.{take-append-seam}
 use Rattle.text.specs.Same.{same}
+use Rattle.text.specs.Text.{filled}
 use Rattle.roles.specs.Roles.{Role, entry, more, neutral, last, refused}
 use Rattle.joining.specs.Lookup.{isOpen, joined}
 use Rattle.joining.specs.Belonging.{Entry, Open, idle, held, Effect, gives, nothing, stops, leaves, effects, bears}
@@ -14,6 +16,11 @@ use Rattle.listing.specs.Listing.{nameOf}
 use Rattle.agreeing.specs.Firsts.{isAmong, firstsFrom}
 use Rattle.agreeing.proofs.Places.{same-self}
 use Rattle.demands.proofs.Ending.{toEnd, Twin, done, both, even}
+
+-- the front of an array that was filled up
+pub take-filled : (mark n : ℕ) (l : List ℕ) → take (length l) (filled mark n l) ≡ l
+unfolding filled
+take-filled mark n l = take-append-seam l (replicate (n - length l) mark)
 
 -- the names that effects give, each where it comes first
 unfoldable pub firstNames : List (List ℕ) → List Effect → List (List ℕ)

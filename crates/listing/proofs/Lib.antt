@@ -1,6 +1,11 @@
--- Laws of names where they stand, of places and of tables.
+-- Laws of names where they stand, of keys and their order, and of tables.
 pub mod Keyed
 pub mod Bearing
-pub mod Chaining
-pub mod Marking
+pub mod Lows
+pub mod Keying
+pub mod Ordering
+pub mod Halving
+pub mod Sliding
+pub mod Rows
+pub mod Entering
 pub mod Placing

@@ -7,41 +7,40 @@ use mathlib.Core.Path.{_≡_, refl, sym, ap, ap₂, subst, _∙_}
 use mathlib.Core.Bool.{Bool, true, false, cond}
 use mathlib.Core.List.{List, [], _∷_, _++_}
 use borrow.Author.Tests.{lt-ltb}
-use lib.ListN.{length, take, drop, getD, set, replicate, length-append, length-set}
-use lib.Seq.{take-append-seam, set-append-left}
+use lib.ListN.{length, take, drop, getD, set, replicate, length-append, length-replicate, length-set}
+use lib.Seq.{set-append-left}
 use Rattle.refusal.specs.declared.Fault.{Fault}
 use Rattle.refusal.specs.declared.Refusal.the-variants as R
 use Rattle.refusal.specs.Numbers.{faultOf}
 use Rattle.text.specs.declared.Place.{Place}
 use Rattle.text.specs.declared.Place.the-variants.{At, Nowhere}
-use Rattle.text.specs.Bytes.{ascii}
 use Rattle.text.specs.Same.{same}
 use Rattle.text.specs.Text.{filled}
+use Rattle.text.proofs.Finding.{Under}
 use Rattle.text.proofs.Texts.{filled-none, filled-put}
-use Rattle.card.specs.Keywords.{keywordOf}
 use Rattle.roles.specs.Roles.{Comment, Held, Role, entry, more, neutral, last as end-card, refused}
 use Rattle.roles.specs.Cards.{cardNo, roleNo, rolesOf, isBadLength}
 use Rattle.roles.proofs.Cards.{roles-from, roles-past}
 use Rattle.roles.proofs.Counting.{good-cards}
-use Rattle.joining.proofs.Names.{same-eq}
 use Rattle.finding.specs.declared.Header.{Header}
 use Rattle.finding.specs.declared.Header.the-variants.{Accepted, Refused}
 use Rattle.finding.specs.Finding.{stopAt, headerFrom, headerOf}
-use Rattle.listing.specs.declared.Inserted.{Inserted}
-use Rattle.listing.specs.declared.Inserted.the-variants.{Names}
 use Rattle.listing.specs.declared.Listing.{Listing}
 use Rattle.listing.specs.Listing.{places, free, Table, empty, nameOf, placeIn, Listed, full, putAgain, putNew, put, putRole}
 use Rattle.listing.specs.Listing.{listFrom, tabled, byListed, byHeader, listOf}
-use Rattle.listing.specs.Inserting.{bearsOf, placeBy, Insertion, insertionBy, insertAt, insertOf}
-use Rattle.listing.specs.Marks.{namesIn, Marked, Ready, Entered}
-use Rattle.listing.proofs.Keyed.{entry-keyword}
-use Rattle.listing.proofs.Marking.{length-filled}
-use Rattle.listing.proofs.Bearing.{name-read, role-is, bears-dotted, bears-plain, place-within, put-behind}
+use Rattle.listing.specs.Keys.{keyOf, rowAt, keyPlace, Ordered, Ready, Arrays, arraysBy, arraysAt, Entered}
+use Rattle.listing.proofs.Bearing.{role-is}
+use Rattle.listing.proofs.Lows.{Low, low-entry}
+use Rattle.listing.proofs.Keying.{length-key, same-key}
+use Rattle.listing.proofs.Rows.{row-other, row-own}
 
 -- ---- arrays
-pub take-filled : (mark n : ℕ) (l : List ℕ) → take (length l) (filled mark n l) ≡ l
+length-filled : (mark n : ℕ) (l : List ℕ) → length l ≤ n → length (filled mark n l) ≡ n
 unfolding filled
-take-filled mark n l = take-append-seam l _
+length-filled mark n l h =
+    length-append l (replicate (n - length l) mark)
+    ∙ ap (λ (k : ℕ). length l + k) (length-replicate (n - length l) mark)
+    ∙ omega arith
 
 set-filled : (mark n : ℕ) (l : List ℕ) (k v : ℕ) → k < length l → set (filled mark n l) k v ≡ filled mark n (set l k v)
 unfolding filled
@@ -122,36 +121,54 @@ pub record IsEntry (h : List ℕ) (i : ℕ) : Type 0 where
   pub name : List ℕ
   pub held : Held
   pub is : roleNo h i ≡ entry name held
+  pub short : length name ≤ 80
 
-pub data Entries (h : List ℕ) : List ℕ → Type 0 where
-  none : Entries h []
-  one : {i : ℕ} {l : List ℕ} → IsEntry h i → Entries h l → Entries h (i ∷ l)
+-- entries whose keys stand at the places from k on
+pub data Rowed (h keys : List ℕ) : ℕ → List ℕ → Type 0 where
+  none : {k : ℕ} → Rowed h keys k []
+  one : {k i : ℕ} {l : List ℕ} (e : IsEntry h i) → rowAt keys k ≡ keyOf (e .name) → Rowed h keys (suc k) l → Rowed h keys k (i ∷ l)
 
-entries-put : (h : List ℕ) {l : List ℕ} {i : ℕ} → Entries h l → IsEntry h i → Entries h (l ++ i ∷ [])
-entries-put h none e = one e none
-entries-put h (one d ds) e = one d (entries-put h ds e)
+rowed-put : {h keys l : List ℕ} {k i : ℕ} → Rowed h keys k l → (e : IsEntry h i) → rowAt keys (k + length l) ≡ keyOf (e .name)
+    → Rowed h keys k (l ++ i ∷ [])
+rowed-put {h} {keys} {k = k} none e r = one e (ap (rowAt keys) (let here : k ≡ k + 0 = omega arith in here) ∙ r) none
+rowed-put {h} {keys} {k = k} (one {l = l} d q ds) e r =
+    one d q (rowed-put ds e (ap (rowAt keys) (let same-place : suc k + length l ≡ k + suc (length l) = omega arith in same-place) ∙ r))
 
--- an entry bears a name where it stands if it is read with it
-bears-is : (h : List ℕ) (i : ℕ) (name : List ℕ) (e : IsEntry h i) → bearsOf h i name ≡ same (e .name) name
-bears-is h i name e = go (same (keywordOf (cardNo h i)) (ascii "HIERARCH")) refl
+rowed-by : {h keys keys₁ l : List ℕ} {k : ℕ} → Rowed h keys k l
+    → ((j : ℕ) → j < k + length l → rowAt keys₁ j ≡ rowAt keys j) → Rowed h keys₁ k l
+rowed-by none rows = none
+rowed-by {k = k} (one d q ds) rows = one d (rows k (omega arith) ∙ q) (rowed-by ds (λ j p. rows j (omega arith)))
+
+low-is : {h : List ℕ} {i : ℕ} (e : IsEntry h i) → Low (e .name)
+low-is {h} {i} e = low-entry (cardNo h i) (e .name) (e .held) (e .is)
+
+-- the place of a name's key is the name's
+place-is : {h keys l : List ℕ} {i : ℕ} (own : IsEntry h i) {k : ℕ} → Rowed h keys k l
+    → keyPlace (keyOf (own .name)) keys (length l) k ≡ placeIn (rolesOf h) (own .name) l k
+unfolding keyPlace placeIn
+place-is own none = refl
+place-is {h} {keys} own {k} (one {i = i} {l = l} e q es) =
+    let name : e .name ≡ nameOf (getD (rolesOf h) i neutral) = sym (ap nameOf (role-is h i (e .within) ∙ e .is)) in
+    let alike =
+    ap (λ (r : List ℕ). same r (keyOf (own .name))) q
+    ∙ same-key (e .name) (own .name) (e .short) (own .short) (low-is e) (low-is own)
+    ∙ ap (λ (m : List ℕ). same m (own .name)) name in
+    ap₂ (λ (b : Bool) (p : Place). cond b (At k) p) alike (place-is own es)
+
+-- a place is one of the list's
+place-under : (roles : List Role) (name l : List ℕ) (k : ℕ) → Under (k + length l) (placeIn roles name l k)
+unfolding placeIn
+place-under roles name [] k = tt
+place-under roles name (i ∷ l) k =
+    go (same (nameOf (getD roles i neutral)) name) (placeIn roles name l (suc k)) (place-under roles name l (suc k))
   where
-    go : (b : Bool) → same (keywordOf (cardNo h i)) (ascii "HIERARCH") ≡ b → bearsOf h i name ≡ same (e .name) name
-    go true d =
-        sym (bears-dotted h i name (e .within) d) ∙ ap (λ (l : List ℕ). same l name) (name-read h i (e .name) (e .held) (e .is))
-    go false d =
-        sym (bears-plain h i name (e .within) d)
-        ∙ ap (λ (l : List ℕ). same l name) (sym (entry-keyword (cardNo h i) (e .name) (e .held) (e .is) d))
-
-place-is : (h name : List ℕ) {l : List ℕ} → Entries h l → (k : ℕ) → placeBy h name l k ≡ placeIn (rolesOf h) name l k
-unfolding placeBy placeIn
-place-is h name none k = refl
-place-is h name (one {i} {l} e es) k =
-    let own : e .name ≡ nameOf (getD (rolesOf h) i neutral) = sym (ap nameOf (role-is h i (e .within) ∙ e .is)) in
-    let bears = bears-is h i name e ∙ ap (λ (m : List ℕ). same m name) own in
-    ap₂ (λ (b : Bool) (p : Place). cond b (At k) p) bears (place-is h name es (suc k))
+    go : (t : Bool) (p : Place) → Under (suc k + length l) p → Under (k + suc (length l)) (cond t (At k) p)
+    go true p u = omega arith
+    go false (At j) u = omega arith
+    go false Nowhere u = tt
 
 -- ---- where the loop stands
-pub record Standing (h first last marks heads links : List ℕ) (count i : ℕ) : Type 0 where
+pub record Standing (h first last keys order : List ℕ) (count i : ℕ) : Type 0 where
   pub t : Table
   pub within : i ≤ length h / 80
   pub good : isBadLength (length h) ≡ false
@@ -160,14 +177,13 @@ pub record Standing (h first last marks heads links : List ℕ) (count i : ℕ) 
   pub count-is : count ≡ length (t .first)
   pub alike : length (t .last) ≡ length (t .first)
   pub small : length (t .first) ≤ i
-  pub entries : Entries h (t .first)
-  pub marked : Marked h first marks heads links count
+  pub rowed : Rowed h keys 0 (t .first)
+  pub ordered : Ordered keys order count
   pub left : rest (rolesOf h) (drop i (rolesOf h)) i t ≡ listOf h
 
-pub start : (h first last marks heads links : List ℕ) → isBadLength (length h) ≡ false
-    → first ≡ replicate places free → last ≡ replicate places free → Marked h first marks heads links 0
-    → Standing h first last marks heads links 0 0
-start h first last marks heads links good f l marked =
+pub start : (h first last keys order : List ℕ) → isBadLength (length h) ≡ false
+    → first ≡ replicate places free → last ≡ replicate places free → Ordered keys order 0 → Standing h first last keys order 0 0
+start h first last keys order good f l ordered =
     record {
       t = empty;
       within = omega arith;
@@ -177,17 +193,31 @@ start h first last marks heads links good f l marked =
       count-is = refl;
       alike = refl;
       small = omega arith;
-      entries = none;
-      marked = marked;
+      rowed = none;
+      ordered = ordered;
       left = rest-start h good;
     }
 
-module _ {h first last marks heads links : List ℕ} {count i : ℕ} (S : Standing h first last marks heads links count i) where
+-- by what the arrays are equal to
+pub standing-as : {h first last keys order first₁ last₁ keys₁ order₁ : List ℕ} {count count₁ i : ℕ}
+    → first₁ ≡ first → last₁ ≡ last → keys₁ ≡ keys → order₁ ≡ order → count₁ ≡ count
+    → Standing h first last keys order count i → Standing h first₁ last₁ keys₁ order₁ count₁ i
+standing-as {h} {first} {last} {keys} {order} {first₁} {last₁} {keys₁} {order₁} {count} {count₁} {i} f l k o c S =
+    subst (λ (x : ℕ). Standing h first₁ last₁ keys₁ order₁ x i) (sym c)
+    (subst (λ (x : List ℕ). Standing h first₁ last₁ keys₁ x count i) (sym o)
+    (subst (λ (x : List ℕ). Standing h first₁ last₁ x order count i) (sym k)
+    (subst (λ (x : List ℕ). Standing h first₁ x keys order count i) (sym l)
+    (subst (λ (x : List ℕ). Standing h x last keys order count i) (sym f) S))))
+
+module _ {h first last keys order : List ℕ} {count i : ℕ} (S : Standing h first last keys order count i) where
   abbrev roles : List Role
   roles = rolesOf h
 
   at-most : length h / 80 ≤ 720
   at-most = good-cards (length h) (S .good)
+
+  pub first-long : length first ≡ places
+  first-long = ap length (S .first-is) ∙ length-filled free places (S .t .first) (omega (arith, S .small, S .within, at-most))
 
   pub last-long : length last ≡ places
   last-long =
@@ -225,7 +255,7 @@ module _ {h first last marks heads links : List ℕ} {count i : ℕ} (S : Standi
     on-last is = at-last roles (drop (i + 1) roles) i (S .t) ∙ left-by end-card is
 
     -- a card that is no entry changes nothing
-    passed : rest roles (drop (i + 1) roles) (suc i) (S .t) ≡ listOf h → Standing h first last marks heads links count (i + 1)
+    passed : rest roles (drop (i + 1) roles) (suc i) (S .t) ≡ listOf h → Standing h first last keys order count (i + 1)
     passed e =
         record {
           t = S .t;
@@ -236,89 +266,76 @@ module _ {h first last marks heads links : List ℕ} {count i : ℕ} (S : Standi
           count-is = S .count-is;
           alike = S .alike;
           small = omega (arith, S .small);
-          entries = S .entries;
-          marked = S .marked;
+          rowed = S .rowed;
+          ordered = S .ordered;
           left = left-next (S .t) e;
         }
 
-    pub on-more : (s : List ℕ) (c : Comment) → more s c ≡ roleNo h i → Standing h first last marks heads links count (i + 1)
+    pub on-more : (s : List ℕ) (c : Comment) → more s c ≡ roleNo h i → Standing h first last keys order count (i + 1)
     on-more s c is = passed (next-more roles (drop (i + 1) roles) i (S .t) s c ∙ left-by (more s c) is)
 
-    pub on-neutral : neutral ≡ roleNo h i → Standing h first last marks heads links count (i + 1)
+    pub on-neutral : neutral ≡ roleNo h i → Standing h first last keys order count (i + 1)
     on-neutral is = passed (next-neutral roles (drop (i + 1) roles) i (S .t) ∙ left-by neutral is)
 
     -- an entry goes to its name's place, or behind the others
-    module _ (name : List ℕ) (held : Held) (is : entry name held ≡ roleNo h i) where
-      abbrev own : IsEntry h i
-      own = record { within = next; name = name; held = held; is = sym is }
+    pub ready : Ready count first last keys order
+    ready = record { ordered = S .ordered; first-long = first-long; last-long = last-long; room = room }
 
-      pub ready : Ready h name i count first last marks heads links
-      ready =
-          record {
-            own = record { only = λ other e. sym (same-eq name other (sym (bears-is h i other own) ∙ e)) };
-            marked = S .marked;
-            last-long = last-long;
-            room = room;
-          }
-
+    module _ (own : IsEntry h i) where
       -- its place in the table
       abbrev own-place : Place
-      own-place = placeIn roles name (S .t .first) 0
+      own-place = placeIn roles (own .name) (S .t .first) 0
 
-      -- the place by the arrays is the table's
-      place-so : placeBy h name (take count first) 0 ≡ own-place
-      place-so =
-          ap (λ (l : List ℕ). placeBy h name l 0) (ap₂ take (S .count-is) (S .first-is) ∙ take-filled free places (S .t .first))
-          ∙ place-is h name (S .entries) 0
+      -- the place by the keys is the table's
+      place-so : keyPlace (keyOf (own .name)) keys count 0 ≡ own-place
+      place-so = ap (λ (n : ℕ). keyPlace (keyOf (own .name)) keys n 0) (S .count-is) ∙ place-is own (S .rowed)
 
       -- the table then, by the place
       left-so : (p : Place) → own-place ≡ p → (u : Table) → ((then : Table → Listed) → put p i (S .t) then ≡ then u)
           → rest roles (drop (i + 1) roles) (i + 1) u ≡ listOf h
       left-so p e u becomes =
           left-next u
-          (next-entry roles (drop (i + 1) roles) i (S .t) name held u (λ then. ap (λ (q : Place). put q i (S .t) then) e ∙ becomes then)
-          ∙ left-by (entry name held) is)
+          (next-entry roles (drop (i + 1) roles) i (S .t) (own .name) (own .held) u
+          (λ then. ap (λ (q : Place). put q i (S .t) then) e ∙ becomes then)
+          ∙ left-by (entry (own .name) (own .held)) (sym (own .is)))
 
-      module _ {n : Insertion} {marks₁ heads₁ links₁ : List ℕ} (E : Entered h name i count first last n marks₁ heads₁ links₁) where
-        by-place : (p : Place) → own-place ≡ p → n ≡ insertAt p i count first last
-        unfolding insertOf
-        by-place p e = E .inserted ∙ ap (λ (q : Place). insertAt q i count first last) (place-so ∙ e)
+      module _ {n : ℕ} {first₁ last₁ keys₁ order₁ : List ℕ}
+          (E : Entered (own .name) i count first last keys (arraysBy n first₁ last₁) keys₁ order₁) where
+        by-place : (p : Place) → own-place ≡ p → arraysBy n first₁ last₁ ≡ arraysAt p i count first last
+        by-place p e = E .put ∙ ap (λ (q : Place). arraysAt q i count first last) (place-so ∙ e)
 
-        marked-by : (k : ℕ) → n .answer ≡ Names k → Marked h (n .first) marks₁ heads₁ links₁ k
-        marked-by k e = subst (λ (a : Inserted). Marked h (n .first) marks₁ heads₁ links₁ (namesIn a)) e (E .marked)
+        -- the keys of the places before stay, and the key of the entry stands behind them
+        rowed-so : Rowed h keys₁ 0 (S .t .first)
+        rowed-so =
+            rowed-by (S .rowed)
+            (λ j p. ap (λ (l : List ℕ). rowAt l j) (E .rows) ∙ row-other keys (keyOf (own .name)) count j (omega (arith, S .count-is)))
 
-        -- so the arrays hold the next table
-        pub record Next : Type 0 where
-          pub count₁ : ℕ
-          pub named : n .answer ≡ Names count₁
-          pub standing : Standing h (n .first) (n .last) marks₁ heads₁ links₁ count₁ (i + 1)
+        own-row : rowAt keys₁ count ≡ keyOf (own .name)
+        own-row =
+            ap (λ (l : List ℕ). rowAt l count) (E .rows)
+            ∙ row-own keys (keyOf (own .name)) count (length-key (own .name)) (omega (arith, room, S .ordered .keys-long))
 
-        at-place : (k : ℕ) → own-place ≡ At k → Next
+        at-place : (k : ℕ) → own-place ≡ At k → Standing h first₁ last₁ keys₁ order₁ n (i + 1)
         at-place k e =
             let so = by-place (At k) e in
-            let named : n .answer ≡ Names count = ap (λ (x : Insertion). x .answer) so in
-            let under : k < length (S .t .first) = place-within h name (S .t .first) k (place-is h name (S .entries) 0 ∙ e) in
+            let under : k < 0 + length (S .t .first) =
+            subst (Under (0 + length (S .t .first))) e (place-under roles (own .name) (S .t .first) 0) in
             let long : length (set (S .t .last) k i) ≡ length (S .t .last) = length-set (S .t .last) k i in
             record {
-              count₁ = count;
-              named = named;
-              standing =
-                  record {
-                    t = putAgain (S .t) k i;
-                    within = omega arith;
-                    good = S .good;
-                    first-is = ap (λ (x : Insertion). x .first) so ∙ S .first-is;
-                    last-is =
-                        ap (λ (x : Insertion). x .last) so
-                        ∙ ap (λ (l : List ℕ). set l k i) (S .last-is)
-                        ∙ set-filled free places (S .t .last) k i (omega (arith, S .alike));
-                    count-is = S .count-is;
-                    alike = long ∙ S .alike;
-                    small = omega (arith, S .small);
-                    entries = S .entries;
-                    marked = marked-by count named;
-                    left = left-so (At k) e (putAgain (S .t) k i) (λ then. refl);
-                  };
+              t = putAgain (S .t) k i;
+              within = omega arith;
+              good = S .good;
+              first-is = ap (λ (x : Arrays). x .first) so ∙ S .first-is;
+              last-is =
+                  ap (λ (x : Arrays). x .last) so
+                  ∙ ap (λ (l : List ℕ). set l k i) (S .last-is)
+                  ∙ set-filled free places (S .t .last) k i (omega (arith, S .alike));
+              count-is = ap (λ (x : Arrays). x .names) so ∙ S .count-is;
+              alike = long ∙ S .alike;
+              small = omega (arith, S .small);
+              rowed = rowed-so;
+              ordered = E .ordered;
+              left = left-so (At k) e (putAgain (S .t) k i) (λ then. refl);
             }
 
         -- the arrays with one place more
@@ -326,40 +343,34 @@ module _ {h first last marks heads links : List ℕ} {count i : ℕ} (S : Standi
         put-in l v is e =
             ap₂ (λ (x : List ℕ) (k : ℕ). set x k i) is e ∙ filled-put free places v i (omega (arith, room))
 
-        at-free : own-place ≡ Nowhere → Next
+        at-free : own-place ≡ Nowhere → Standing h first₁ last₁ keys₁ order₁ n (i + 1)
         at-free e =
-            let behind = put-behind i count first last (omega (arith, S .marked .first-long, room)) (omega (arith, last-long, room)) in
-            let so : n ≡ insertionBy (Names (count + 1)) (set first count i) (set last count i) = by-place Nowhere e ∙ sym behind in
-            let named : n .answer ≡ Names (count + 1) = ap (λ (x : Insertion). x .answer) so in
+            let so = by-place Nowhere e in
             let more-first : length (S .t .first ++ i ∷ []) ≡ length (S .t .first) + 1 = length-append (S .t .first) (i ∷ []) in
             let more-last : length (S .t .last ++ i ∷ []) ≡ length (S .t .last) + 1 = length-append (S .t .last) (i ∷ []) in
             let under = lt-ltb (length (S .t .first)) places (omega (arith, S .count-is, room)) in
+            let names : n ≡ count + 1 = ap (λ (x : Arrays). x .names) so in
+            let behind : 0 + length (S .t .first) ≡ count = omega (arith, S .count-is) in
             record {
-              count₁ = count + 1;
-              named = named;
-              standing =
-                  record {
-                    t = putNew (S .t) i;
-                    within = omega arith;
-                    good = S .good;
-                    first-is = ap (λ (x : Insertion). x .first) so ∙ put-in first (S .t .first) (S .first-is) (S .count-is);
-                    last-is =
-                        ap (λ (x : Insertion). x .last) so ∙ put-in last (S .t .last) (S .last-is) (S .count-is ∙ sym (S .alike));
-                    count-is = omega (arith, S .count-is);
-                    alike = omega (arith, S .alike);
-                    small = omega (arith, S .small);
-                    entries = entries-put h (S .entries) own;
-                    marked = marked-by (count + 1) named;
-                    left = left-so Nowhere e (putNew (S .t) i) (λ then. free-so (then (putNew (S .t) i)) _ under);
-                  };
+              t = putNew (S .t) i;
+              within = omega arith;
+              good = S .good;
+              first-is = ap (λ (x : Arrays). x .first) so ∙ put-in first (S .t .first) (S .first-is) (S .count-is);
+              last-is = ap (λ (x : Arrays). x .last) so ∙ put-in last (S .t .last) (S .last-is) (S .count-is ∙ sym (S .alike));
+              count-is = omega (arith, S .count-is);
+              alike = omega (arith, S .alike);
+              small = omega (arith, S .small);
+              rowed = rowed-put rowed-so own (ap (rowAt keys₁) behind ∙ own-row);
+              ordered = E .ordered;
+              left = left-so Nowhere e (putNew (S .t) i) (λ then. free-so (then (putNew (S .t) i)) _ under);
             }
           where
             free-so : (x : Listed) (b : Bool) → b ≡ true → cond b x (full i) ≡ x
             free-so x b d = rw d
 
-        pub on-entry : Next
+        pub on-entry : Standing h first₁ last₁ keys₁ order₁ n (i + 1)
         on-entry = go own-place refl
           where
-            go : (p : Place) → own-place ≡ p → Next
+            go : (p : Place) → own-place ≡ p → Standing h first₁ last₁ keys₁ order₁ n (i + 1)
             go (At k) e = at-place k e
             go Nowhere e = at-free e

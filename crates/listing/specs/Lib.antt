@@ -2,4 +2,4 @@
 pub mod Listing
 pub mod Inserting
 -- What private contracts cite alone.
-pub mod Marks
+pub mod Keys

@@ -1,11 +1,14 @@
 // The names of a header in the order of their first cards, each with its last entry.
 ghost use mathlib.Core.Path.{_≡_};
-ghost use lib.ListN.{take};
+ghost use Prim.Native.Nat.{_+_, _*_, _<_, _≤_};
+ghost use lib.ListN.{length, take};
+ghost use lib.Seq.{sets};
 ghost use Rattle.text.specs.Text.{bytesOf};
 ghost use Rattle.entries.specs.Answers.{leftBy};
-ghost use Rattle.listing.specs.Listing.{empty, tabled, listOf, placeOfEntry};
+ghost use Rattle.listing.specs.Listing.{places, empty, tabled, listOf, placeOfEntry};
 ghost use Rattle.listing.specs.Inserting.{bearsOf, placeBy, insertionBy, insertAt, insertOf};
-ghost use Rattle.listing.specs.Marks.{markOf, Marked, Ready, Entered};
+ghost use Rattle.listing.specs.Keys.{courseOf, bytesOfWord, wordsOfKey, wordOf, keyOf, isBefore, rowAt};
+ghost use Rattle.listing.specs.Keys.{Ordered, Parted, Slid, Ready, arraysBy, Entered};
 use card::CARD;
 use card::KEYWORD;
 use entries::Looked;
@@ -39,13 +42,21 @@ pub const PLACES: usize = MOST_CARDS;
 // What stands at a free place: no card has this number.
 const FREE: usize = MOST_CARDS;
 
-// The mark of a name is a number of 64 bits: for each byte its lower half is multiplied by MARK_FACTOR, and its upper half is added.
-const MARK_FACTOR: usize = 4294957665;
+// The bytes of a word, and the words of a key: a name has at most 80 bytes.
+const BYTES: usize = 9;
 
-const MARK_HALF: usize = 4294967296;
+const WORDS: usize = 9;
 
-// A mark is in one of so many buckets, by its remainder.
-const BUCKETS: usize = 256;
+// How many bytes ASCII has. A word is a number to the base 129: a digit is a byte + 1, and 0 is no byte.
+const ASCII: usize = 128;
+
+const BASE: usize = ASCII + 1;
+
+// What a card comes to in the list: the reading goes on, with an entry or without, or it stops.
+enum Course {
+    On { entry: bool },
+    Stops,
+}
 
 // The names of a header, in the order of their first cards: each card is read once.
 pub fn list(header: &[u8]) -> Listing
@@ -57,52 +68,30 @@ pub fn list(header: &[u8]) -> Listing
     }
     let mut first = [FREE; 720];
     let mut last = [FREE; 720];
-    let mut marks: [usize; 720] = [0; 720];
-    let mut heads: [usize; 256] = [0; 256];
-    let mut links: [usize; 720] = [0; 720];
+    let mut keys: [usize; 6480] = [0; 6480];
+    let mut order = [0u16; 720];
     let mut count: usize = 0;
     let mut i: usize = 0;
-    'cards: while i < cards {
+    while i < cards {
         let card = roles::card_at(header, i);
         let answer = card.answer;
-        let role = roles::role_of(answer);
         let name = card.name;
-        match role {
-            Role::Refused(fault) => {
-                return refused(finding::stop_at(fault, i));
-            }
-            Role::Last => {
+        let role = roles::role_of(answer);
+        let Course::On { entry } = course_of(role) else {
+            let Role::Refused(fault) = role else {
                 return Listing {
                     header: Header::Accepted(i),
                     first: first,
                     last: last,
                     count: count,
                 };
-            }
-            Role::Entry { value: _, joins: _ } => {
-                let Inserted::Names(n) = enter(
-                    header,
-                    name,
-                    i,
-                    count,
-                    &mut first,
-                    &mut last,
-                    &mut marks,
-                    &mut heads,
-                    &mut links,
-                ) else {
-                    return refused(finding::stop_at(refusal::fault_of(Refusal::TableFull), i));
-                };
-                count = n;
-                i += 1;
-            }
-            Role::More => {
-                i += 1;
-            }
-            Role::Neutral => {
-                i += 1;
-            }
+            };
+            return refused(finding::stop_at(fault, i));
+        };
+        if entry {
+            count = enter(name, i, count, &mut first, &mut last, &mut keys, &mut order);
         }
+        i += 1;
     }
     refused(finding::stop_at(refusal::fault_of(Refusal::NoEnd), cards))
 }
@@ -215,76 +204,138 @@ fn insert_at(
     }
 }
 
-// The mark of a name: equal names have equal marks.
-fn mark(name: &[u8]) -> usize
-    ensures { λ r. ⌜ r ≡ markOf (now (name .entry)) ⌝ }
+// What a card comes to by its role.
+fn course_of(role: Role) -> Course
+    ensures { λ r. ⌜ r ≡ courseOf role ⌝ }
 {
-    let mut m: usize = 0;
-    let mut k: usize = 0;
-    while k < name.len() {
-        m = m % MARK_HALF * MARK_FACTOR + m / MARK_HALF + name[k] as usize;
-        k += 1;
+    match role {
+        Role::Entry { value: _, joins: _ } => Course::On { entry: true },
+        Role::More => Course::On { entry: false },
+        Role::Neutral => Course::On { entry: false },
+        Role::Last => Course::Stops,
+        Role::Refused(_) => Course::Stops,
     }
-    m
 }
 
-// The entry of card i put into a table whose places are found by their marks. A new name's place is the last of its bucket.
+// Puts the entry of card i at its name's place among the first count, or behind them, and answers the number of names then. The
+// name's key is stored behind the last place first: if the name is new, it stays there.
 fn enter(
-    header: &[u8],
     text: Text,
     i: usize,
     count: usize,
     first: &mut [usize],
     last: &mut [usize],
-    marks: &mut [usize],
-    heads: &mut [usize],
-    links: &mut [usize],
-) -> Inserted
-    requires { ⌜ Ready (now header) (bytesOf text) i count (now first) (now last) (now marks) (now heads) (now links) ⌝ }
-    ensures { λ r. ⌜ Entered (now (header .entry)) (bytesOf text) i count (now (first .entry)) (now (last .entry))
-        (insertionBy r (now (first .exit)) (now (last .exit))) (now (marks .exit)) (now (heads .exit)) (now (links .exit)) ⌝ }
+    keys: &mut [usize],
+    order: &mut [u16],
+) -> usize
+    requires { ⌜ Ready count (now first) (now last) (now keys) (now order) ⌝ }
+    ensures { λ r. ⌜ Entered (bytesOf text) i count (now (first .entry)) (now (last .entry)) (now (keys .entry))
+        (arraysBy r (now (first .exit)) (now (last .exit))) (now (keys .exit)) (now (order .exit)) ⌝ }
 {
     let bytes = text.bytes;
-    let name = text::first_of(&bytes, text.len);
-    let sought = mark(name);
-    let place = find_marked(header, name, sought, first, marks, heads, links, count);
-    let answer = insert_at(place, i, count, first, last);
-    let Place::Nowhere = place else {
-        return answer;
-    };
-    let bucket = sought % BUCKETS;
-    marks[count] = sought;
-    links[count] = heads[bucket];
-    heads[bucket] = count + 1;
-    answer
+    put_key(text::first_of(&bytes, text.len), keys, count * WORDS);
+    let at = count_before(keys, order, count);
+    if at < count {
+        let k = order[at] as usize;
+        if !row_before(keys, count, k) {
+            last[k] = i;
+            return count;
+        }
+    }
+    put_between(order, at, count, count as u16);
+    first[count] = i;
+    last[count] = i;
+    count + 1
 }
 
-// The place among the first count whose card bears the name: its bucket is walked from the last place on, and a card is compared
-// only if the marks agree. Heads and links hold a place + 1; 0 ends the chain.
-fn find_marked(
-    header: &[u8],
-    name: &[u8],
-    sought: usize,
-    first: &[usize],
-    marks: &[usize],
-    heads: &[usize],
-    links: &[usize],
-    count: usize,
-) -> Place
-    requires { ⌜ sought ≡ markOf (now name) ⌝ }
-    requires { ⌜ Marked (now header) (now first) (now marks) (now heads) (now links) count ⌝ }
-    ensures { λ r. ⌜ r ≡ placeBy (now (header .entry)) (now (name .entry)) (take count (now (first .entry))) 0 ⌝ }
+// ---- keys
+
+// At most 9 bytes as one number, the first byte its lowest digit.
+fn word_of(piece: &[u8]) -> usize
+    requires { ⌜ length (now piece) ≤ bytesOfWord ⌝ }
+    ensures { λ r. ⌜ r ≡ wordOf (now (piece .entry)) ⌝ }
 {
-    let bucket = sought % BUCKETS;
-    let mut end = heads[bucket];
-    while 0 < end {
-        let k = end - 1;
-        if marks[k] == sought {
-            if bears(header, first[k], name) {
-                return Place::At(k);
-            }
-        }
-        end = links[k];
+    let mut word: usize = 0;
+    let mut k = piece.len();
+    while 0 < k {
+        k -= 1;
+        let b = piece[k] as usize;
+        word = word * BASE + b % ASCII + 1;
     }
-    Place::Nowhere
+    word
+}
+
+// Stores the key of a name in the words from a number on.
+fn put_key(name: &[u8], keys: &mut [usize], at: usize)
+    requires { ⌜ at + wordsOfKey ≤ length (now keys) ⌝ }
+    ensures { λ _. ⌜ now (keys .exit) ≡ sets (now (keys .entry)) at (keyOf (now (name .entry))) ⌝ }
+{
+    let mut q: usize = 0;
+    while q < WORDS {
+        let start = q * BYTES;
+        keys[at + q] = word_of(text::first_of(text::rest_of(name, start), BYTES));
+        q += 1;
+    }
+}
+
+// Whether a key comes before another: by the first word in which they differ.
+fn is_before(s: &[usize], t: &[usize]) -> bool
+    ensures { λ r. ⌜ r ≡ isBefore (now (s .entry)) (now (t .entry)) ⌝ }
+{
+    let mut q: usize = 0;
+    while q < s.len() && q < t.len() {
+        if s[q] != t[q] {
+            return s[q] < t[q];
+        }
+        q += 1;
+    }
+    false
+}
+
+// Whether the key of a place comes before that of another.
+fn row_before(keys: &[usize], place: usize, other: usize) -> bool
+    requires { ⌜ place * wordsOfKey + wordsOfKey ≤ length (now keys) ⌝ }
+    requires { ⌜ other * wordsOfKey + wordsOfKey ≤ length (now keys) ⌝ }
+    ensures { λ r. ⌜ r ≡ isBefore (rowAt (now (keys .entry)) place) (rowAt (now (keys .entry)) other) ⌝ }
+{
+    let start = place * WORDS;
+    let end = start + WORDS;
+    let other_start = other * WORDS;
+    let other_end = other_start + WORDS;
+    is_before(&keys[start..end], &keys[other_start..other_end])
+}
+
+// ---- the order of the places by their keys
+
+// How many of the places come before the key that stands behind them, by halving.
+fn count_before(keys: &[usize], order: &[u16], count: usize) -> usize
+    requires { ⌜ Ordered (now keys) (now order) count ⌝ }
+    requires { ⌜ count < places ⌝ }
+    ensures { λ r. ⌜ Parted (now (keys .entry)) (now (order .entry)) count r ⌝ }
+{
+    let mut low: usize = 0;
+    let mut high = count;
+    'halves: while low < high {
+        let mid = low + (high - low) / 2;
+        if row_before(keys, order[mid] as usize, count) {
+            low = mid + 1;
+            continue 'halves;
+        }
+        high = mid;
+    }
+    low
+}
+
+// Puts a place into the order at a number; the later ones of the first n move up by one.
+fn put_between(order: &mut [u16], at: usize, n: usize, place: u16)
+    requires { ⌜ at ≤ n ⌝ }
+    requires { ⌜ n < length (now order) ⌝ }
+    ensures { λ _. ⌜ Slid (now (order .entry)) at n place (now (order .exit)) ⌝ }
+{
+    let mut j = n;
+    while at < j {
+        order[j] = order[j - 1];
+        j -= 1;
+    }
+    order[at] = place;
 }

@@ -9,8 +9,7 @@ use lib.Seq.{getD-take}
 use borrow.Author.Needs.{needs}
 use Rattle.text.specs.declared.Place.the-variants.{Nowhere}
 use Rattle.listing.specs.Inserting.{bearsOf, placeBy}
-use Rattle.listing.specs.Marks.{bearsAt}
-use Rattle.listing.proofs.Bearing.{place-here, place-later, place-nowhere}
+use Rattle.listing.proofs.Bearing.{bearsAt, place-here, place-later, place-nowhere}
 use Rattle.listing.proofs.find_place.Statement.{statement}
 use Rattle.listing.proofs.find_place.Tie as tie
 
