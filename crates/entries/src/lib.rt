@@ -272,7 +272,8 @@ fn join_card(
             return held;
         }
         Role::Refused(fault) => {
-            return reached(held, Reach::Met(finding::stop_at(fault, j)));
+            let stop = finding::stop_at(fault, j);
+            return reached(held, Reach::Met(stop));
         }
         _ => {
             return reached(held, Reach::Ended);
