@@ -100,9 +100,10 @@ fn dotted(card: &[u8; CARD]) -> Keyword {
     }
 }
 
-/// Whether a refused card is met while the entry at a card's number is joined. This is asked before there is a want of room.
-fn meets_refused(cards: &[u8], number: usize) -> bool {
-    matches!(boundary::entry(cards, number, &mut [], &mut [], &mut Told::default()), 1..=8)
+/// Whether a refused card is met while the first of these cards, an entry, is joined. This is asked before there is a want of room, and of
+/// no more cards than stand between the two: what joining takes goes with their number.
+fn meets_refused(cards: &[u8]) -> bool {
+    matches!(boundary::entry(cards, 0, &mut [], &mut [], &mut Told::default()), 1..=8)
 }
 
 impl Touched {
@@ -153,7 +154,8 @@ impl ReadOn {
                 Ok(_) => (),
                 Err(refusal) => {
                     let refusal = Refusal { card: Some(number), ..refusal };
-                    if let Some((_, name)) = last.take().filter(|(entry, _)| meets_refused(cards, *entry)) {
+                    let before = |entry: usize| cards.get(entry * CARD..(number + 1) * CARD).unwrap_or_default();
+                    if let Some((_, name)) = last.take().filter(|(entry, _)| meets_refused(before(*entry))) {
                         touched.add_name(name, refusal);
                     }
                     touched.add(card, refusal);
