@@ -11,6 +11,9 @@ use crate::{ours, theirs};
 /// What takes a part's name and a case, and says whether more are wanted.
 pub type Visit<'a> = &'a mut dyn FnMut(&'static str, &[[u8; 80]]) -> bool;
 
+/// The most cards of a header of which every entry is asked for by its card.
+const FEW: usize = 60;
+
 /// The most cards of a header.
 pub const MOST_CARDS: usize = 720;
 
@@ -213,10 +216,25 @@ fn smallest(header: &[[u8; 80]], holds: &dyn Fn(&[[u8; 80]]) -> bool) -> Vec<[u8
     best
 }
 
+/// Whether an entry by a card's number is another one than the model's, in a header of any kind, behind END and of refused cards too.
+fn entries_differ(model: Model, header: &[[u8; 80]]) -> bool {
+    let mut lent = ours::Lent::new();
+    header.len() < FEW
+        && (0..header.len()).any(|at| {
+            let expected = model.entry_at(header, at);
+            let name = expected.as_ref().map_or(Vec::new(), |entry| entry.name.clone());
+            let told = lent.entry(header.as_flattened(), ours::Asked::Card(at), &name);
+            lent.clear(0, 0);
+            told != expected.map_err(|(number, card)| (number, card.unwrap_or(usize::MAX)))
+        })
+}
+
 fn different(header: &[[u8; 80]]) -> bool {
     let model = Model(Fault::None);
     let mine = mine(header);
-    mine != model.header(header, |c| model.card(c)) || (aside(header).is_none() && judge(header, &mine))
+    mine != model.header(header, |c| model.card(c))
+        || (aside(header).is_none() && judge(header, &mine))
+        || entries_differ(model, header)
 }
 
 /// One case.

@@ -77,6 +77,34 @@ impl Model {
         Header::Entries(list.entries)
     }
 
+    /// The entry at a card's number, or the refusal with the card that it carries. A refused card counts where it is met: at that number,
+    /// or while the string is open.
+    pub fn entry_at(self, cards: &[[u8; 80]], at: usize) -> Result<Entry, (u8, Option<usize>)> {
+        let mut list = Listing { entries: Vec::new(), dotted: Vec::new(), open: None };
+        match self.card(&cards[at]) {
+            Card::Value(entry) => self.put(&mut list, entry, false),
+            Card::Hierarch(entry) => self.put(&mut list, entry, true),
+            Card::Xtension(text) => {
+                let name = b"XTENSION".to_vec();
+                return Ok(Entry { name, value: Value::Text(text), comment: None, unit: None });
+            }
+            Card::Refused(number) => return Err((number, Some(at))),
+            _ => return Err((12, None)),
+        }
+        for (number, bytes) in cards.iter().enumerate().skip(at + 1) {
+            if list.open.is_none() {
+                break;
+            }
+            match self.card(bytes) {
+                Card::Continue(text, comment) => self.go_on(&mut list, text, comment),
+                Card::Refused(refusal) => return Err((refusal, Some(number))),
+                Card::Value(_) | Card::Hierarch(_) | Card::Xtension(_) | Card::End => break,
+                _ => (),
+            }
+        }
+        Ok(list.entries.remove(0))
+    }
+
     fn close_if(self, list: &mut Listing, fault: Fault) {
         if self.has(fault) {
             list.open = None;

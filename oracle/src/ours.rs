@@ -156,7 +156,7 @@ impl Lent {
         far(&self.text, text) && far(&self.comment, comment)
     }
 
-    fn clear(&mut self, text: usize, comment: usize) {
+    pub fn clear(&mut self, text: usize, comment: usize) {
         self.text[..text].fill(BEFORE);
         self.comment[..comment].fill(BEFORE);
         self.told.digits = [BEFORE; DIGITS];
