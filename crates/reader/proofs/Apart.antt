@@ -12,18 +12,18 @@ use base.Fml.{Lft, Share, Fml, ftrue, flft}
 use prog.Wp.{Heap}
 use ghost.Atoms.{Atoms, sem}
 use contract.Lifetimes.{Lfts}
-use types.Kit.{Item, Goal, Step, Given, ‵, _⊛_, given, _$_, _∵_, !, qed, move, drop, use1, split, learn, frame, done}
+use types.Kit.{Item, Goal, Step, Given, ‵, _⊛_, given, _$_, _∵_, !, qed, by, move, drop, use1, split, learn, frame, done}
 use denote.RattleType.{RattleType}
 use denote.Laws.{Is}
 use denote.Plain.{uint-makes}
 use denote.Builtin.{u8, usize}
-use denote.Ref.{RefT}
-use denote.Signature.{namedLft}
+use denote.Ref.{RefT, NamedLft}
+use denote.Signature.{Slot, plain, namedLft}
 use denote.Slice.{sliceVal, ShrSlice}
 use denote.Steps.{owned}
 use denote.Struct.Declared.{Declared}
 use denote.Struct.Laws as LL
-use denote.Struct.Rest.{all-own, ownAt, rest, own-open, own-out}
+use denote.Struct.Rest.{all-own, ownAt, rest, own-open, own-out, own-put}
 use denote.Struct.Values.{Values}
 use Rattle.reader.specs.declared.Reader.{Reader}
 use Rattle.reader.proofs.Reader as T
@@ -38,6 +38,27 @@ D κs = T.the-type (namedLft 1 0 tt κs)
 
 abbrev pub L : (κs : Lfts 1) → LL.Laws (D κs)
 L κs = T′.the-laws (namedLft 1 0 tt κs)
+
+-- the same where the struct is lent by a `&mut`: its lifetime is then the signature's second
+abbrev α : Lft → NamedLft
+α κ = record { mir = named 1; lft = κ }
+
+abbrev pub R : Lft → RattleType
+R κ = T.the-row (α κ)
+
+abbrev pub Rd : Lft → Declared
+Rd κ = T.the-type (α κ)
+
+abbrev pub Rl : (κ : Lft) → LL.Laws (Rd κ)
+Rl κ = T′.the-laws (α κ)
+
+-- `Reader<'a>`, as the referent's place in the signature
+abbrev pub lent : Slot 2
+lent = plain (λ κs. T.the-row (namedLft 2 1 tt κs))
+
+-- a reader at another place
+abbrev pub moved : Reader → ℕ → Reader
+moved d m = record { tile = d .tile; bit = m }
 
 -- the machine value of a tile
 abbrev pub tileVal : RefT (List ℕ) → Val
@@ -78,6 +99,12 @@ module _ {M : Type 1} (𝓤 : URA M) (H : Heap 𝓤) (A : Atoms 𝓤) (W : Given
       (own-out 𝓤 H A W (D (κ, tt) .parts) (L (κ, tt)) 0 vd) $ split ! $
       -- [what the tile owns; what the bit owns; what the struct owns]
       move ! (1 ∷ []) $ drop ! $ frame ! $ done !)
+
+  -- another number takes the place of the bit: the tile's part is kept, and the number's facts are made anew
+  pub again : (m : ℕ) → m < 2 ^ 64 → ent 𝓤 (sem 𝓤 H A (Own κ d)) (sem 𝓤 H A (Own κ (moved d m)))
+  again m fits =
+      qed W (‵ (Own κ d) ∷ []) ∵ owned ! usize (Is usize) (uint-makes 𝓤 H A W w64) m (vint w64 m ∷ []) (refl, fits) $ move ! (1 ∷ 0 ∷ []) $
+      by ! (own-put 𝓤 H A W (D (κ, tt)) (L (κ, tt)) 1 vd m (T′.lowered d))
 
 module _ {M : Type 1} {𝓤 : URA M} {H : Heap 𝓤} {A : Atoms 𝓤} (W : Given 𝓤 H A) {K : Type 0} {Γ : List (Item 𝓤)} {G : Goal 𝓤 H} where
   -- a number is owned for nothing

@@ -25,3 +25,8 @@ fieldOf s p n = seen (takeOf s (atPlace p) n)
 -- the number of zeros from place p on, and the place after the one that ends them
 abbrev pub zerosOf : List ℕ → ℕ → Field
 zerosOf s p = seen (skipOf s (atPlace p))
+
+-- where a reader that stood at place p stands after a field: behind it, or still at p where it cannot be had
+abbrev pub behind : ℕ → Field → ℕ
+behind p (Bits u q) = q
+behind p Short = p

@@ -1,7 +1,7 @@
 // A reader over a tile's bytes that remembers its bit. Its functions are thin: each takes the struct apart and calls a function on the
 // slice and the numbers.
 ghost use mathlib.Core.Path.{_≡_};
-ghost use Rattle.reader.specs.Fields.{atPlace, fieldOf, zerosOf};
+ghost use Rattle.reader.specs.Fields.{atPlace, behind, fieldOf, zerosOf};
 use rice::Cursor;
 use rice::Taken;
 
@@ -31,25 +31,46 @@ pub fn place<'a>(r: Reader<'a>, bit: usize) -> Reader<'a>
     Reader { tile: r.tile, bit }
 }
 
-// The next n bits.
-pub fn take_bits<'a>(r: Reader<'a>, n: usize) -> Field
-    ensures { λ f. ⌜ f ≡ fieldOf (now (r .entry .tile)) (r .entry .bit) n ⌝ }
+// The next n bits, and the reader moves past them. Where they cannot be had it stays.
+pub fn take_bits<'s, 'a>(r: &'s mut Reader<'a>, n: usize) -> Field
+    ensures { λ f. ⌜ (f ≡ fieldOf (now (now (r .entry) .tile)) (now (r .entry) .bit) n)
+        × (now (r .exit) .tile ≡ now (r .entry) .tile)
+        × (now (r .exit) .bit ≡ behind (now (r .entry) .bit) (fieldOf (now (now (r .entry) .tile)) (now (r .entry) .bit) n)) ⌝ }
 {
-    bits_at(r.tile, r.bit, n)
+    let bit = r.bit;
+    let field = bits_at(r.tile, bit, n);
+    r.bit = past(bit, field);
+    field
 }
 
-// Past the zeros that come next and the one after them, with the number of zeros.
-pub fn skip_zeros<'a>(r: Reader<'a>) -> Field
-    ensures { λ f. ⌜ f ≡ zerosOf (now (r .entry .tile)) (r .entry .bit) ⌝ }
+// The number of zeros that come next, and the reader moves past them and the one after them. Where no one comes it stays.
+pub fn skip_zeros<'s, 'a>(r: &'s mut Reader<'a>) -> Field
+    ensures { λ f. ⌜ (f ≡ zerosOf (now (now (r .entry) .tile)) (now (r .entry) .bit))
+        × (now (r .exit) .tile ≡ now (r .entry) .tile)
+        × (now (r .exit) .bit ≡ behind (now (r .entry) .bit) (zerosOf (now (now (r .entry) .tile)) (now (r .entry) .bit))) ⌝ }
 {
-    zeros_at(r.tile, r.bit)
+    let bit = r.bit;
+    let zeros = zeros_at(r.tile, bit);
+    r.bit = past(bit, zeros);
+    zeros
 }
 
 // The n bits from a place of a tile on, taken through a reader.
 pub fn field_at(tile: &[u8], bit: usize, n: usize) -> Field
     ensures { λ f. ⌜ f ≡ fieldOf (now (tile .entry)) bit n ⌝ }
 {
-    take_bits(place(new(tile), bit), n)
+    let mut r = place(new(tile), bit);
+    take_bits(&mut r, n)
+}
+
+// The place behind a field; the place where it was asked for if it cannot be had.
+fn past(bit: usize, field: Field) -> usize
+    ensures { λ r. ⌜ r ≡ behind bit field ⌝ }
+{
+    match field {
+        Field::Bits(_, next) => next,
+        Field::Short => bit,
+    }
 }
 
 // The cursor at a place.

@@ -24,7 +24,6 @@ use denote.RattleType.{owns}
 use denote.Plain.{uint-vals, uint-tells}
 use denote.Builtin.{usize}
 use denote.Struct.Laws as LL
-use denote.Struct.Rest.{own-put}
 use denote.Triple.Statement.{Contract}
 use denote.Triple.Entry.{Vals, onEntry}
 use denote.Triple.Spec.{Meets, tripleOf}
@@ -33,7 +32,7 @@ use denote.Triple.Clauses.{Clauses}
 use denote.Triple.Walked.{says, Stays, stay-none, walkOf, goes-none, Walks, ends-at, walked, walk-meets}
 use denote.Exit.{yes}
 use Rattle.reader.specs.declared.Reader.{Reader}
-use Rattle.reader.proofs.Apart.{B, D, L, Own, Typed, Token, twice, number}
+use Rattle.reader.proofs.Apart.{B, D, L, Own, Typed, Token, twice, moved, again}
 use Rattle.reader.proofs.Reader.Laws as T′
 use Rattle.reader.proofs.place.Key.{name as #reader·place}
 use Rattle.reader.proofs.place as place
@@ -55,9 +54,6 @@ module _ {M : Type 1} (𝓤 : URA M) (H : Heap 𝓤) (A : Atoms 𝓤) (mem : Mem
     abbrev mach : Val
     mach = T′.lowered d
 
-    abbrev made : Reader
-    made = record { tile = d .tile; bit = n }
-
     -- what the function is passed, and what it has at its entry
     abbrev at : Vals place.signature (κ, tt)
     at = (mach ∷ [], (vint w64 n ∷ [], tt))
@@ -71,16 +67,15 @@ module _ {M : Type 1} (𝓤 : URA M) (H : Heap 𝓤) (A : Atoms 𝓤) (mem : Mem
     abbrev Parts : List (Item 𝓤)
     Parts = Token 𝓤 κ q ∷ ‵ (owns (B (κ, tt) ∷ usize ∷ []) (d, (n, tt)) at) ∷ []
 
-    exits : ent 𝓤 Entry (Walk .post here (T′.lowered made))
+    exits : ent 𝓤 Entry (Walk .post here (T′.lowered (moved d n)))
     exits =
         qed W Parts ∵
-        suffices ! _ (ends-at 𝓤 H A place.ended stayed place-says W here (T′.lowered made) made (tt, (tt, tt)) (tt, (tt, tt))) $
+        suffices ! _
+        (ends-at 𝓤 H A place.ended stayed place-says W here (T′.lowered (moved d n)) (moved d n) (tt, (tt, tt)) (tt, (tt, tt))) $
         says ! (refl, refl) $ frame ! $ fsplit ! $
         use1 W (‵ (Own κ d) ⊛ ‵ (Own κ d)) (twice 𝓤 H A W κ d) $ split ! $
         move ! (0 ∷ 2 ∷ []) $ fjoin ! $ frame ! $
-        -- [what the struct owns]: the number's facts take the place of the bit's
-        number W ! n ok $ move ! (1 ∷ 0 ∷ []) $
-        by ! (own-put 𝓤 H A W (D (κ, tt)) (L (κ, tt)) 1 (d .tile, (d .bit, tt)) n mach)
+        by ! (again 𝓤 H A W κ d n ok)
 
     module _ (C : Calls 𝓤 H) (Λ : Loops 𝓤 H) where
       walk : Typed d → ent 𝓤 Entry (WpFn 𝓤 H C Λ code.function (mach ∷ vint w64 n ∷ []) (Walk .post here))
