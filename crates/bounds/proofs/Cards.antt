@@ -40,9 +40,11 @@ use Rattle.card.specs.declared.CardRead.{CardRead}
 use Rattle.card.specs.declared.Class.{Class}
 use Rattle.card.specs.declared.Class.the-variants as K
 use Rattle.card.specs.Keywords.{hasHigh, keywordOf, classOf, dottedName}
-use Rattle.card.specs.Cards.{cardRefused, cardAs, isWithinQuotes, spaceOr, remarkOf, emptyOf, stringCard, continued, continuationOf, quotedCard, inside, extended}
+use Rattle.card.specs.Cards.{cardRefused, cardAs, isWithinQuotes, spaceOr, remarkOf, emptyOf}
+use Rattle.card.specs.Cards.{stringCard, continued, continuationOf, quotedCard, inside, extended}
 use Rattle.card.specs.Cards.{extensionOf, cardWith, ofAnswer, ofValue, named, byEquals, hierarchOf, otherOf, byClass, cardOf}
-use Rattle.roles.specs.Roles.{Comment, Words, Role, entry, more, neutral, last, refused, hasText, isString, commentOf, roleBy, roleIn, roleRead, roleOf}
+use Rattle.roles.specs.Roles.{Comment, Words, Role, entry, more, neutral, last}
+use Rattle.roles.specs.Roles.{refused, hasText, isString, commentOf, roleBy, roleIn, roleRead, roleOf}
 use Rattle.entries.specs.Answers.{bytesIn}
 use Rattle.bounds.specs.Longest.{cardWords}
 use Rattle.bounds.proofs.Parts.{shownLen, ValueShort, split-short, bytes-len, string-short, value-short}
@@ -126,7 +128,8 @@ module _ (c : List ℕ) (whole : length c ≡ 80) where
             from 10 (omega arith),
           )
 
-      by : (b : Bool) → CardShort (cond b (cardAs C.Xtension name (textOf (trim isSpace (inside held)))) (cardRefused (faultOf R.ExtensionNotQuoted)))
+      by : (b : Bool) → CardShort
+          (cond b (cardAs C.Xtension name (textOf (trim isSpace (inside held)))) (cardRefused (faultOf R.ExtensionNotQuoted)))
       by true = record { text = text; comment = omega arith }
       by false = refused-short _
 
@@ -203,7 +206,8 @@ shown-short : (b : Bool) (t : Text) → cond b (t .len) 0 ≤ cardWords → leng
 shown-short true t h = omega (arith, bytes-len t)
 shown-short false t h = omega arith
 
-by-answer : (a : CardAnswer) (r : CardRead) → wordsLen a (r .text .len) ≤ cardWords → r .comment .len ≤ cardWords → RoleShort (roleIn (roleBy a) r)
+by-answer : (a : CardAnswer) (r : CardRead) → wordsLen a (r .text .len) ≤ cardWords → r .comment .len ≤ cardWords → RoleShort
+    (roleIn (roleBy a) r)
 by-answer (A.Read (C.Value v)) r h k = (shown-short (hasText v) (r .text) h, remark-short (r .commented) (r .comment) k)
 by-answer (A.Read (C.Hierarch v)) r h k = (shown-short (hasText v) (r .text) h, remark-short (r .commented) (r .comment) k)
 by-answer (A.Read C.Xtension) r h k = (shown-short true (r .text) h, remark-short (r .commented) (r .comment) k)

@@ -40,7 +40,8 @@ use Rattle.value.specs.declared.ValueAnswer.the-variants.{Read as Read-value, R
 use Rattle.value.specs.declared.ValueRead.{ValueRead}
 use Rattle.value.specs.declared.Start.{Start}
 use Rattle.value.specs.declared.Start.the-variants as St
-use Rattle.value.specs.Values.{keepsComment, valueAs, valueRefused, byQuotes, ofString, ofNumber, byStart, byBytes, startOf, valueWith, byParts, valueOf}
+use Rattle.value.specs.Values.{keepsComment, valueAs, valueRefused, byQuotes, ofString, ofNumber}
+use Rattle.value.specs.Values.{byStart, byBytes, startOf, valueWith, byParts, valueOf}
 use Rattle.roles.specs.Roles.{hasText}
 
 -- ---- splitting
@@ -124,7 +125,8 @@ as-short : (n : ℕ) (v : Value) (t : Text) (commented : Bool) (c : Text) → sh
     → ValueShort n (valueAs v t commented c)
 as-short n v t commented c a b =
     record {
-      text = λ (w : Value) (e : Read-value v ≡ Read-value w). let same : v ≡ w = cc in subst (λ (x : Value). shownLen x (t .len) ≤ n) same a;
+      text = λ (w : Value) (e : Read-value v ≡ Read-value w). let same : v ≡ w = cc in subst
+          (λ (x : Value). shownLen x (t .len) ≤ n) same a;
       comment = go (keepsComment v);
     }
   where
@@ -139,7 +141,8 @@ refused-short n f =
       comment = omega arith;
     }
 
-module _ (n : ℕ) (v : Text) (raw : List ℕ) (commented : Bool) (c : Text) (a : length (bytesOf v) ≤ n) (b : c .len ≤ n) (r : length raw ≤ n) where
+module _ (n : ℕ) (v : Text) (raw : List ℕ) (commented : Bool) (c : Text) (a : length (bytesOf v) ≤ n) (b : c .len ≤ n)
+    (r : length raw ≤ n) where
   started-short : (x : Start) → ValueShort n (byStart x v raw commented c)
   unfolding ofString ofNumber
   started-short St.Quote = go (stringOf (bytesOf v) .answer)

@@ -1,5 +1,5 @@
--- How long the text and the comment of an entry can be. A card has 72 bytes from byte 8 on, so its text and its comment have no more. A header
--- has 720 cards at most. Where one is joined to another, the & of the text before it goes, and a line feed stands between comments.
+-- How long the text and the comment of an entry can be. A card has 72 bytes from byte 8 on, so its text and its comment have no more. A
+-- header has 720 cards at most. Where one is joined to another, the & of the text before it goes, and a line feed stands between comments.
 use Prim.Native.Nat.{ℕ, _+_, _*_, _≤_}
 use mathlib.Core.Path.{_≡_}
 use mathlib.Core.List.{List}

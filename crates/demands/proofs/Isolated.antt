@@ -40,7 +40,8 @@ by-cards h a name text comment = ap (λ (x : Header). lookedUp x (rolesOf h) nam
 read-from : (h : List ℕ) (a : IsAccepted h) → headerFrom (rolesOf h) 0 ≡ Accepted (a .end)
 unfolding headerOf
 read-from h a =
-    sym (ap (λ (b : Bool). cond b (Refused (stopAt (faultOf R.HeaderLength) 0)) (headerFrom (rolesOf h) 0)) (accepted-good h (a .end) (a .accepted)))
+    sym (ap (λ (b : Bool). cond b (Refused (stopAt (faultOf R.HeaderLength) 0)) (headerFrom (rolesOf h) 0))
+    (accepted-good h (a .end) (a .accepted)))
     ∙ a .accepted
 
 -- its names are those that its cards give

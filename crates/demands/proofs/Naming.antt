@@ -104,7 +104,8 @@ entered seen q e h rest = go (isAmong (e .name) seen) refl
         → cond b (firstNames seen (effects q₁ (toEnd h))) (e .name ∷ firstNames (e .name ∷ seen) (effects q₁ (toEnd h)))
         ≡ cond b (namesFrom seen h) (e .name ∷ namesFrom (e .name ∷ seen) h)
     go true k = rest seen q₁ (seen-after seen q e k)
-    go false k = ap (λ (l : List (List ℕ)). e .name ∷ l) (rest (e .name ∷ seen) q₁ (seen-after (e .name ∷ seen) q e (itself (e .name) seen)))
+    go false k = ap (λ (l : List (List ℕ)). e .name ∷ l)
+        (rest (e .name ∷ seen) q₁ (seen-after (e .name ∷ seen) q e (itself (e .name) seen)))
 
 pub by-effects : (h : List Role) (seen : List (List ℕ)) (q : Open) → Seen seen q
     → firstNames seen (effects q (toEnd h)) ≡ namesFrom seen h
@@ -134,7 +135,8 @@ with-alike : (n : List ℕ) (seen : List (List ℕ)) (fs gs : List Effect) → A
 unfolding namesWith Alike
 with-alike n seen fs gs a = go (isAmong n seen)
   where
-    go : (b : Bool) → cond b (firstNames seen fs) (n ∷ firstNames (n ∷ seen) fs) ≡ cond b (firstNames seen gs) (n ∷ firstNames (n ∷ seen) gs)
+    go : (b : Bool) → cond b (firstNames seen fs) (n ∷ firstNames (n ∷ seen) fs) ≡ cond b (firstNames seen gs)
+        (n ∷ firstNames (n ∷ seen) gs)
     go true = a seen
     go false = ap (λ (l : List (List ℕ)). n ∷ l) (a (n ∷ seen))
 

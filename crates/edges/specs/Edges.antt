@@ -1,5 +1,6 @@
 -- The starred rows of document 01's table "Readings at the edges": one table and one statement, proved by computing.
--- A row is a card, a header of several cards in which KIT is looked up, or a tile. Rows of a header's entry by its card's number stand beside them.
+-- A row is a card, a header of several cards in which KIT is looked up, or a tile. Beside them stand rows of an entry by its card's
+-- number.
 use Prim.Native.Nat.{ℕ}
 use Prim.Native.Char.{code}
 use Prim.Native.String.{String}
@@ -51,8 +52,8 @@ use Rattle.rice.specs.Steps.{inLimits, widthOf, planOf, stands, stepOf, openOf,
 
 -- ---- what is read
 
--- a card by its keyword and its value text; a header by the texts of its cards; an entry by its card's number and these texts; a tile by its
--- width, its number of pixels and its bytes
+-- a card by its keyword and its value text; a header by the texts of its cards; an entry by its card's number and these texts; a tile by
+-- its width, its number of pixels and its bytes
 pub data Input : Type 0 where
   card : String → String → Input
   header : List String → Input
@@ -196,7 +197,8 @@ unfolding isSpace isBlank isPrintable isDigit isZero shown dToE trimStart leadin
     after scanFrom byteClass splitOf settledOf opened unopened stringOf isSign isNegative unsigned isDigits digitsValueFrom
     integerOf fractionOf afterFraction isMark writtenOf exponentOf scaled finiteOf lowered isWord decimalOf readNumber
     startsNumber startOf ofString ofNumber valueWith valueOf hasHigh classOf otherOf continuationOf cardOf
-    endsOpen addsNothing joinText joinComment opens joinWords joinOn lookup cardsIn isBadLength headerFrom headerOf written lookupOf metOn entryOf
+    endsOpen addsNothing joinText joinComment opens joinWords joinOn lookup cardsIn isBadLength headerFrom headerOf written lookupOf
+    metOn entryOf
     decodeOf stepsOf stepOf openOf planOf inLimits widthOf stands blockOf codeOf runOf diffRead runRead fieldRead pixelOf inWidth modulo
     wrap difference bitAt fieldAt zerosAt
 edges = refl

@@ -41,7 +41,8 @@ use Rattle.entries.specs.declared.Reach.{Reach}
 use Rattle.entries.specs.declared.Reach.the-variants.{On, Ended, Met}
 use Rattle.entries.specs.declared.Lengths.{Lengths}
 use Rattle.entries.specs.Answers.{isThere, bytesIn, metOn}
-use Rattle.entries.specs.Passes.{wordsOf, joinedWords, metAt, moreOf, roleFrom, joinedBy, reachBy, reachedBy, stopIn, placeBehind, laidBehind}
+use Rattle.entries.specs.Passes.{wordsOf, joinedWords, metAt, moreOf, roleFrom}
+use Rattle.entries.specs.Passes.{joinedBy, reachBy, reachedBy, stopIn, placeBehind, laidBehind}
 use Rattle.entries.specs.Passes.{Stands, JoinedOne, JoinedAll, Space, Room}
 use Rattle.entries.proofs.Reach as reaching
 use Rattle.entries.proofs.Buffers.{joined-length, joined-laid}

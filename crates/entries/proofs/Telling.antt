@@ -29,7 +29,8 @@ not-float Val.Undefined e = refl
 not-float Val.Invalid e = refl
 
 -- what is read at a card that is no entry
-pub reads-none : (s : CardRead) (t : Told) → OneOf (1 ∷ 2 ∷ 3 ∷ 4 ∷ []) (tagOf role.the-type t) → (h : List Role) (i : ℕ) (text comment : List ℕ)
+pub reads-none : (s : CardRead) (t : Told) → OneOf (1 ∷ 2 ∷ 3 ∷ 4 ∷ []) (tagOf role.the-type t) → (h : List Role) (i : ℕ)
+    (text comment : List ℕ)
     → untouched (noEntry t i) text comment ≡ entryFrom (roleIn t s ∷ h) i text comment
 reads-none s (Entry v joins) e h i text comment = absurd (miss (1 ∷ 2 ∷ 3 ∷ 4 ∷ []) 0 tt e)
 reads-none s More e h i text comment = refl

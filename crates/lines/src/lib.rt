@@ -33,7 +33,8 @@ pub enum Middle {
 pub fn entry_line(name: Text, value: Value, digits: Text, text: &[u8], out: &mut [u8]) -> Line
     ensures { λ r. ⌜ lineOutcome r (now (out .exit))
         ≡ laid (entryLine (bytesOf name) value (bytesOf digits) (now (text .entry))) (now (out .entry)) ⌝ }
-    ensures { λ _. ⌜ length (entryLine (bytesOf name) value (bytesOf digits) (now (text .entry))) ≤ lineRoom + length (now (text .entry)) ⌝ }
+    ensures { λ _. ⌜ length (entryLine (bytesOf name) value (bytesOf digits) (now (text .entry)))
+        ≤ lineRoom + length (now (text .entry)) ⌝ }
 {
     let own = digits.bytes;
     let shown = text::first_of(&own, digits.len);

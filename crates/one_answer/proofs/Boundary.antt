@@ -54,12 +54,14 @@ read-into κs a r q s t x y = x ∙ sym y
 
 -- `abi_header::lookup_into`
 pub lookup-into : OneAnswer lookup-into-reads.Post
-    (λ r s. entryLeft r (now (s .1 .1 .0)) (now (s .1 .1 .1 .0)) (now (s .1 .1 .1 .1 .0)) (now (s .1 .1 .1 .1 .1 .0)) (now (s .1 .1 .1 .1 .1 .1 .0)))
+    (λ r s. entryLeft r (now (s .1 .1 .0)) (now (s .1 .1 .1 .0)) (now (s .1 .1 .1 .1 .0)) (now (s .1 .1 .1 .1 .1 .0))
+    (now (s .1 .1 .1 .1 .1 .1 .0)))
 lookup-into κs a r q s t x y = x ∙ sym y
 
 -- `abi_header::entry_into`
 pub entry-into : OneAnswer entry-into-reads.Post
-    (λ r s. entryLeft r (now (s .1 .1 .0)) (now (s .1 .1 .1 .0)) (now (s .1 .1 .1 .1 .0)) (now (s .1 .1 .1 .1 .1 .0)) (now (s .1 .1 .1 .1 .1 .1 .0)))
+    (λ r s. entryLeft r (now (s .1 .1 .0)) (now (s .1 .1 .1 .0)) (now (s .1 .1 .1 .1 .0)) (now (s .1 .1 .1 .1 .1 .0))
+    (now (s .1 .1 .1 .1 .1 .1 .0)))
 entry-into κs a r q s t x y = x ∙ sym y
 
 -- `abi_header::list_into`
@@ -73,8 +75,10 @@ open-into κs a r q s t x y = both (x .answer ∙ sym (y .answer)) (x .place ∙
 
 -- `abi_tile::step_into`
 pub step-into : OneAnswer step-into-reads.Post
-    (λ r s. pairOf (pairOf r (cursorOf (now (s .1 .1 .1 .1 .0)) (now (s .1 .1 .1 .1 .1 .0)) (now (s .1 .1 .1 .1 .1 .1 .0)))) (pairOf (now (s .1 .1 .1 .1 .1 .1 .1 .0)) (now (s .1 .1 .1 .1 .1 .1 .1 .1 .0))))
-step-into κs a r q s t x y = both (both (x .answer ∙ sym (y .answer)) (x .place ∙ sym (y .place))) (both (x .content ∙ sym (y .content)) (x .told ∙ sym (y .told)))
+    (λ r s. pairOf (pairOf r (cursorOf (now (s .1 .1 .1 .1 .0)) (now (s .1 .1 .1 .1 .1 .0)) (now (s .1 .1 .1 .1 .1 .1 .0))))
+    (pairOf (now (s .1 .1 .1 .1 .1 .1 .1 .0)) (now (s .1 .1 .1 .1 .1 .1 .1 .1 .0))))
+step-into κs a r q s t x y = both (both (x .answer ∙ sym (y .answer)) (x .place ∙ sym (y .place)))
+    (both (x .content ∙ sym (y .content)) (x .told ∙ sym (y .told)))
 
 -- `abi_tile::decode_into`
 pub decode-into : OneAnswer decode-into-reads.Post
@@ -95,12 +99,14 @@ widrekas-card κs a r q s t x y = x ∙ sym y
 
 -- `widrekas::widrekas_lookup`
 pub widrekas-lookup : OneAnswer widrekas-lookup-reads.Post
-    (λ r s. entryLeft r (now (s .1 .1 .0)) (now (s .1 .1 .1 .0)) (now (s .1 .1 .1 .1 .0)) (now (s .1 .1 .1 .1 .1 .0)) (now (s .1 .1 .1 .1 .1 .1 .0)))
+    (λ r s. entryLeft r (now (s .1 .1 .0)) (now (s .1 .1 .1 .0)) (now (s .1 .1 .1 .1 .0)) (now (s .1 .1 .1 .1 .1 .0))
+    (now (s .1 .1 .1 .1 .1 .1 .0)))
 widrekas-lookup κs a r q s t x y = x ∙ sym y
 
 -- `widrekas::widrekas_entry`
 pub widrekas-entry : OneAnswer widrekas-entry-reads.Post
-    (λ r s. entryLeft r (now (s .1 .1 .0)) (now (s .1 .1 .1 .0)) (now (s .1 .1 .1 .1 .0)) (now (s .1 .1 .1 .1 .1 .0)) (now (s .1 .1 .1 .1 .1 .1 .0)))
+    (λ r s. entryLeft r (now (s .1 .1 .0)) (now (s .1 .1 .1 .0)) (now (s .1 .1 .1 .1 .0)) (now (s .1 .1 .1 .1 .1 .0))
+    (now (s .1 .1 .1 .1 .1 .1 .0)))
 widrekas-entry κs a r q s t x y = x ∙ sym y
 
 -- `widrekas::widrekas_list`
@@ -115,8 +121,10 @@ widrekas-open κs a r q s t x y = both (x .answer ∙ sym (y .answer)) (x .place
 
 -- `widrekas::widrekas_step`
 pub widrekas-step : OneAnswer widrekas-step-reads.Post
-    (λ r s. pairOf (pairOf r (cursorOf (now (s .1 .1 .1 .1 .0)) (now (s .1 .1 .1 .1 .1 .0)) (now (s .1 .1 .1 .1 .1 .1 .0)))) (pairOf (now (s .1 .1 .1 .1 .1 .1 .1 .0)) (now (s .1 .1 .1 .1 .1 .1 .1 .1 .0))))
-widrekas-step κs a r q s t x y = both (both (x .answer ∙ sym (y .answer)) (x .place ∙ sym (y .place))) (both (x .content ∙ sym (y .content)) (x .told ∙ sym (y .told)))
+    (λ r s. pairOf (pairOf r (cursorOf (now (s .1 .1 .1 .1 .0)) (now (s .1 .1 .1 .1 .1 .0)) (now (s .1 .1 .1 .1 .1 .1 .0))))
+    (pairOf (now (s .1 .1 .1 .1 .1 .1 .1 .0)) (now (s .1 .1 .1 .1 .1 .1 .1 .1 .0))))
+widrekas-step κs a r q s t x y = both (both (x .answer ∙ sym (y .answer)) (x .place ∙ sym (y .place)))
+    (both (x .content ∙ sym (y .content)) (x .told ∙ sym (y .told)))
 
 -- `widrekas::widrekas_decode`
 pub widrekas-decode : OneAnswer widrekas-decode-reads.Post

@@ -56,9 +56,9 @@ table =
 
 -- each header prints its row's lines
 pub examples : map (λ (r : Row). outputOf (cards (r .header))) table ≡ map (λ (r : Row). lines (r .printed)) table
-unfolding cards lines isSpace isBlank isPrintable isDigit isZero shown dToE trimStart leading consTrimmed trimEnd trim same stem endsWith filled
-    after scanFrom byteClass splitOf settledOf opened unopened stringOf isSign isNegative unsigned isDigits digitsValueFrom integerOf readNumber
-    startsNumber startOf ofString ofNumber valueWith valueOf hasHigh classOf otherOf continuationOf cardOf
+unfolding cards lines isSpace isBlank isPrintable isDigit isZero shown dToE trimStart leading consTrimmed trimEnd trim same stem endsWith
+    filled after scanFrom byteClass splitOf settledOf opened unopened stringOf isSign isNegative unsigned isDigits digitsValueFrom integerOf
+    readNumber startsNumber startOf ofString ofNumber valueWith valueOf hasHigh classOf otherOf continuationOf cardOf
     endsOpen addsNothing joinText joinComment opens joinWords joinOn lookup cardsIn isBadLength headerFrom headerOf
     placeIn listFrom listOf digitsBefore decimalDigits entryLine countLine refusedLine inOrder outputOf
 examples = refl

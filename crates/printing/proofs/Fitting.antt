@@ -17,7 +17,8 @@ use Rattle.printing.specs.Ready.{Front, lengthOf}
 pub front : (s out : List ℕ) → length s ≤ length out → take (length s) (sets out 0 s) ≡ s
 front s out h = sym (ap (λ (n : ℕ). take n (sets out 0 s)) (zero-add (length s))) ∙ take-sets s out 0 (omega arith)
 
-pub written-line : (r : Line) (n : ℕ) (line out out₁ : List ℕ) → n ≡ lengthOf r → lineOutcome r out₁ ≡ laid line out → length line ≤ length out
+pub written-line : (r : Line) (n : ℕ) (line out out₁ : List ℕ) → n ≡ lengthOf r → lineOutcome r out₁ ≡ laid line out
+    → length line ≤ length out
     → Front n out₁ line
 written-line r n line out out₁ e said fits =
     let is : lineOutcome r out₁ ≡ lineOutcome (Written (length line)) (sets out 0 line) = said ∙ sym (laid-fits line out fits) in

@@ -121,7 +121,8 @@ module _ (h : List ℕ) (end : ℕ) (a : headerOf h ≡ Accepted end) where
   first-long =
       let is = contents h end a in
       let count : listOf h .count ≡ length (firstsOf (rolesOf h)) = ap (λ (x : Listing). x .count) is in
-      let first : length (listOf h .first) ≡ length (filled free places (firstsOf (rolesOf h))) = ap (λ (x : Listing). length (x .first)) is in
+      let first : length (listOf h .first) ≡ length (filled free places (firstsOf (rolesOf h))) = ap
+      (λ (x : Listing). length (x .first)) is in
       omega (arith, count, first, filled-long free places (firstsOf (rolesOf h)))
 
   pub last-long : listOf h .count ≤ length (listOf h .last)
@@ -186,7 +187,8 @@ module _ (h : List ℕ) (end : ℕ) (a : headerOf h ≡ Accepted end) where
         let long : k < length firsts = omega (arith, p, first-long, length-take (listOf h .count) (listOf h .first)) in
         let names-long : k < length (namesListed h) = omega (arith, long, length-map firsts named) in
         let at-k : getD (namesListed h) k [] ≡ name =
-        at-map named firsts k free [] long ∙ ap named (at-take (listOf h .first) (listOf h .count) k free p) ∙ ap nameOf (taken .stands .bears) in
+        at-map named firsts k free [] long ∙ ap named (at-take (listOf h .first) (listOf h .count) k free p) ∙ ap nameOf
+        (taken .stands .bears) in
         at-map (λ (n : List ℕ). lineFor n (lookup n (rolesOf h))) (namesListed h) k [] [] names-long
         ∙ ap (λ (n : List ℕ). lineFor n (lookup n (rolesOf h))) at-k
         ∙ ap (lineFor name) (found .is)

@@ -106,11 +106,13 @@ reached-requires-2 c κs = search needs
 -- lengths that more may be joined to, or not, by what `reached` answers
 as-reached : (c : tie.After-role-behind) (r : Lengths) (reach : Reach) → let a = start c .args in
     r ≡ reachedBy (a .held) reach
-    → JoinedOne (joined-as c) (a .j) (a .held) (reachedBy (a .held) reach) (a .texts .now) (a .comments .now) (a .texts .now) (a .comments .now)
+    → JoinedOne (joined-as c) (a .j) (a .held) (reachedBy (a .held) reach) (a .texts .now) (a .comments .now) (a .texts .now)
+    (a .comments .now)
     → JoinedOne (joined-as c) (a .j) (a .held) r (a .texts .now) (a .comments .now) (a .texts .now) (a .comments .now)
 as-reached c r reach e =
     let a = start c .args in
-    subst (λ (x : Lengths). JoinedOne (joined-as c) (a .j) (a .held) x (a .texts .now) (a .comments .now) (a .texts .now) (a .comments .now))
+    subst (λ (x : Lengths). JoinedOne (joined-as c) (a .j) (a .held) x (a .texts .now) (a .comments .now) (a .texts .now)
+    (a .comments .now))
     (sym e)
 
 returns : tie.Need-returns

@@ -112,7 +112,8 @@ returns-2 c =
     let k = at-last .last2 .given .0 .0 in
     let is = header-is accepted in
     entry .entry-at .ensures
-    ∙ last-read (a .name .now) (end-at accepted) (a .header .now) k (is .0) (is .1 ∙ at-last .last2 .given .1) (a .text .now) (a .comment .now)
+    ∙ last-read (a .name .now) (end-at accepted) (a .header .now) k (is .0) (is .1 ∙ at-last .last2 .given .1) (a .text .now)
+    (a .comment .now)
     ∙ by-place accepted (At k) (at-last .last2 .given .1)
 
 returns-3 : tie.Need-returns-3

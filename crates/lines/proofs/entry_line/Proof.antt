@@ -52,7 +52,8 @@ few-digits m =
 
 -- the segments that were laid are the line, and it is not longer than it may be
 said : (m : tie.After-middle-of) (x l : List ℕ) {r : LineOutcome} → let a = start m .args in
-    r ≡ laid l (a .out .now) → length l ≤ segmentRoom + length x → l ≡ entryLine (bytesOf (a .name)) (a .value) (bytesOf (a .digits)) (a .text .now)
+    r ≡ laid l (a .out .now) → length l ≤ segmentRoom + length x → l ≡ entryLine (bytesOf (a .name)) (a .value)
+    (bytesOf (a .digits)) (a .text .now)
     → length x ≤ 80 + length (a .text .now)
     → (r ≡ laid (entryLine (bytesOf (a .name)) (a .value) (bytesOf (a .digits)) (a .text .now)) (a .out .now))
     × (length (entryLine (bytesOf (a .name)) (a .value) (bytesOf (a .digits)) (a .text .now)) ≤ lineRoom + length (a .text .now))
@@ -111,7 +112,8 @@ returns c =
     let told = put .before .before in
     let m = told .before .before in
     let e = line-told m _ _ (told .enum-told .given .1) (heads m .before .before .first-of .ensures) in
-    said m (heads m .before .before .first-of .result .now) _ (put .put-line .ensures .0) (put .put-line .ensures .1) e (omega (arith, few-digits m))
+    said m (heads m .before .before .first-of .result .now) _ (put .put-line .ensures .0) (put .put-line .ensures .1) e
+    (omega (arith, few-digits m))
 
 same-length-2 : tie.Need-same-length-2
 same-length-2 c = search needs

@@ -18,7 +18,8 @@ returns : tie.Need-returns
 returns c =
     let put = c .before .before .before in
     let s = put .before .before .before in
-    written-line (put .count-line .result) (c .length-of .result) _ (s .args .line .now) _ (c .length-of .ensures) (put .count-line .ensures .0)
+    written-line (put .count-line .result) (c .length-of .result) _ (s .args .line .now) _ (c .length-of .ensures)
+    (put .count-line .ensures .0)
     (omega (arith, put .count-line .ensures .1, s .pre))
 
 pub count-part-spec : {M : Type 1} → statement M

@@ -41,11 +41,23 @@ name s = naming.name (s .args .header .now) (s .pre .0 .end) (s .pre .0 .accepte
 
 first-within : (s : tie.Start) → s .args .k < length (s .args .first .now)
 first-within s =
-    omega (arith, s .pre .1, ap length (s .pre .0 .first-cards), naming.first-long (s .args .header .now) (s .pre .0 .end) (s .pre .0 .accepted))
+    omega (
+      arith,
+      s .pre .1,
+      ap length (s .pre .0 .first-cards),
+      naming.first-long (s .args .header .now) (s .pre .0 .end)
+          (s .pre .0 .accepted),
+    )
 
 last-within : (s : tie.Start) → s .args .k < length (s .args .last .now)
 last-within s =
-    omega (arith, s .pre .1, ap length (s .pre .0 .last-entries), naming.last-long (s .args .header .now) (s .pre .0 .end) (s .pre .0 .accepted))
+    omega (
+      arith,
+      s .pre .1,
+      ap length (s .pre .0 .last-entries),
+      naming.last-long (s .args .header .now) (s .pre .0 .end)
+          (s .pre .0 .accepted),
+    )
 
 -- what was read of it
 abbrev card : tie.After-read-entry → tie.After-card-at
@@ -148,13 +160,22 @@ returns-2 c =
     shown .first-of .ensures
     ∙ ap (λ (o : LookupOutcome). take (o .answer .text) (o .text)) (read-is read)
     ∙ front t (a .text .now) fits in
-    let line : entryLine (bytesOf (card read .card-at .result .name)) _ (bytesOf (read .read-entry .result .digits)) (shown .first-of .result .now)
+    let line : entryLine (bytesOf (card read .card-at .result .name)) _ (bytesOf (read .read-entry .result .digits))
+    (shown .first-of .result .now)
     ≡ entryLine (name s) (v .value) (v .digits) t =
     λ j. entryLine (named j) (valued j) (digits j) (words j) in
     let long : length line₁ ≡ length (a .line .now) = search needs in
     subst (Front (c .length-of .result) _) (line ∙ sym (naming.line-is (a .header .now) (l .end) (l .accepted) (a .k) (s .pre .1)))
     (written-line (put .entry-line .result) (c .length-of .result) _ line₁ _ (c .length-of .ensures) (put .entry-line .ensures .0)
-    (omega (arith, put .entry-line .ensures .1, ap length words, naming.text-fits (a .header .now) (l .end) (l .accepted) (a .k) (s .pre .1), s .pre .2 .for-line, long)))
+    (omega (
+      arith,
+      put .entry-line .ensures .1,
+      ap length words,
+      naming.text-fits (a .header .now) (l .end) (l .accepted) (a .k)
+          (s .pre .1),
+      s .pre .2 .for-line,
+      long,
+    )))
 
 pub name-part-spec : {M : Type 1} → statement M
 name-part-spec =

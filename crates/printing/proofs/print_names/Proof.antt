@@ -62,8 +62,14 @@ name-part-requires : tie.Need-name-part-requires Inv-loop μ-loop
 name-part-requires c κs =
     let inside = c .before .before .before .before in
     let at = inside .before in
-    let s = start at in
-    (s .pre .0, omega (arith, inside .loop-test .taken, s .pre .1), record { for-text = omega (arith, at .loop .inv .text-long); for-line = omega (arith, at .loop .inv .line-long) })
+    let s = start at in (
+      s .pre .0,
+      omega (arith, inside .loop-test .taken, s .pre .1),
+      record {
+        for-text = omega (arith, at .loop .inv .text-long);
+        for-line = omega (arith, at .loop .inv .line-long);
+      },
+    )
 
 slice-aggregate-first-of : tie.Need-slice-aggregate-first-of Inv-loop μ-loop
 slice-aggregate-first-of c = search needs
@@ -138,14 +144,26 @@ add-result : tie.Need-add-result Inv-loop μ-loop
 add-result c =
     let at = end c .before in
     let same : length (counted c .count-part .last .1 .0) ≡ length (at .loop .line) = search needs in
-    record { fits = omega (arith, counted c .count-part .ensures .few, same, at .loop .inv .line-long, at .loop .inv .small, at .loop .inv .within, few (start at)) }
+    record {
+      fits = omega (
+        arith,
+        counted c .count-part .ensures .few,
+        same,
+        at .loop .inv .line-long,
+        at .loop .inv .small,
+        at .loop .inv .within,
+        few
+            (start at),
+      );
+    }
 
 returns : tie.Need-returns Inv-loop μ-loop
 returns c =
     let at = end c .before in
     let lines = nameLines (start at .args .header .now) in
     let all : at .loop .k ≡ length lines = omega (arith, end c .loop-test .left, at .loop .inv .within, as-many (start at)) in
-    ap₂ (λ (n m : ℕ). n + m) (at .loop .inv .bytes ∙ ap length (naming.in-order-all lines (at .loop .k) all)) (counted c .count-part .ensures .count)
+    ap₂ (λ (n m : ℕ). n + m) (at .loop .inv .bytes ∙ ap length (naming.in-order-all lines (at .loop .k) all))
+    (counted c .count-part .ensures .count)
     ∙ sym (length-append (inOrder lines) _)
 
 pub print-names-spec : {M : Type 1} → statement M

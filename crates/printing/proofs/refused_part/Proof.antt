@@ -18,7 +18,8 @@ returns : tie.Need-returns
 returns c =
     let put = c .before .before .before in
     let s = put .before .before .before .before in
-    written-line (put .refused-line .result) (c .length-of .result) _ (s .args .line .now) _ (c .length-of .ensures) (put .refused-line .ensures .0)
+    written-line (put .refused-line .result) (c .length-of .result) _ (s .args .line .now) _ (c .length-of .ensures)
+    (put .refused-line .ensures .0)
     (omega (arith, put .refused-line .ensures .1, s .pre))
 
 pub refused-part-spec : {M : Type 1} → statement M

@@ -9,7 +9,8 @@ use Rattle.replay_headers.proofs.put_names.Statement.{statement}
 use Rattle.replay_headers.proofs.put_names.Tie as tie
 
 abbrev Inv-loop : tie.InvT-loop
-Inv-loop header first last count text₀ comment₀ line₀ k₀ text comment line k = (k ≤ 720) × (length text ≡ 51200) × (length comment ≡ 51200) × (length line ≡ 51360)
+Inv-loop header first last count text₀ comment₀ line₀ k₀ text comment line k = (k ≤ 720) × (length text ≡ 51200) ×
+    (length comment ≡ 51200) × (length line ≡ 51360)
 
 abbrev μ-loop : tie.MeasureT-loop
 μ-loop header first last count text₀ comment₀ line₀ k₀ text comment line k = count - k
