@@ -83,9 +83,10 @@ pub fn bench_measured(job: &mut dyn Job, side: Side) {
     job.run(side);
 }
 
-/// Runs a job once by one side, after a first run that pays for what is paid once.
+/// Runs a job once by one side, after two runs that pay for what is paid once: the second `get` of a header reads its names.
 pub fn once(spec: &Spec, side: Side) {
     let mut job = (spec.make)();
+    job.run(side);
     job.run(side);
     bench_measured(job.as_mut(), side);
     println!("{}", job.units());

@@ -210,7 +210,8 @@ fn worst_cases(text: &mut String, figures: &Figures) -> std::fmt::Result {
 fn instructions(text: &mut String, figures: &Figures) -> std::fmt::Result {
     writeln!(
         text,
-        "## Instructions\n\nOne run of a job under `valgrind --tool=callgrind`, after one that is not counted. memset does without `rep stosb`,\nof which callgrind counts each byte.\n"
+        "## Instructions\n\nOne run of a job under `valgrind --tool=callgrind`, after two that are not counted. memset does without `rep stosb`,\n\
+         of which callgrind counts each byte.\n"
     )?;
     writeln!(text, "| Job | for a | ours | fitsrs | CFITSIO |\n|---|---|---|---|---|")?;
     for row in figures.rows.iter().filter(|row| !row.counts.is_empty() && row.group != worst::GROUP) {
