@@ -1,11 +1,11 @@
 -- The list of a header's names agrees with lookup: for every header that is accepted both give the same answers, and any other is
 -- refused by both alike. Stated over the definitions that the promises of `list`, `entry` and `lookup` cite. Arrays that a caller
 -- made up are not spoken of: `placeOfEntry` reads whatever number stands in them.
-use Prim.Native.Nat.{ℕ, _<_}
+use Prim.Native.Nat.{ℕ, _<_, _≤_}
 use mathlib.Core.Path.{_≡_}
 use mathlib.Core.List.{List, map}
 use mathlib.Core.Option.{some}
-use lib.ListN.{getD, take}
+use lib.ListN.{getD, take, drop}
 use Rattle.refusal.specs.declared.Refusal.the-variants as R
 use Rattle.refusal.specs.Numbers.{faultOf}
 use Rattle.roles.specs.Roles.{Held, Role, entry, neutral}
@@ -15,7 +15,7 @@ use Rattle.finding.specs.declared.Stop.{Stop}
 use Rattle.finding.specs.declared.Header.the-variants.{Accepted, Refused}
 use Rattle.finding.specs.Finding.{headerOf, lastOf}
 use Rattle.entries.specs.declared.LookupAnswer.the-variants as L
-use Rattle.entries.specs.Answers.{untouched, lookupOf, entryAt}
+use Rattle.entries.specs.Answers.{untouched, given, lookupOf, entryHead, entryAt, entryOf}
 use Rattle.listing.specs.Listing.{free, nameOf, empty, tabled, listOf, placeOfEntry}
 use Rattle.agreeing.specs.Firsts.{firstsOf, lastsOf}
 
@@ -98,3 +98,9 @@ SameRefusal =
     (h : List ℕ) (s : Stop) → headerOf h ≡ Refused s
     → (listOf h ≡ tabled (Refused s) empty)
     × ((name text comment : List ℕ) → lookupOf h name text comment ≡ untouched (L.Header s) text comment)
+
+-- up to END of an accepted header an entry by its card meets no refused card: it is what stands there with what is joined to it, or 12
+abbrev pub UnmetToEnd : Type 0
+UnmetToEnd =
+    (h : List ℕ) (end : ℕ) → headerOf h ≡ Accepted end → (i : ℕ) → i ≤ end
+    → (text comment : List ℕ) → entryOf h i text comment ≡ given (entryHead (drop i (rolesOf h))) text comment

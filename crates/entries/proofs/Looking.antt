@@ -95,7 +95,7 @@ either : (b : Bool) (m : Option Stop) → m ≡ none → cond b m none ≡ none
 either true m e = e
 either false m e = refl
 
-accepted-unmet : (rs : List Role) (i e : ℕ) → headerFrom rs i ≡ Accepted e → (w : Words) (j : ℕ) → metOn w rs j ≡ none
+pub accepted-unmet : (rs : List Role) (i e : ℕ) → headerFrom rs i ≡ Accepted e → (w : Words) (j : ℕ) → metOn w rs j ≡ none
 unfolding headerFrom metOn
 accepted-unmet [] i e a w j = refl
 accepted-unmet (entry n v ∷ rs) i e a w j = refl
