@@ -2,6 +2,7 @@
 
 mod common;
 
+use common::random::Random;
 use common::{card, cards, header};
 use std::collections::BTreeSet;
 use std::time::{Duration, Instant};
@@ -228,22 +229,6 @@ fn the_longest_headers_are_read_on_quickly() {
     }
     // Some milliseconds if nothing else runs.
     assert!(start.elapsed() < Duration::from_secs(5), "{:?}", start.elapsed());
-}
-
-/// Numbers that look random: xorshift.
-struct Random(u64);
-
-impl Random {
-    fn below(&mut self, n: usize) -> usize {
-        self.0 ^= self.0 << 13;
-        self.0 ^= self.0 >> 7;
-        self.0 ^= self.0 << 17;
-        (self.0 >> 16) as usize % n
-    }
-
-    fn pick<T: Copy>(&mut self, some: &[T]) -> T {
-        some[self.below(some.len())]
-    }
 }
 
 /// Names few enough to come twice.

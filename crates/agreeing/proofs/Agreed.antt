@@ -58,7 +58,8 @@ no-last name [] i p e = refl
 no-last name (entry m v ∷ rs) i p e = go (lookup name rs) refl (same m name) e (no-last name rs (suc i))
   where
     go : (o : Option Held) → lookup name rs ≡ o → (b : Bool) → orElse o (cond b (some (whole v rs)) none) ≡ none
-        → ((q : Place) → lookup name rs ≡ none → lastFrom name rs (suc i) q ≡ q) → lastFrom name rs (suc i) (cond b (At i) p) ≡ p
+        → ((q : Place) → lookup name rs ≡ none → lastFrom name rs (suc i) q ≡ q)
+        → lastFrom name rs (suc i) (cond b (At i) p) ≡ p
     go (some w) d b x then = absurd (let z : _≡_ {A = ℕ} 0 1 = cc in omega arith)
     go none d true x then = absurd (let z : _≡_ {A = ℕ} 0 1 = cc in omega arith)
     go none d false x then = then p d

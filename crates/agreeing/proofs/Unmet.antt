@@ -23,7 +23,8 @@ apart : (s : Stop) (k : ℕ) → Refused s ≡ Accepted k → ⊥
 apart s k d = let z : _≡_ {A = ℕ} 0 1 = cc in omega arith
 
 -- the cards from number i on are those of an accepted header too
-later : (rs : List Role) (i k m end : ℕ) → headerFrom rs k ≡ Accepted end → m ≡ k + i → m ≤ end → headerFrom (drop i rs) m ≡ Accepted end
+later : (rs : List Role) (i k m end : ℕ) → headerFrom rs k ≡ Accepted end → m ≡ k + i → m ≤ end
+    → headerFrom (drop i rs) m ≡ Accepted end
 unfolding headerFrom
 later rs zero k m end a e h = let same : m ≡ k = omega arith in ap (headerFrom rs) same ∙ a
 later [] (suc i) k m end a e h = absurd (apart (stopAt (faultOf R.NoEnd) k) end a)

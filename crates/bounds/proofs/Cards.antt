@@ -69,7 +69,8 @@ record CardShort (r : CardRead) : Type 0 where
 refused-short : (f : Fault) → CardShort (cardRefused f)
 refused-short f = record { text = omega arith; comment = omega arith }
 
-valued-short : (n : ℕ) (dotted : Bool) (name : Text) (r : ValueRead) → n ≤ cardWords → ValueShort n r → CardShort (ofValue dotted name r)
+valued-short : (n : ℕ) (dotted : Bool) (name : Text) (r : ValueRead) → n ≤ cardWords → ValueShort n r
+    → CardShort (ofValue dotted name r)
 valued-short n dotted name r few short = go (r .answer) refl
   where
     with : (b : Bool) (v : Value) → shownLen v (r .text .len) ≤ n → wordsLen (A.Read (cardWith b v)) (r .text .len) ≤ cardWords

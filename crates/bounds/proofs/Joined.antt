@@ -84,7 +84,8 @@ joined-grown w (more t c ∷ rs) h = go (opens w) refl (joined-grown (joinWords 
       where
         grown : length (joinText (w .text) t) ≤ length (w .text) + 71
             → length (bytesIn (joinComment (w .comment) c)) ≤ length (bytesIn (w .comment)) + 73
-            → Grown (joinWords w t c) (length rs) (joinOn (joinWords w t c) rs) → Grown w (suc (length rs)) (joinOn (joinWords w t c) rs)
+            → Grown (joinWords w t c) (length rs) (joinOn (joinWords w t c) rs)
+            → Grown w (suc (length rs)) (joinOn (joinWords w t c) rs)
         grown a b g = record { text = omega (arith, g .text, a); comment = omega (arith, g .comment, b) }
     go false e g = record { text = omega arith; comment = omega arith }
 joined-grown w (neutral ∷ rs) h = still w (joinOn w rs) (length rs) (joined-grown w rs (h .1))

@@ -65,7 +65,8 @@ accepted-from (neutral ∷ h) i e a = omega (arith, accepted-from h (suc i) e a)
 accepted-from (last ∷ h) i e a = let is : i ≡ e = cc in omega arith
 accepted-from (refused f ∷ h) i e a = absurd (apart _ e a)
 
-goes-on : (c : Role) (h : List Role) (i e : ℕ) → headerFrom (c ∷ h) i ≡ Accepted e → isLast c ≡ false → headerFrom h (suc i) ≡ Accepted e
+goes-on : (c : Role) (h : List Role) (i e : ℕ) → headerFrom (c ∷ h) i ≡ Accepted e → isLast c ≡ false
+    → headerFrom h (suc i) ≡ Accepted e
 unfolding headerFrom
 goes-on (entry n v) h i e a d = a
 goes-on (more t c) h i e a d = a
@@ -86,7 +87,8 @@ speaks k q (refused f) b = refl
 -- ---- effects of two headers, card by card: both bear K, or they are equal
 pub data Twin (k : List ℕ) : List Effect → List Effect → Type 0 where
   done : Twin k [] []
-  both : {f g : Effect} {fs gs : List Effect} → bears k f ≡ true → bears k g ≡ true → Twin k fs gs → Twin k (f ∷ fs) (g ∷ gs)
+  both : {f g : Effect} {fs gs : List Effect} → bears k f ≡ true → bears k g ≡ true → Twin k fs gs
+      → Twin k (f ∷ fs) (g ∷ gs)
   even : {f g : Effect} {fs gs : List Effect} → f ≡ g → Twin k fs gs → Twin k (f ∷ fs) (g ∷ gs)
 
 -- so those that do not bear K are the same
@@ -143,6 +145,7 @@ module _ (k : List ℕ) (z : Role) where
       go false t rest =
           let t′ : bears k (does r f) ≡ false = sym (places zero here) ∙ t in
           let is : c ≡ f = cards zero here t in
-          let one : does q c ≡ does r f = ap (does q) is ∙ effect k s f (subst (λ (x : Role). bears k (does q x) ≡ false) is t) t′ in
+          let one : does q c ≡ does r f = ap (does q) is
+          ∙ effect k s f (subst (λ (x : Role). bears k (does q x) ≡ false) is t) t′ in
           let alike : Alike k q₁ r₁ = subst (λ (x : Effect). Alike k q₁ (leaves r x)) one (after k q r s (does q c)) in
           even one (behind (isLast c) refl (sym (ap isLast is)) alike rest)

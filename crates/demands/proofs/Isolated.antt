@@ -55,7 +55,8 @@ listed h a =
     ∙ sym (naming.by-effects roles [] idle naming.free)
 
 -- a name that is not K is answered by the cards that are not K's
-by-others : (k name : List ℕ) → (k ≡ name → ⊥) → (rs : List Role) → lookup name rs ≡ answer name (others k (effects idle (toEnd rs)))
+by-others : (k name : List ℕ) → (k ≡ name → ⊥) → (rs : List Role)
+    → lookup name rs ≡ answer name (others k (effects idle (toEnd rs)))
 by-others k name other rs =
     sym (lookup-to-end name rs) ∙ by-effects name (toEnd rs) ∙ sym (answer-others k name other (effects idle (toEnd rs)))
 
@@ -74,7 +75,8 @@ pub isolation-to-end : IsolationToEnd
 isolation-to-end g h k a b but name other text comment =
     by-cards g a name text comment
     ∙ ap (λ (v : Option Held). given v text comment)
-    (by-others k name other (rolesOf g) ∙ ap (answer name) (twin-others k (twin g h k a b but)) ∙ sym (by-others k name other (rolesOf h)))
+    (by-others k name other (rolesOf g) ∙ ap (answer name) (twin-others k (twin g h k a b but))
+    ∙ sym (by-others k name other (rolesOf h)))
     ∙ sym (by-cards h b name text comment)
 
 -- cards that are equal throughout are equal up to END

@@ -55,7 +55,8 @@ module _ (all : List Role) where
   named-is : (i : ℕ) (r : Role) (rs : List Role) → drop i all ≡ r ∷ rs → named i ≡ nameOf r
   named-is i r rs e = ap nameOf (at-drop all i neutral ∙ first-of r neutral (drop i all) rs e)
 
-  pub names-are : (seen : List (List ℕ)) (rs : List Role) (i : ℕ) → drop i all ≡ rs → map named (firstsFrom seen rs i) ≡ namesFrom seen rs
+  pub names-are : (seen : List (List ℕ)) (rs : List Role) (i : ℕ) → drop i all ≡ rs
+      → map named (firstsFrom seen rs i) ≡ namesFrom seen rs
   unfolding firstsFrom namesFrom
   names-are seen [] i e = refl
   names-are seen (entry n v ∷ rs) i e =
@@ -140,7 +141,8 @@ with-alike n seen fs gs a = go (isAmong n seen)
     go true = a seen
     go false = ap (λ (l : List (List ℕ)). n ∷ l) (a (n ∷ seen))
 
-one-alike : (f : Effect) (seen : List (List ℕ)) (fs gs : List Effect) → Alike fs gs → firstNames seen (f ∷ fs) ≡ firstNames seen (f ∷ gs)
+one-alike : (f : Effect) (seen : List (List ℕ)) (fs gs : List Effect) → Alike fs gs
+    → firstNames seen (f ∷ fs) ≡ firstNames seen (f ∷ gs)
 unfolding firstNames namesWith Alike
 one-alike (gives e) seen fs gs a = with-alike (e .name) seen fs gs a
 one-alike nothing seen fs gs a = a seen
@@ -157,7 +159,8 @@ own-alike k (gives e) stops a b seen fs = absurd (true≢false (sym b))
 own-alike k nothing g a b seen fs = absurd (true≢false (sym a))
 own-alike k stops g a b seen fs = absurd (true≢false (sym a))
 
-pub twin-names : (k : List ℕ) {fs gs : List Effect} → Twin k fs gs → (seen : List (List ℕ)) → firstNames seen fs ≡ firstNames seen gs
+pub twin-names : (k : List ℕ) {fs gs : List Effect} → Twin k fs gs → (seen : List (List ℕ))
+    → firstNames seen fs ≡ firstNames seen gs
 unfolding Alike
 twin-names k done seen = refl
 twin-names k (both {f} {g} {fs} {gs} a b t) seen = one-alike f seen fs gs (twin-names k t) ∙ own-alike k f g a b seen gs

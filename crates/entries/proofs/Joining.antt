@@ -96,7 +96,8 @@ module _ (s : CardRead) where
   value-begun Val.Undefined e = absurd (true≢false (sym e))
   value-begun Val.Invalid e = absurd (true≢false (sym e))
 
-  words-begun : (a : CardAnswer) → opens (wordsOf (roleIn (roleBy a) s)) ≡ true → wordsOf (roleIn (roleBy a) s) ≡ joinedBy (moreOf s) begun
+  words-begun : (a : CardAnswer) → opens (wordsOf (roleIn (roleBy a) s)) ≡ true
+      → wordsOf (roleIn (roleBy a) s) ≡ joinedBy (moreOf s) begun
   unfolding opens
   words-begun (A.Read (C.Value v)) e = value-begun v e
   words-begun (A.Read (C.Hierarch v)) e = value-begun v e
@@ -205,7 +206,8 @@ begun-open : opens begun ≡ true
 unfolding opens endsOpen endsWith
 begun-open = refl
 
-begun-more : (t : List ℕ) (c : Comment) (l : List Role) (i : ℕ) → joint begun (more t c ∷ l) i ≡ joint (joinWords begun t c) l (suc i)
+begun-more : (t : List ℕ) (c : Comment) (l : List Role) (i : ℕ)
+    → joint begun (more t c ∷ l) i ≡ joint (joinWords begun t c) l (suc i)
 unfolding joinOn metOn
 begun-more t c l i = rw begun-open
 
@@ -258,7 +260,8 @@ module _ {h : List ℕ} {i : ℕ} {texts₀ : List ℕ} (room : Room h i texts�
     pub at-stop : OneOf (1 ∷ 2 ∷ []) (tagOf reaching.the-type (held .reach)) → JoinedAll h i held texts before comments
     at-stop = go (held .reach) refl
       where
-        go : (r : Reach) → held .reach ≡ r → OneOf (1 ∷ 2 ∷ []) (tagOf reaching.the-type r) → JoinedAll h i held texts before comments
+        go : (r : Reach) → held .reach ≡ r → OneOf (1 ∷ 2 ∷ []) (tagOf reaching.the-type r)
+            → JoinedAll h i held texts before comments
         go On e o = absurd (miss (1 ∷ 2 ∷ []) 0 tt o)
         go Ended e o = all-joined (by-reach Ended e) (ap stopIn e)
         go (Met s) e o =
@@ -303,7 +306,8 @@ module _ {h : List ℕ} {i : ℕ} {texts₀ : List ℕ} (room : Room h i texts�
           ap (restBy h (j + 1)) later
 
       pub on-card : {r : Lengths} {texts₁ comments₁ : List ℕ}
-          → JoinedOne (roleFrom (eqb j i) h j) j held r texts comments texts₁ comments₁ → Going h i r texts₁ before comments₁ (j + 1)
+          → JoinedOne (roleFrom (eqb j i) h j) j held r texts comments texts₁ comments₁
+          → Going h i r texts₁ before comments₁ (j + 1)
       on-card {r} {texts₁} {comments₁} S =
           let role = roleFrom (eqb j i) h j in
           let w = joinedBy role (G .w) in

@@ -110,7 +110,8 @@ metIn (At k) roles = metHead (drop k roles) k
 metIn Nowhere roles = none
 
 module _ (name : List ℕ) (end : ℕ) where
-  last-unmet : (all rs : List Role) (i : ℕ) (p : Place) → drop i all ≡ rs → headerFrom rs i ≡ Accepted end → metIn p all ≡ none
+  last-unmet : (all rs : List Role) (i : ℕ) (p : Place) → drop i all ≡ rs → headerFrom rs i ≡ Accepted end
+      → metIn p all ≡ none
       → metIn (lastFrom name rs i p) all ≡ none
   unfolding lastFrom headerFrom
   last-unmet all [] i p e a u = u
@@ -126,7 +127,8 @@ module _ (name : List ℕ) (end : ℕ) where
   last-unmet all (refused f ∷ rs) i p e a u = absurd (apart (stopAt f i) end a)
 
   -- so in an accepted header the entry at the last card that bears a name is what the name is answered
-  pub last-read : (h : List ℕ) (k : ℕ) → headerOf h ≡ Accepted end → lastOf name (rolesOf h) ≡ At k → (text comment : List ℕ)
+  pub last-read : (h : List ℕ) (k : ℕ) → headerOf h ≡ Accepted end → lastOf name (rolesOf h) ≡ At k
+      → (text comment : List ℕ)
       → entryFrom (drop k (rolesOf h)) k text comment ≡ given (entryAt (At k) (rolesOf h)) text comment
   unfolding headerOf
   last-read h k a e text comment =
@@ -134,5 +136,6 @@ module _ (name : List ℕ) (end : ℕ) where
       let good = accepted-good h end a in
       let read : headerFrom roles 0 ≡ Accepted end =
       sym (ap (λ (b : Bool). cond b (Refused (stopAt (faultOf R.HeaderLength) 0)) (headerFrom roles 0)) good) ∙ a in
-      let met : metIn (At k) roles ≡ none = ap (λ (p : Place). metIn p roles) (sym e) ∙ last-unmet roles roles 0 Nowhere refl read refl in
+      let met : metIn (At k) roles ≡ none = ap (λ (p : Place). metIn p roles) (sym e)
+      ∙ last-unmet roles roles 0 Nowhere refl read refl in
       ap (λ (m : Option Stop). unlessMet m (given (entryHead (drop k roles)) text comment) text comment) met

@@ -39,7 +39,8 @@ abbrev toldOf : Put → Bool → ℕ → ℕ → Written
 toldOf put commented n m = record { put = put; commented = commented; text = n; comment = m }
 
 -- a buffer where all is written, and where nothing is
-laid-so : (put : Put) (s out : List ℕ) {out₁ : List ℕ} → put ≡ Whole → out₁ ≡ sets out 0 s → out₁ ≡ ifWhole put (sets out 0 s) out
+laid-so : (put : Put) (s out : List ℕ) {out₁ : List ℕ} → put ≡ Whole → out₁ ≡ sets out 0 s
+    → out₁ ≡ ifWhole put (sets out 0 s) out
 laid-so put s out e d = d ∙ sym (ap (λ (p : Put). ifWhole p (sets out 0 s) out) e)
 
 left-so : (put : Put) (s out : List ℕ) → ((laid : List ℕ) → ifWhole put laid out ≡ out) → out ≡ ifWhole put (sets out 0 s) out
@@ -125,7 +126,8 @@ module _ (shown : Bool) (p : CardRead) (text comment : List ℕ) {fits : Bool} {
   remark-long : m ≡ length remark
   remark-long = count-too ∙ ap length (comment-if (p .commented) (bytesOf (p .comment)))
 
-  own-told : {text₁ comment₁ : List ℕ} → text₁ ≡ ifWhole put (sets text 0 own) text → comment₁ ≡ ifWhole put (sets comment 0 remark) comment
+  own-told : {text₁ comment₁ : List ℕ} → text₁ ≡ ifWhole put (sets text 0 own) text
+      → comment₁ ≡ ifWhole put (sets comment 0 remark) comment
       → Wrote none own said (toldOf put (p .commented) n m) text comment text₁ comment₁
   own-told e d =
       record {
@@ -148,7 +150,8 @@ module _ (shown : Bool) (p : CardRead) (text comment : List ℕ) {fits : Bool} {
       ap (λ (k : ℕ). take k (p .comment .bytes)) count-too
       ∙ taken-count (p .commented) (p .comment .len) (p .comment .bytes)
       ∙ comment-if (p .commented) (bytesOf (p .comment)) in
-      own-told (laid-so put own text all (laid ∙ ap (sets text 0) is)) (laid-so put remark comment all (laid-too ∙ ap (sets comment 0) are))
+      own-told (laid-so put own text all (laid ∙ ap (sets text 0) is))
+      (laid-so put remark comment all (laid-too ∙ ap (sets comment 0) are))
 
   pub own-short : fits ≡ false → Wrote none own said (toldOf put (p .commented) n m) text comment text comment
   own-short e =
@@ -218,7 +221,8 @@ module _ {h : List ℕ} {i : ℕ} {end : Lengths} {texts nowhere nowhere₁ : Li
   joined-wrote e laid T = told (text-laid e laid) (laid-so put (bytesIn (w .comment)) comment e (T .stands (unmet e) .laid))
 
   -- without a comment the text alone is laid
-  pub silent-wrote : {text₁ : List ℕ} → put ≡ Whole → text₁ ≡ sets text 0 (take (end .text) texts) → end .commented ≡ false
+  pub silent-wrote : {text₁ : List ℕ} → put ≡ Whole → text₁ ≡ sets text 0 (take (end .text) texts)
+      → end .commented ≡ false
       → WroteAt h i measured text comment text₁ comment
   silent-wrote e laid quiet =
       let nothing = silent (w .comment) (sym (stood e .commented) ∙ quiet) in
@@ -265,7 +269,8 @@ unfolding endsOpen endsWith
 empty-shut = refl
 
 module _ (v : Value) (joins : Bool) (p : CardRead) where
-  pub own-open : (joins ≡ true → hasText v ≡ true) → (joins && endsOpen (bytesOf (p .text))) ≡ true → opens (wordsIn v joins p) ≡ true
+  pub own-open : (joins ≡ true → hasText v ≡ true) → (joins && endsOpen (bytesOf (p .text))) ≡ true
+      → opens (wordsIn v joins p) ≡ true
   unfolding opens
   own-open text e = go joins refl e
     where

@@ -113,7 +113,8 @@ pub record Stands (w : Words) (l : Lengths) (texts before comments : List ℕ) :
 
 -- card j was joined to words, whatever they are
 pub record JoinedOne (role : Role) (j : ℕ) (held r : Lengths) (texts comments texts₁ comments₁ : List ℕ) : Type 0 where
-  pub words : (w : Words) (before : List ℕ) → Stands w held texts before comments → Stands (joinedBy role w) r texts₁ before comments₁
+  pub words : (w : Words) (before : List ℕ) → Stands w held texts before comments
+      → Stands (joinedBy role w) r texts₁ before comments₁
   pub reach : r .reach ≡ reachBy role j (take (r .text) texts₁)
   pub text : r .text ≤ held .text + 79
   pub comment : r .comment ≤ held .comment + 81

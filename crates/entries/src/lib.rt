@@ -461,7 +461,8 @@ fn join_within(
 
 // Uses the smaller scratch up to 108 cards: clearing the large one costs more than reading a card.
 fn write_joined(header: &[u8], i: usize, text: &mut [u8], comment: &mut [u8]) -> Written
-    requires { ⌜ (i < length (now header) / 80) × (length (now header) / 80 ≤ 720) × (opens (wordsOf (roleNo (now header) i)) ≡ true) ⌝ }
+    requires { ⌜ (i < length (now header) / 80) × (length (now header) / 80 ≤ 720)
+        × (opens (wordsOf (roleNo (now header) i)) ≡ true) ⌝ }
     ensures { λ r. ⌜ WroteAt (now (header .entry)) i r
         (now (text .entry)) (now (comment .entry)) (now (text .exit)) (now (comment .exit)) ⌝ }
 {

@@ -67,7 +67,8 @@ pub start : (h name : List ℕ) → Reached h name Nowhere 0
 start h name = record { within = omega arith; left = refl }
 
 module _ {h name : List ℕ} {p : Place} {i : ℕ} (S : Reached h name p i) where
-  pub at-end : isBadLength (length h) ≡ false → length h / 80 ≤ i → F.Refused (stopAt (faultOf R.NoEnd) (length h / 80)) ≡ findOf h name
+  pub at-end : isBadLength (length h) ≡ false → length h / 80 ≤ i
+      → F.Refused (stopAt (faultOf R.NoEnd) (length h / 80)) ≡ findOf h name
   unfolding headerFrom
   at-end good past =
       let all : length h / 80 ≡ i = omega (arith, S .within) in
@@ -110,6 +111,7 @@ module _ (h name : List ℕ) where
   unfolding findOf
   header-refused s e = by-refused (headerOf h) (lastOf name (rolesOf h)) s e
 
-  pub header-read : (end : ℕ) (q : Place) → findOf h name ≡ F.Read end q → (headerOf h ≡ Accepted end) × (lastOf name (rolesOf h) ≡ q)
+  pub header-read : (end : ℕ) (q : Place) → findOf h name ≡ F.Read end q
+      → (headerOf h ≡ Accepted end) × (lastOf name (rolesOf h) ≡ q)
   unfolding findOf
   header-read end q e = by-read (headerOf h) (lastOf name (rolesOf h)) end q e

@@ -12,7 +12,8 @@ use Rattle.listing.specs.Keys.{arraysBy, arraysAt, Entered}
 use Rattle.listing.proofs.Keying.{length-key}
 use Rattle.listing.proofs.Rows.{row-other, row-own, ordered-behind, found, not-there, ordered-put, place-none, place-at}
 
-module _ {count : ℕ} {first last keys order : List ℕ} (R : Ready count first last keys order) (name : List ℕ) (i : ℕ) {keys₁ : List ℕ}
+module _ {count : ℕ} {first last keys order : List ℕ} (R : Ready count first last keys order) (name : List ℕ)
+    (i : ℕ) {keys₁ : List ℕ}
     (stored : keys₁ ≡ sets keys (count * wordsOfKey) (keyOf name)) where
   pub behind : Ordered keys₁ order count
   behind = subst (λ (l : List ℕ). Ordered l order count) (sym stored) (ordered-behind (R .ordered) (keyOf name))

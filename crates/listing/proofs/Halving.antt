@@ -54,7 +54,8 @@ module _ {keys order : List ℕ} {count low high : ℕ} (H : Halving keys order 
           upper = λ j p q. by j p q (eqb mid j) refl (isBefore (rowIn keys order j) key) refl;
         }
       where
-        by : (j : ℕ) → mid ≤ j → j < count → (t : Bool) → eqb mid j ≡ t → (u : Bool) → isBefore (rowIn keys order j) key ≡ u → u ≡ false
+        by : (j : ℕ) → mid ≤ j → j < count → (t : Bool) → eqb mid j ≡ t → (u : Bool)
+            → isBefore (rowIn keys order j) key ≡ u → u ≡ false
         by j p q true d u g = sym g ∙ ap (λ (k : ℕ). isBefore (rowIn keys order k) key) (sym (eqb-true mid j d)) ∙ e
         by j p q false d true g =
             let behind = O .rising j q mid (lt-of-le-ne p (eqb-false mid j d)) in

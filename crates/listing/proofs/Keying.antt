@@ -36,7 +36,8 @@ pub word-back : (s : List ℕ) (k word : ℕ) → 0 < k → k ≤ length s → w
     → word * 129 + getD s (k - 1) 0 % 128 + 1 ≡ wordOf (drop (k - 1) s)
 word-back s k word some h e =
     let here : k ≡ k - 1 + 1 = omega arith in
-    ap (λ (w : ℕ). w * 129 + getD s (k - 1) 0 % 128 + 1) (e ∙ ap (λ (n : ℕ). wordOf (drop n s)) here) ∙ word-next s (k - 1) (omega arith)
+    ap (λ (w : ℕ). w * 129 + getD s (k - 1) 0 % 128 + 1) (e ∙ ap (λ (n : ℕ). wordOf (drop n s)) here)
+    ∙ word-next s (k - 1) (omega arith)
 
 -- ---- a key, a word at a time
 module _ (name d : List ℕ) (at q : ℕ) where

@@ -66,7 +66,8 @@ rest-start h good =
     go (Accepted end) = ap (λ (n : ℕ). byListed end (listFrom (rolesOf h) (take n (rolesOf h)) 0 empty)) (sub-zero end)
     go (Refused s) = refl
 
-pub refused-length : (h : List ℕ) → isBadLength (length h) ≡ true → tabled (Refused (stopAt (faultOf R.HeaderLength) 0)) empty ≡ listOf h
+pub refused-length : (h : List ℕ) → isBadLength (length h) ≡ true
+    → tabled (Refused (stopAt (faultOf R.HeaderLength) 0)) empty ≡ listOf h
 unfolding listOf headerOf
 refused-length h bad = rw bad
 
@@ -91,7 +92,8 @@ module _ (all rs : List Role) (i : ℕ) (t : Table) where
       (sym (becomes (listFrom all (take (end - suc i) rs) (suc i))) ∙ ap (λ (n : ℕ). listFrom all (take n (r ∷ rs)) i t) (sym one))
   next-by r u becomes (Refused s) e = refl
 
-  next-entry : (n : List ℕ) (v : Held) (u : Table) → ((then : Table → Listed) → put (placeIn all n (t .first) 0) i t then ≡ then u)
+  next-entry : (n : List ℕ) (v : Held) (u : Table)
+      → ((then : Table → Listed) → put (placeIn all n (t .first) 0) i t then ≡ then u)
       → rest all rs (suc i) u ≡ rest all (entry n v ∷ rs) i t
   unfolding headerFrom
   next-entry n v u becomes = next-by (entry n v) u becomes (headerFrom rs (suc i)) refl
@@ -126,7 +128,8 @@ pub record IsEntry (h : List ℕ) (i : ℕ) : Type 0 where
 -- entries whose keys stand at the places from k on
 pub data Rowed (h keys : List ℕ) : ℕ → List ℕ → Type 0 where
   none : {k : ℕ} → Rowed h keys k []
-  one : {k i : ℕ} {l : List ℕ} (e : IsEntry h i) → rowAt keys k ≡ keyOf (e .name) → Rowed h keys (suc k) l → Rowed h keys k (i ∷ l)
+  one : {k i : ℕ} {l : List ℕ} (e : IsEntry h i) → rowAt keys k ≡ keyOf (e .name) → Rowed h keys (suc k) l
+      → Rowed h keys k (i ∷ l)
 
 rowed-put : {h keys l : List ℕ} {k i : ℕ} → Rowed h keys k l → (e : IsEntry h i) → rowAt keys (k + length l) ≡ keyOf (e .name)
     → Rowed h keys k (l ++ i ∷ [])
@@ -245,7 +248,8 @@ module _ {h first last keys order : List ℕ} {count i : ℕ} (S : Standing h fi
         ∙ sym (ap (λ (l : List Role). rest roles l i (S .t)) (roles-from h i next))
         ∙ S .left
 
-    left-next : (t : Table) → rest roles (drop (i + 1) roles) (suc i) t ≡ listOf h → rest roles (drop (i + 1) roles) (i + 1) t ≡ listOf h
+    left-next : (t : Table) → rest roles (drop (i + 1) roles) (suc i) t ≡ listOf h
+        → rest roles (drop (i + 1) roles) (i + 1) t ≡ listOf h
     left-next t e = ap (λ (k : ℕ). rest roles (drop (i + 1) roles) k t) (add-one i) ∙ e
 
     pub on-refused : (f : Fault) → refused f ≡ roleNo h i → tabled (Refused (stopAt f i)) empty ≡ listOf h
@@ -308,7 +312,8 @@ module _ {h first last keys order : List ℕ} {count i : ℕ} (S : Standing h fi
         rowed-so : Rowed h keys₁ 0 (S .t .first)
         rowed-so =
             rowed-by (S .rowed)
-            (λ j p. ap (λ (l : List ℕ). rowAt l j) (E .rows) ∙ row-other keys (keyOf (own .name)) count j (omega (arith, S .count-is)))
+            (λ j p. ap (λ (l : List ℕ). rowAt l j) (E .rows)
+            ∙ row-other keys (keyOf (own .name)) count j (omega (arith, S .count-is)))
 
         own-row : rowAt keys₁ count ≡ keyOf (own .name)
         own-row =
@@ -339,7 +344,8 @@ module _ {h first last keys order : List ℕ} {count i : ℕ} (S : Standing h fi
             }
 
         -- the arrays with one place more
-        put-in : (l v : List ℕ) → l ≡ filled free places v → count ≡ length v → set l count i ≡ filled free places (v ++ i ∷ [])
+        put-in : (l v : List ℕ) → l ≡ filled free places v → count ≡ length v
+            → set l count i ≡ filled free places (v ++ i ∷ [])
         put-in l v is e =
             ap₂ (λ (x : List ℕ) (k : ℕ). set x k i) is e ∙ filled-put free places v i (omega (arith, room))
 

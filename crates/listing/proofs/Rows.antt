@@ -33,11 +33,13 @@ module _ (keys key : List ℕ) (n : ℕ) where
   pub row-other : (k : ℕ) → k < n → rowAt (sets keys (n * wordsOfKey) key) k ≡ rowAt keys k
   row-other k h = row-sets key keys (k * 9) (n * 9) (omega arith)
 
-  pub row-own : length key ≡ wordsOfKey → n * wordsOfKey + wordsOfKey ≤ length keys → rowAt (sets keys (n * wordsOfKey) key) n ≡ key
+  pub row-own : length key ≡ wordsOfKey → n * wordsOfKey + wordsOfKey ≤ length keys
+      → rowAt (sets keys (n * wordsOfKey) key) n ≡ key
   row-own long h =
       let front = length-take-le (n * 9) keys (omega arith) in
       let behind = drop (n * 9 + length key) keys in
-      ap (λ (l : List ℕ). take 9 (drop (n * 9) l)) (sets-eq key keys (n * 9) (omega arith) ∙ append-assoc (take (n * 9) keys) key behind)
+      ap (λ (l : List ℕ). take 9 (drop (n * 9) l))
+      (sets-eq key keys (n * 9) (omega arith) ∙ append-assoc (take (n * 9) keys) key behind)
       ∙ ap (take 9) (drop-at (take (n * 9) keys) (key ++ behind) (n * 9) front)
       ∙ take-at key behind 9 long
 
@@ -60,14 +62,16 @@ module _ (key keys : List ℕ) where
       rw (other-key (rowAt keys k) key (none k (omega arith) (omega arith)))
       (key-none n (suc k) (λ j p q. none j (omega arith) (omega arith)))
 
-  key-at : (n k p : ℕ) → k ≤ p → p < k + n → rowAt keys p ≡ key → ((j : ℕ) → k ≤ j → j < p → rowAt keys j ≡ key → ⊥)
+  key-at : (n k p : ℕ) → k ≤ p → p < k + n → rowAt keys p ≡ key
+      → ((j : ℕ) → k ≤ j → j < p → rowAt keys j ≡ key → ⊥)
       → keyPlace key keys n k ≡ At p
   unfolding keyPlace
   key-at zero k p h l e none = absurd (omega arith)
   key-at (suc n) k p h l e none = go (eqb k p) refl (key-at n (suc k) p)
     where
       go : (t : Bool) → eqb k p ≡ t
-          → (suc k ≤ p → p < suc k + n → rowAt keys p ≡ key → ((j : ℕ) → suc k ≤ j → j < p → rowAt keys j ≡ key → ⊥)
+          → (suc k ≤ p → p < suc k + n → rowAt keys p ≡ key
+          → ((j : ℕ) → suc k ≤ j → j < p → rowAt keys j ≡ key → ⊥)
           → keyPlace key keys n (suc k) ≡ At p)
           → cond (same (rowAt keys k) key) (At k) (keyPlace key keys n (suc k)) ≡ At p
       go true d more =
@@ -82,7 +86,8 @@ module _ (key keys : List ℕ) where
 
 -- ---- places in the order of their keys
 -- at the start there are none
-pub ordered-none : (keys order : List ℕ) → keys ≡ replicate (places * wordsOfKey) 0 → order ≡ replicate places 0 → Ordered keys order 0
+pub ordered-none : (keys order : List ℕ) → keys ≡ replicate (places * wordsOfKey) 0 → order ≡ replicate places 0
+    → Ordered keys order 0
 ordered-none keys order k o =
     record {
       few = omega arith;

@@ -22,7 +22,8 @@ pub slide-start : (order : List ℕ) (at n : ℕ) → at ≤ n → Sliding order
 slide-start order at n h =
     record { from = h; to = omega arith; long = refl; lower = λ i p. refl; upper = λ i p q. absurd (omega arith) }
 
-module _ {order₀ : List ℕ} {at n : ℕ} {order : List ℕ} {j : ℕ} (S : Sliding order₀ at n order j) (room : n < length order₀) where
+module _ {order₀ : List ℕ} {at n : ℕ} {order : List ℕ} {j : ℕ} (S : Sliding order₀ at n order j)
+    (room : n < length order₀) where
   pub slide-next : at < j → Sliding order₀ at n (set order j (getD order (j - 1) 0)) (j - 1)
   slide-next h =
       record {

@@ -117,7 +117,8 @@ arraysAt (At k) i count first last = arraysBy count first (set last k i)
 arraysAt Nowhere i count first last = arraysBy (count + 1) (set first count i) (set last count i)
 
 -- the entry of card i was put at the place of its name's key, which stands behind the places, and they are in order
-pub record Entered (name : List ℕ) (i count : ℕ) (first last keys : List ℕ) (then : Arrays) (keys₁ order₁ : List ℕ) : Type 0 where
+pub record Entered (name : List ℕ) (i count : ℕ) (first last keys : List ℕ) (then : Arrays)
+    (keys₁ order₁ : List ℕ) : Type 0 where
   pub put : then ≡ arraysAt (keyPlace (keyOf name) keys count 0) i count first last
   pub rows : keys₁ ≡ sets keys (count * wordsOfKey) (keyOf name)
   pub ordered : Ordered keys₁ order₁ (then .names)

@@ -17,7 +17,8 @@ use Rattle.numbers.specs.Signs.{isNegative, unsigned, signedOf, fits64}
 use Rattle.numbers.specs.Digits.{isEmpty, isDigits, digitsValue}
 use Rattle.numbers.specs.Answers.{wholeOf, decimalNumber, isRead, _orElse_, invalid}
 use Rattle.numbers.specs.Integers.{integerOf}
-use Rattle.numbers.specs.Decimals.{fractionOf, afterFraction, digitsOf, exponentOf, scaled, withExponent, finiteOf, isWord, decimalOf}
+use Rattle.numbers.specs.Decimals.{fractionOf, afterFraction, digitsOf, exponentOf}
+use Rattle.numbers.specs.Decimals.{scaled, withExponent, finiteOf, isWord, decimalOf}
 use Rattle.numbers.specs.Numbers.{readNumber}
 
 -- the length of the text, which for an integer or a decimal is none of the value's

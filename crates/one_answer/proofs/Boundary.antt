@@ -129,4 +129,5 @@ widrekas-step κs a r q s t x y = both (both (x .answer ∙ sym (y .answer)) (x 
 -- `widrekas::widrekas_decode`
 pub widrekas-decode : OneAnswer widrekas-decode-reads.Post
     (λ r s. pairOf r (pairOf (now (s .1 .1 .1 .1 .0)) (now (s .1 .1 .1 .1 .1 .0))))
-widrekas-decode κs a r q s t x y = both (x .answer ∙ sym (y .answer)) (both (x .content ∙ sym (y .content)) (x .told ∙ sym (y .told)))
+widrekas-decode κs a r q s t x y = both (x .answer ∙ sym (y .answer))
+    (both (x .content ∙ sym (y .content)) (x .told ∙ sym (y .told)))

@@ -49,11 +49,13 @@ same-reader : {r q : Holds} → r .tile ≡ q .tile → r .bit ≡ q .bit → r 
 same-reader x y = λ j. record { tile = x j; bit = y j }
 
 -- `reader::new`
-pub reader-new : OneAnswer {S = Holds} (λ (κs : Unit {0}) (tile : List ℕ) (r s : Holds). (r .tile ≡ tile) × (r .bit ≡ 0)) (λ r s. r)
+pub reader-new : OneAnswer {S = Holds}
+    (λ (κs : Unit {0}) (tile : List ℕ) (r s : Holds). (r .tile ≡ tile) × (r .bit ≡ 0)) (λ r s. r)
 reader-new κs a r q s t x y = same-reader (x .0 ∙ sym (y .0)) (x .1 ∙ sym (y .1))
 
 -- `reader::place`
-pub reader-place : (bit : ℕ) → OneAnswer {S = Holds} (λ (κs : Unit {0}) (a r s : Holds). (r .tile ≡ a .tile) × (r .bit ≡ bit)) (λ r s. r)
+pub reader-place : (bit : ℕ) → OneAnswer {S = Holds}
+    (λ (κs : Unit {0}) (a r s : Holds). (r .tile ≡ a .tile) × (r .bit ≡ bit)) (λ r s. r)
 reader-place bit κs a r q s t x y = same-reader (x .0 ∙ sym (y .0)) (x .1 ∙ sym (y .1))
 
 -- what `take_bits` and `skip_zeros` owe of the field f and of the reader s that they leave, where the field of the reader a is found

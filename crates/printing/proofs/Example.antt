@@ -47,7 +47,8 @@ row header printed = record { header = header; printed = printed }
 
 abbrev pub table : List Row
 table =
-    row ("SIZE    = 12" ∷ "KIT     = 'FKM-&'" ∷ "CONTINUE  '75' / ring" ∷ "END" ∷ []) ("SIZE I 12" ∷ "KIT S FKM-75" ∷ "2 keywords" ∷ [])
+    row ("SIZE    = 12" ∷ "KIT     = 'FKM-&'" ∷ "CONTINUE  '75' / ring" ∷ "END" ∷ [])
+    ("SIZE I 12" ∷ "KIT S FKM-75" ∷ "2 keywords" ∷ [])
     ∷ row ("KIT     = 1" ∷ "SIZE    = ''" ∷ "KIT     = 2" ∷ "END" ∷ []) ("KIT I 2" ∷ "SIZE S" ∷ "2 keywords" ∷ [])
     ∷ row ("END" ∷ "KIT     = 1" ∷ []) ("0 keywords" ∷ [])
     ∷ row ("KIT     = 'FKM'" ∷ "KIT     = 'FKM" ∷ "END" ∷ []) ("refused 3 at 1" ∷ [])

@@ -70,7 +70,8 @@ in-order-next [] k p = absurd (omega arith)
 in-order-next (l ∷ ls) zero p = omega (arith, length-append l [])
 in-order-next (l ∷ ls) (suc k) p =
     let number : suc k + 1 ≡ suc (k + 1) = omega arith in
-    let next : inOrder (take (suc k + 1) (l ∷ ls)) ≡ l ++ inOrder (take (k + 1) ls) = ap (λ (n : ℕ). inOrder (take n (l ∷ ls))) number in
+    let next : inOrder (take (suc k + 1) (l ∷ ls))
+    ≡ l ++ inOrder (take (k + 1) ls) = ap (λ (n : ℕ). inOrder (take n (l ∷ ls))) number in
     ap length next
     ∙ length-append l (inOrder (take (k + 1) ls))
     ∙ ap (λ (n : ℕ). length l + n) (in-order-next ls k (omega arith))
@@ -108,7 +109,8 @@ inside [] i n v e = absurd (let z : _≡_ {A = ℕ} 0 1 = cc in omega arith)
 inside (r ∷ rs) zero n v e = omega arith
 inside (r ∷ rs) (suc i) n v e = omega (arith, inside rs i n v e)
 
-card-named : (h : List ℕ) (i : ℕ) (n : List ℕ) (v : Held) → getD (rolesOf h) i neutral ≡ entry n v → bytesOf (cardAt h i .name) ≡ n
+card-named : (h : List ℕ) (i : ℕ) (n : List ℕ) (v : Held) → getD (rolesOf h) i neutral ≡ entry n v
+    → bytesOf (cardAt h i .name) ≡ n
 card-named h i n v e =
     let within : i < length h / 80 = omega (arith, inside (rolesOf h) i n v e, role-count h) in
     ap (λ (r : CardRead). bytesOf (r .name)) (card-here h i within)
@@ -129,7 +131,8 @@ module _ (h : List ℕ) (end : ℕ) (a : headerOf h ≡ Accepted end) where
   last-long =
       let is = contents h end a in
       let count : listOf h .count ≡ length (firstsOf (rolesOf h)) = ap (λ (x : Listing). x .count) is in
-      let last : length (listOf h .last) ≡ length (filled free places (lastsOf (rolesOf h))) = ap (λ (x : Listing). length (x .last)) is in
+      let last : length (listOf h .last)
+      ≡ length (filled free places (lastsOf (rolesOf h))) = ap (λ (x : Listing). length (x .last)) is in
       let same : length (lastsOf (rolesOf h)) ≡ length (firstsOf (rolesOf h)) = length-map (firstsOf (rolesOf h)) _ in
       omega (arith, count, last, same, filled-long free places (lastsOf (rolesOf h)))
 
@@ -177,7 +180,11 @@ module _ (h : List ℕ) (end : ℕ) (a : headerOf h ≡ Accepted end) where
         agreement h end a name k (taken .stands) text line
         ∙ ap (λ (x : Header). lookedUp x (rolesOf h) name text line) a
         ∙ ap (λ (o : Option Held). given o text line) (found .is)
-        ∙ rw (le-leb (length s) (length text) (omega (arith, short .text)), le-leb (length c) (length line) (omega (arith, short .comment)))
+        ∙ rw (
+          le-leb (length s) (length text) (omega (arith, short .text)),
+          le-leb (length c) (length line)
+              (omega (arith, short .comment)),
+        )
 
     -- the line is one of the header's
     pub line-is : getD (nameLines h) k [] ≡ entryLine name (value .value) (value .digits) (value .words .text)

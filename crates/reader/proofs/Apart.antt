@@ -103,10 +103,12 @@ module _ {M : Type 1} (𝓤 : URA M) (H : Heap 𝓤) (A : Atoms 𝓤) (W : Given
   -- another number takes the place of the bit: the tile's part is kept, and the number's facts are made anew
   pub again : (m : ℕ) → m < 2 ^ 64 → ent 𝓤 (sem 𝓤 H A (Own κ d)) (sem 𝓤 H A (Own κ (moved d m)))
   again m fits =
-      qed W (‵ (Own κ d) ∷ []) ∵ owned ! usize (Is usize) (uint-makes 𝓤 H A W w64) m (vint w64 m ∷ []) (refl, fits) $ move ! (1 ∷ 0 ∷ []) $
+      qed W (‵ (Own κ d) ∷ []) ∵ owned ! usize (Is usize) (uint-makes 𝓤 H A W w64) m (vint w64 m ∷ [])
+      (refl, fits) $ move ! (1 ∷ 0 ∷ []) $
       by ! (own-put 𝓤 H A W (D (κ, tt)) (L (κ, tt)) 1 vd m (T′.lowered d))
 
-module _ {M : Type 1} {𝓤 : URA M} {H : Heap 𝓤} {A : Atoms 𝓤} (W : Given 𝓤 H A) {K : Type 0} {Γ : List (Item 𝓤)} {G : Goal 𝓤 H} where
+module _ {M : Type 1} {𝓤 : URA M} {H : Heap 𝓤} {A : Atoms 𝓤}
+    (W : Given 𝓤 H A) {K : Type 0} {Γ : List (Item 𝓤)} {G : Goal 𝓤 H} where
   -- a number is owned for nothing
   pub number : K → (n : ℕ) → n < 2 ^ 64 → Step K W (‵ (usize .own n (vint w64 n ∷ [])) ∷ Γ) G Γ G
   number t n fits = owned t usize (Is usize) (uint-makes 𝓤 H A W w64) n (vint w64 n ∷ []) (refl, fits)

@@ -1,5 +1,6 @@
 -- A reader that lies in a local is lent by a `&mut` for one call, and the local is had back.
---     lends     a new lifetime ν is made, and the reader is lent for ν within 'a. The reference and a share of each token go to the callee
+--     lends     a new lifetime ν is made, and the reader is lent for ν within 'a.
+--               The reference and a share of each token go to the callee
 --     back      the callee's tokens come back, ν is ended, and the local holds some reader
 -- `take_bits`'s contract says which reader that is; its caller needs the local only to free it. Assumes `Given`.
 use Prim.Native.Nat.{ℕ}
@@ -56,7 +57,8 @@ module _ {M : Type 1} (𝓤 : URA M) (H : Heap 𝓤) (A : Atoms 𝓤) (W : Given
   Kept ν γ = raw (Rest ν) ⊛ ‵ (flent (within ν κ) (Body (mem (R κ)) l 0 γ))
 
   lies : (d : Reader) (v : Val)
-      → ent 𝓤 (⋆ 𝓤 H A (‵ (cellAt fullShare (R κ .mir) (v ∷ []) l 0) ∷ ‵ (R κ .own d (v ∷ [])) ∷ [])) (sem 𝓤 H A (mem (R κ) .lies d l 0))
+      → ent 𝓤 (⋆ 𝓤 H A (‵ (cellAt fullShare (R κ .mir) (v ∷ []) l 0) ∷ ‵ (R κ .own d (v ∷ [])) ∷ []))
+      (sem 𝓤 H A (mem (R κ) .lies d l 0))
   unfolding partOf
   lies d v =
       qed W (‵ (cellAt fullShare (R κ .mir) (v ∷ []) l 0) ∷ ‵ (R κ .own d (v ∷ [])) ∷ []) ∵ fjoin ! $
@@ -77,13 +79,17 @@ module _ {M : Type 1} (𝓤 : URA M) (H : Heap 𝓤) (A : Atoms 𝓤) (W : Given
       use2 W (‵ (mem (R κ) .lies d l 0)) (lies d v) $
       lft-new ! tt (λ ν. move ! (1 ∷ []) $
       use1 W (later (some (λ (γ : GName).
-      ‵ (MutRef (named 0) (within ν κ) (R κ) .own (at-local l d γ) (vptr l 0 ∷ [])) ⊛ ‵ (flent (within ν κ) (Body (mem (R κ)) l 0 γ)))))
+      ‵ (MutRef (named 0) (within ν κ) (R κ) .own (at-local l d γ) (vptr l 0 ∷ [])) ⊛ ‵
+      (flent (within ν κ) (Body (mem (R κ)) l 0 γ)))))
       (lends-ref 𝓤 H A W (R κ) (named 0) (within ν κ) d l 0) $ await ! tt $ pick ! (λ γ. split ! $
       -- [the reference; the lender's part; ν's token; 'a's token]
-      move ! (2 ∷ []) $ use1 W (‵ (flft (ν ∷ []) (PosShare·left q)) ⊛ raw (Rest ν)) (W .lfts .lft-carve ν (PosShare·left q)) $ split ! $
-      move ! (4 ∷ []) $ use1 W (‵ (flft κ (PosShare·left q)) ⊛ ‵ (flft κ (PosShare·right q))) (W .lfts .lft-split κ q) $ split ! $
+      move ! (2 ∷ []) $ use1 W (‵ (flft (ν ∷ []) (PosShare·left q)) ⊛ raw (Rest ν))
+      (W .lfts .lft-carve ν (PosShare·left q)) $ split ! $
+      move ! (4 ∷ []) $ use1 W (‵ (flft κ (PosShare·left q)) ⊛ ‵ (flft κ (PosShare·right q)))
+      (W .lfts .lft-split κ q) $ split ! $
       -- ['a's left half; its right half; ν's share; the rest of ν's token; the reference; the lender's part]
-      move ! (2 ∷ 0 ∷ []) $ use2 W (‵ (flft (within ν κ) (PosShare·left q))) (W .lfts .lft-meet (ν ∷ []) κ (PosShare·left q)) $
+      move ! (2 ∷ 0 ∷ []) $ use2 W (‵ (flft (within ν κ) (PosShare·left q)))
+      (W .lfts .lft-meet (ν ∷ []) κ (PosShare·left q)) $
       at-once ! $ show ! (λ (α : ℕ). ex 𝓤 (λ (δ : GName). mean 𝓤 H A (Lent d α δ ⊛ Kept α δ))) ν $
       show ! (λ (δ : GName). mean 𝓤 H A (Lent d ν δ ⊛ Kept ν δ)) γ $
       move ! (0 ∷ 1 ∷ []) $ join ! $ move ! (2 ∷ 0 ∷ []) $ join ! $ frame ! $ join ! $ done !))
@@ -93,11 +99,13 @@ module _ {M : Type 1} (𝓤 : URA M) (H : Heap 𝓤) (A : Atoms 𝓤) (W : Given
       (H .⇛ (ex 𝓤 (λ (d : Reader). mean 𝓤 H A (‵ (Cell (T′.lowered d)) ⊛ ‵ (flft κ q)))))
   back ν γ =
       qed W (‵ (flft (within ν κ) (PosShare·left q)) ∷ ‵ (flft κ (PosShare·right q)) ∷ Kept ν γ ∷ []) ∵ updating ! $
-      use1 W (‵ (flft (ν ∷ []) (PosShare·left q)) ⊛ ‵ (flft κ (PosShare·left q))) (W .lfts .lft-unmeet (ν ∷ []) κ (PosShare·left q)) $
+      use1 W (‵ (flft (ν ∷ []) (PosShare·left q)) ⊛ ‵ (flft κ (PosShare·left q)))
+      (W .lfts .lft-unmeet (ν ∷ []) κ (PosShare·left q)) $
       split ! $ move ! (1 ∷ 2 ∷ []) $ use2 W (‵ (flft κ q)) (W .lfts .lft-join κ q) $
       -- ['a's token; ν's share; what is kept]
       move ! (2 ∷ []) $ split ! $ move ! (3 ∷ 0 ∷ []) $
       use2 W (‵ (flft (ν ∷ []) fullShare)) (apply∗ 𝓤 (A .lft (ν ∷ []) (PosShare·left q)) (A .lft (ν ∷ []) fullShare)) $
       lft-end ! tt $ use1 W (‵ (fdead (within ν κ))) (W .lfts .dead-incl (within ν κ) (ν ∷ []) (meet-⊑-left (ν ∷ []) κ)) $
       lent-back ! tt $ fpick ! (λ d. fsplit ! $ use1 W (‵ (Cell (T′.lowered d))) (found d) $
-      at-once ! $ show ! (λ (e : Reader). mean 𝓤 H A (‵ (Cell (T′.lowered e)) ⊛ ‵ (flft κ q))) d $ frame ! $ keep ! (1 ∷ []) $ done !)
+      at-once ! $ show ! (λ (e : Reader). mean 𝓤 H A
+      (‵ (Cell (T′.lowered e)) ⊛ ‵ (flft κ q))) d $ frame ! $ keep ! (1 ∷ []) $ done !)

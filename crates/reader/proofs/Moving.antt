@@ -45,7 +45,8 @@ module _ {M : Type 1} (𝓤 : URA M) (H : Heap 𝓤) (A : Atoms 𝓤) (at-mem : 
 
   -- a field is Copy: it gives what the callee asks, and is kept
   pub goes-past : (W : Given 𝓤 H A) (p : ℕ) → p < 2 ^ 64 → (f : Field) (u : Val)
-      → ent 𝓤 (sem 𝓤 H A (S.the-row .own f (u ∷ []))) (sep 𝓤 (Past .pre (to-past p f u)) (sem 𝓤 H A (S.the-row .own f (u ∷ []))))
+      → ent 𝓤 (sem 𝓤 H A (S.the-row .own f (u ∷ [])))
+      (sep 𝓤 (Past .pre (to-past p f u)) (sem 𝓤 H A (S.the-row .own f (u ∷ []))))
   goes-past W p fits f u =
       qed W (‵ (S.the-row .own f (u ∷ [])) ∷ []) ∵
       use1 W (‵ (S.the-row .own f (u ∷ [])) ⊛ ‵ (S.the-row .own f (u ∷ [])))

@@ -1,18 +1,10 @@
 //! The list and its entries, held to the boundary's own lookup and to its cards.
 
 use super::*;
+use random::Random;
 
-/// Numbers that look random: xorshift.
-struct Random(u64);
-
-impl Random {
-    fn below(&mut self, n: usize) -> usize {
-        self.0 ^= self.0 << 13;
-        self.0 ^= self.0 >> 7;
-        self.0 ^= self.0 << 17;
-        (self.0 >> 16) as usize % n
-    }
-}
+#[path = "../../tests/common/random.rs"]
+mod random;
 
 /// Cards that meet: equal names, open strings, blanks around keywords, names with full stops.
 const CARDS: [&[u8]; 22] = [

@@ -1,6 +1,8 @@
 //! Headers made of the fronts of their cards.
 #![allow(dead_code)]
 
+pub mod random;
+
 use widrekas::{Entry, Header, Value};
 
 /// A card, padded with spaces.

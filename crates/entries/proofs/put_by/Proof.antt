@@ -8,7 +8,8 @@ use Rattle.entries.proofs.put_by.Statement.{statement}
 use Rattle.entries.proofs.put_by.Tie as tie
 
 -- the case that is known is the whole
-by : (s : tie.Start) (r : Reach) → s .args .reach ≡ r → putBy (stopIn r) (s .args .fits) ≡ putBy (stopIn (s .args .reach)) (s .args .fits)
+by : (s : tie.Start) (r : Reach) → s .args .reach ≡ r
+    → putBy (stopIn r) (s .args .fits) ≡ putBy (stopIn (s .args .reach)) (s .args .fits)
 by s r e = ap (λ (x : Reach). putBy (stopIn x) (s .args .fits)) (sym e)
 
 enum-told : tie.Need-enum-told

@@ -25,7 +25,8 @@ length-is : (c : tie.Else1) → isBadLength (length (start (c .before) .args .he
 length-is c = sym (c .before .is-bad-length .ensures) ∙ c .if1 .left
 
 module _ (h : List ℕ) (i : ℕ) (text comment : List ℕ) where
-  bad : isBadLength (length h) ≡ true → untouched (L.Header (stopAt (faultOf R.HeaderLength) 0)) text comment ≡ entryOf h i text comment
+  bad : isBadLength (length h) ≡ true
+      → untouched (L.Header (stopAt (faultOf R.HeaderLength) 0)) text comment ≡ entryOf h i text comment
   unfolding entryOf
   bad e = rw e
 

@@ -21,7 +21,8 @@ line s = bytesOf (s .args .a) ++ bytesOf (s .args .b) ++ s .args .middle .now ++
 line-length : (s : tie.Start)
     → length (line s)
     ≡ length (bytesOf (s .args .a)) + length (bytesOf (s .args .b)) + length (s .args .middle .now) + length (bytesOf (s .args .d)) + 1
-line-length s = length-segments (bytesOf (s .args .a)) (bytesOf (s .args .b)) (s .args .middle .now) (bytesOf (s .args .d)) (lineFeed ∷ [])
+line-length s = length-segments (bytesOf (s .args .a)) (bytesOf (s .args .b)) (s .args .middle .now)
+    (bytesOf (s .args .d)) (lineFeed ∷ [])
 
 abbrev start : tie.After-held3 → tie.Start
 start c = c .before .before .before .before .before

@@ -33,7 +33,8 @@ use Rattle.listing.proofs.list.Statement.{statement}
 use Rattle.listing.proofs.list.Tie as tie
 
 abbrev Inv-loop : tie.InvT-loop
-Inv-loop header cards first₀ last₀ keys₀ order₀ count₀ i₀ first last keys order count i = Standing header first last keys order count i
+Inv-loop header cards first₀ last₀ keys₀ order₀ count₀ i₀ first last keys order count i =
+    Standing header first last keys order count i
 
 abbrev μ-loop : tie.MeasureT-loop
 μ-loop header cards first₀ last₀ keys₀ order₀ count₀ i₀ first last keys order count i = cards - i
@@ -223,8 +224,10 @@ loop-again c =
     let known = c .before .before in
     let co = known .before .before in
     let S = standing co in
-    let course : (b : Bool) → known .entry .given .0 .0 ≡ b → co .course-of .result ≡ On b = λ b e. known .entry .given .1 ∙ ap On e in
-    let other : known .entry .given .0 .0 ≡ false → courseOf (told co) ≡ On false = λ e. sym (co .course-of .ensures) ∙ course false e in
+    let course : (b : Bool) → known .entry .given .0 .0 ≡ b
+    → co .course-of .result ≡ On b = λ b e. known .entry .given .1 ∙ ap On e in
+    let other : known .entry .given .0 .0 ≡ false
+    → courseOf (told co) ≡ On false = λ e. sym (co .course-of .ensures) ∙ course false e in
     ⊎-elim
     (λ w.
     standing-as (w .10) (w .11) (w .12) (w .13) (w .14) (on-entry S (more co) (own co (course true (w .0 .taken))) (w .5 .ensures)))

@@ -65,7 +65,8 @@ card c = c .before .before .before .before
 
 read-is : (c : tie.After-read-entry) → let s = start (card c) in let a = s .args in
     leftBy (c .read-entry .result) (c .read-entry .last .1 .1 .0) (c .read-entry .last .1 .1 .1 .0)
-    ≡ leftBy (foundAs (value s)) (sets (a .text .now) 0 (value s .words .text)) (sets (a .line .now) 0 (bytesIn (value s .words .comment)))
+    ≡ leftBy (foundAs (value s)) (sets (a .text .now) 0 (value s .words .text))
+    (sets (a .line .now) 0 (bytesIn (value s .words .comment)))
 read-is c =
     let s = start (card c) in
     let a = s .args in

@@ -18,7 +18,8 @@ use prog.Wp.{Heap, Calls, Loops, WpFn, Tables}
 use ghost.Atoms.{Atoms, sem}
 use contract.Monad.{Fun, fact, fact-mono}
 use contract.Running.{givenOf, tables, tablesOf}
-use types.Kit.{Item, Given, ‵, raw, _⊛_, ⋆, mean, some, later, _$_, _∵_, !, qed, by, move, drop, use1, use2, use3, split, join, pick}
+use types.Kit.{Item, Given, ‵, raw, _⊛_, ⋆, mean, some, later, _$_, _∵_}
+use types.Kit.{ !, qed, by, move, drop, use1, use2, use3, split, join, pick}
 use types.Kit.{fsplit, fjoin, suffices, frame, await, done}
 use types.Run.{look, init, forget, stop, from, load, addr, of-opd, and-then, no-more, assigns, land, returns, enter}
 use types.Run.{alloc1, alloc0, params1, pass1, pass0, free1, free0}
@@ -219,7 +220,8 @@ module _ {M : Type 1} (𝓤 : URA M) (H : Heap 𝓤) (A : Atoms 𝓤) (mem : Mem
           → ent 𝓤 Entry (WpFn 𝓤 H C Λ code.function (v ∷ vint w64 p ∷ vint w64 n ∷ []) (Walk .post here))
       walk is₀ =
           qed W (raw Entry ∷ []) ∵ enter ! C Λ code.function (v ∷ vint w64 p ∷ vint w64 n ∷ []) _ $
-          alloc1 ! (λ l₀. alloc1 ! (λ l₁. alloc1 ! (λ l₂. alloc1 ! (λ l₃. alloc1 ! (λ l₄. alloc1 ! (λ l₅. alloc1 ! (λ l₆. alloc1 ! (λ l₇.
+          alloc1 ! (λ l₀. alloc1 ! (λ l₁. alloc1 ! (λ l₂. alloc1 ! (λ l₃.
+          alloc1 ! (λ l₄. alloc1 ! (λ l₅. alloc1 ! (λ l₆. alloc1 ! (λ l₇.
           alloc0 ! $ params1 ! $
           pass1 ! (init ! 12 refl (shr-slice-lawful 𝓤 H A W (named 0) κ u8 .typed s (v ∷ []) is₀ .0)) $
           pass1 ! (init ! 10 refl (tt, record { fits = p-fits })) $
@@ -227,7 +229,8 @@ module _ {M : Type 1} (𝓤 : URA M) (H : Heap 𝓤) (A : Atoms 𝓤) (mem : Mem
           -- `new` is called
           move ! (16 ∷ []) $ use1 W (raw (New .pre to-new) ⊛ ‵ (TileOwn κ s)) goes-new $ split ! $
           calls-at ! fm New known-new to-new (and-then ! (load ! (from ! (stop !)) (look ! 14 refl)) (no-more !)) (λ u.
-          use1 W (later (some (λ (r : Reader). (Token 𝓤 κ q ⊛ ‵ (B (κ, tt) .own r (u ∷ []))) ⊛ raw (NewSaid r)))) (id⊢ 𝓤 _) $
+          use1 W (later (some (λ (r : Reader). (Token 𝓤 κ q ⊛ ‵ (B (κ, tt) .own r (u ∷ []))) ⊛ raw (NewSaid r))))
+          (id⊢ 𝓤 _) $
           await ! tt $ pick ! (λ r. split ! $ move ! (1 ∷ []) $
           use1 W (raw (fact 𝓤 (IsNew r))) (new-said r) $ heard ! (IsNew r) (λ e. split ! $ move ! (1 ∷ []) $
           -- [what the struct owns; the token; what s owns; _7; …; _6; …; _5; …; _4; …; _3; …; _2; …; _1; …; _0; …]
@@ -238,7 +241,8 @@ module _ {M : Type 1} (𝓤 : URA M) (H : Heap 𝓤) (A : Atoms 𝓤) (mem : Mem
           calls-at ! fm Place known-place (to-place r u)
           (and-then ! (load ! (from ! (stop !)) (look ! 4 refl)) (and-then ! (load ! (from ! (stop !)) (look ! 12 refl)) (no-more !)))
           (λ u′.
-          use1 W (later (some (λ (t : Reader). (Token 𝓤 κ q ⊛ ‵ (B (κ, tt) .own t (u′ ∷ []))) ⊛ raw (PlaceSaid r t)))) (id⊢ 𝓤 _) $
+          use1 W (later (some (λ (t : Reader). (Token 𝓤 κ q ⊛ ‵ (B (κ, tt) .own t (u′ ∷ []))) ⊛ raw
+          (PlaceSaid r t)))) (id⊢ 𝓤 _) $
           await ! tt $ pick ! (λ t. split ! $ move ! (1 ∷ []) $
           use1 W (raw (fact 𝓤 (IsPlaced r t))) (place-said r t) $ heard ! (IsPlaced r t) (λ e′. split ! $ move ! (1 ∷ []) $
           peeks ! (B (κ, tt)) (Is (B (κ, tt))) (shows 𝓤 H A (B (κ, tt))) t (u′ ∷ []) (λ is′.
@@ -248,7 +252,8 @@ module _ {M : Type 1} (𝓤 : URA M) (H : Heap 𝓤) (A : Atoms 𝓤) (mem : Mem
           assigns ! (addr ! (from ! (stop !))) (from ! (stop !)) (init ! 3 refl (tt, tt)) $
           -- the local is lent, and `take_bits` is called
           move ! (1 ∷ []) $ split ! $ move ! (10 ∷ 2 ∷ 0 ∷ []) $
-          use3 W (later (some (λ (ν : ℕ). some (λ (γ : GName). Lent 𝓤 H A W κ q l₄ t ν γ ⊛ Kept 𝓤 H A W κ q l₄ ν γ))))
+          use3 W (later (some (λ (ν : ℕ). some
+          (λ (γ : GName). Lent 𝓤 H A W κ q l₄ t ν γ ⊛ Kept 𝓤 H A W κ q l₄ ν γ))))
           (lends 𝓤 H A W κ q l₄ t u′) $
           await ! tt $ pick ! (λ ν. pick ! (λ γ. split ! $
           use1 W (raw (Take .pre (to-take l₄ t ν γ))) (goes-take l₄ t ν γ) $
@@ -257,16 +262,19 @@ module _ {M : Type 1} (𝓤 : URA M) (H : Heap 𝓤) (A : Atoms 𝓤) (mem : Mem
           (and-then ! (load ! (from ! (stop !)) (look ! 4 refl)) (and-then ! (load ! (from ! (stop !)) (look ! 11 refl)) (no-more !)))
           (λ u″.
           use1 W (later (some (λ (f : Field).
-          ((‵ (flft (within ν κ) (PosShare·left q)) ⊛ ‵ (flft κ (PosShare·right q)) ⊛ ‵ ftrue) ⊛ ‵ (S.the-row .own f (u″ ∷ []))) ⊛
+          ((‵ (flft (within ν κ) (PosShare·left q)) ⊛ ‵ (flft κ (PosShare·right q)) ⊛ ‵ ftrue) ⊛ ‵
+          (S.the-row .own f (u″ ∷ []))) ⊛
           raw (TakeSaid l₄ t ν γ f)))) (id⊢ 𝓤 _) $
           await ! tt $ pick ! (λ f. split ! $ move ! (1 ∷ []) $
           use1 W (raw (fact 𝓤 (IsTaken t f))) (take-said l₄ t ν γ f) $ heard ! (IsTaken t f) (λ e″. split ! $ move ! (1 ∷ []) $
-          -- [the result; the tokens; what is kept; nothing; what s owns; _7; …; _6; …; _5; …; …; _3; …; _2; …; _1; …; _0; …]
+          -- [the result; the tokens; what is kept; nothing; what s owns;
+          -- _7; …; _6; …; _5; …; …; _3; …; _2; …; _1; …; _0; …]
           peeks ! S.the-row (Is S.the-row) (shows 𝓤 H A S.the-row) f (u″ ∷ []) (λ is″.
           land ! (from ! (stop !)) (init ! 18 refl (EL.lawful S.the-type S′.the-laws 𝓤 H A W tt .typed f _ is″ .0)) $
           -- the local is had back
           move ! (1 ∷ []) $ split ! $ move ! (1 ∷ []) $ split ! $ move ! (2 ∷ 0 ∷ 4 ∷ []) $
-          use3 W (later (some (λ (d : Reader). ‵ (Cell 𝓤 H A W κ q l₄ (T′.lowered d)) ⊛ ‵ (flft κ q)))) (back 𝓤 H A W κ q l₄ ν γ) $
+          use3 W (later (some (λ (d : Reader). ‵ (Cell 𝓤 H A W κ q l₄ (T′.lowered d)) ⊛ ‵ (flft κ q))))
+          (back 𝓤 H A W κ q l₄ ν γ) $
           await ! tt $ pick ! (λ d. split ! $ move ! (1 ∷ 2 ∷ []) $ join ! $
           -- [the token; _4; the result; nothing; what s owns; _7; …; _6; …; _5; …; …; _3; …; _2; …; _1; …; _0; …]
           returns ! (look ! 18 refl) $ forget ! 1 refl $ forget ! 5 refl $ forget ! 7 refl $ forget ! 9 refl $ forget ! 12 refl $
@@ -289,7 +297,8 @@ module _ {M : Type 1} (𝓤 : URA M) (H : Heap 𝓤) (A : Atoms 𝓤) (mem : Mem
         known-new known-place known-take (are .0)))
 
     field-meets : (𝓣 : Tables 𝓤 H)
-        → Triple 𝓤 (𝓣 .C #reader·new) New → Triple 𝓤 (𝓣 .C #reader·place) Place → Triple 𝓤 (𝓣 .C #reader·take-bits) Take
+        → Triple 𝓤 (𝓣 .C #reader·new) New → Triple 𝓤 (𝓣 .C #reader·place) Place
+        → Triple 𝓤 (𝓣 .C #reader·take-bits) Take
         → Meets 𝓤 H A field.signature (WpFn 𝓤 H (𝓣 .C) (𝓣 .Λ) code.function) (field.spec 𝓤 H A mem run)
     field-meets 𝓣 known-new known-place known-take =
         let goes-number = goes-none 𝓤 H A W 1 (λ _. usize) yes (λ κs x f. refl) in
@@ -302,8 +311,10 @@ pub field-at-spec : {M : Type 1} → stated.statement M
 unfolding code.routine tablesOf
 field-at-spec 𝓤 H 𝓜 𝓖 𝓡 =
     entered 𝓤 H (tripleOf 𝓤 H (𝓖 .A) field.signature (field.spec 𝓤 H (𝓖 .A) (𝓜 .mem) (𝓡 .run)))
-    (tables 𝓤 H 𝓜 𝓡 code.env .C) (tables 𝓤 H 𝓜 𝓡 code.env .Λ) #reader·field-at code.function (code.unfolded 𝓤 H 𝓜 𝓡)
-    (field-meets 𝓤 H (𝓖 .A) (𝓜 .mem) (𝓡 .run) (givenOf 𝓤 H 𝓜 𝓖) (tablesOf 𝓤 H 𝓜 (tables 𝓤 H 𝓜 𝓡 code.env))
+    (tables 𝓤 H 𝓜 𝓡 code.env .C) (tables 𝓤 H 𝓜 𝓡 code.env .Λ) #reader·field-at code.function
+    (code.unfolded 𝓤 H 𝓜 𝓡)
+    (field-meets 𝓤 H (𝓖 .A) (𝓜 .mem) (𝓡 .run) (givenOf 𝓤 H 𝓜 𝓖)
+    (tablesOf 𝓤 H 𝓜 (tables 𝓤 H 𝓜 𝓡 code.env))
     (cited 𝓤 H (New 𝓤 H (𝓖 .A) (𝓜 .mem) (𝓡 .run)) 𝓜 𝓡 code.env #reader·new new-def.routine
     code.calls-reader·new (new-thm.met 𝓤 H 𝓜 𝓖 𝓡))
     (cited 𝓤 H (Place 𝓤 H (𝓖 .A) (𝓜 .mem) (𝓡 .run)) 𝓜 𝓡 code.env #reader·place place-def.routine

@@ -18,7 +18,8 @@ use ghost.Atoms.{Atoms, sem}
 use contract.Lifetimes.{AllOutlive}
 use contract.Monad.{Fun, fact}
 use contract.Running.{givenOf, tables, tablesOf}
-use types.Kit.{Item, Given, ‵, raw, _⊛_, ⋆, some, later, _$_, _∵_, !, qed, by, move, keep, drop, use1, use2, split, join, pick, rewrite}
+use types.Kit.{Item, Given, ‵, raw, _⊛_, ⋆, some, later, _$_, _∵_, ! }
+use types.Kit.{qed, by, move, keep, drop, use1, use2, split, join, pick, rewrite}
 use types.Kit.{fsplit, fsplit3, fjoin, fjoin3, feqI, suffices, frame, await, done}
 use types.Part.{whole, sub, look-in, store-in}
 use types.Run.{look, init, forget, stop, hop, fld, from, load, of-opd, and-then, no-more, assigns, land, returns, enter}
@@ -112,11 +113,13 @@ module _ {M : Type 1} (𝓤 : URA M) (H : Heap 𝓤) (A : Atoms 𝓤) (at-mem : 
 
     asked : ent 𝓤 (onEntry 𝓤 H A step.signature (κ′, tt) (q′, tt) (h .tile, (h .bit, (n, tt))) passed) (StepAt .pre to-step)
     asked =
-        qed W (Token 𝓤 κ′ q′ ∷ ‵ (owns (ShrSlice (named 0) κ′ u8 ∷ usize ∷ usize ∷ []) (h .tile, (h .bit, (n, tt))) passed) ∷ []) ∵
+        qed W (Token 𝓤 κ′ q′ ∷ ‵ (owns (ShrSlice (named 0) κ′ u8 ∷ usize ∷ usize ∷ [])
+        (h .tile, (h .bit, (n, tt))) passed) ∷ []) ∵
         join ! $ frame ! $ done !
 
     -- what the struct owns gives what the callee asks, and is kept
-    goes-step : h .bit < 2 ^ 64 → ent 𝓤 (⋆ 𝓤 H A (‵ (Own κ′ h) ∷ Token 𝓤 κ′ q′ ∷ [])) (sep 𝓤 (StepAt .pre to-step) (sem 𝓤 H A (Own κ′ h)))
+    goes-step : h .bit < 2 ^ 64 → ent 𝓤 (⋆ 𝓤 H A (‵ (Own κ′ h) ∷ Token 𝓤 κ′ q′ ∷ []))
+        (sep 𝓤 (StepAt .pre to-step) (sem 𝓤 H A (Own κ′ h)))
     goes-step fits =
         qed W (‵ (Own κ′ h) ∷ Token 𝓤 κ′ q′ ∷ []) ∵
         use1 W (‵ (TileOwn κ′ (h .tile)) ⊛ ‵ (Own κ′ h)) (tile-out 𝓤 H A W κ′ h) $ split ! $
@@ -130,7 +133,8 @@ module _ {M : Type 1} (𝓤 : URA M) (H : Heap 𝓤) (A : Atoms 𝓤) (at-mem : 
     -- of what it ensures, the clause alone: it has no `&mut`, so what is said of last values is dropped
     step-said : (r : Field) → ent 𝓤 (StepSaid r) (fact 𝓤 (r ≡ found))
     step-said r =
-        exE 𝓤 _ (λ ws. snd∗ 𝓤 (sem 𝓤 H A (lasts step.ended (κ′, tt) (h .tile, (h .bit, (n, tt))) ws)) (fact 𝓤 (r ≡ found)))
+        exE 𝓤 _ (λ ws. snd∗ 𝓤 (sem 𝓤 H A (lasts step.ended (κ′, tt) (h .tile, (h .bit, (n, tt))) ws))
+        (fact 𝓤 (r ≡ found)))
 
     -- ---- the call of `past` (`Moving.antt`)
 
@@ -147,7 +151,8 @@ module _ {M : Type 1} (𝓤 : URA M) (H : Heap 𝓤) (A : Atoms 𝓤) (at-mem : 
         ‵ (fobs γ (R κ′ .coded .code (moved h m))) ∷ ‵ (fbor κ (Body (mem (R κ′)) b o γ)) ∷ ‵ (flft κ q) ∷
         ‵ (S.the-row .own r (u ∷ [])) ∷ Token 𝓤 κ′ q′ ∷ []
 
-    exits : (r : Field) (u : Val) (m : ℕ) → r ≡ found → IsPast (h .bit) r m → ent 𝓤 (⋆ 𝓤 H A (Exit r u m)) (Walk .post here u)
+    exits : (r : Field) (u : Val) (m : ℕ) → r ≡ found → IsPast (h .bit) r m
+        → ent 𝓤 (⋆ 𝓤 H A (Exit r u m)) (Walk .post here u)
     exits r u m e e′ =
         qed W (Exit r u m) ∵
         suffices ! _ (ends-at 𝓤 H A take.ended stayed take-says W here u r (moved h m, (tt, tt)) (tt, (tt, tt))) $
@@ -160,19 +165,23 @@ module _ {M : Type 1} (𝓤 : URA M) (H : Heap 𝓤) (A : Atoms 𝓤) (at-mem : 
         (known-past : Triple 𝓤 (C #reader·past) PastAt) where
       walk : ent 𝓤 Entry (WpFn 𝓤 H C Λ code.function (vptr b o ∷ vint w64 n ∷ []) (Walk .post here))
       walk =
-          qed W ((‵ (flft κ q) ⊛ Token 𝓤 κ′ q′) ∷ ‵ (owns (MutRef (named 0) κ (R κ′) ∷ usize ∷ []) x at) ∷ []) ∵
+          qed W ((‵ (flft κ q) ⊛ Token 𝓤 κ′ q′) ∷ ‵
+          (owns (MutRef (named 0) κ (R κ′) ∷ usize ∷ []) x at) ∷ []) ∵
           enter ! C Λ code.function (vptr b o ∷ vint w64 n ∷ []) _ $
-          alloc1 ! (λ l₀. alloc1 ! (λ l₁. alloc1 ! (λ l₂. alloc1 ! (λ l₃. alloc1 ! (λ l₄. alloc1 ! (λ l₅. alloc1 ! (λ l₆. alloc0 ! $
+          alloc1 ! (λ l₀. alloc1 ! (λ l₁. alloc1 ! (λ l₂. alloc1 ! (λ l₃.
+          alloc1 ! (λ l₄. alloc1 ! (λ l₅. alloc1 ! (λ l₆. alloc0 ! $
           params1 ! $ pass1 ! (init ! 10 refl (tt, tt)) $ pass1 ! (init ! 8 refl (tt, record { fits = n-fits })) $ pass0 ! $
           -- the borrow is opened
           move ! (15 ∷ []) $ fsplit ! $ fsplit3 ! $ drop ! $ move ! (17 ∷ []) $ split ! $ move ! (2 ∷ 3 ∷ 0 ∷ []) $
           opens ! tt (R κ′) {h = h} b o (λ vs.
-          spelt ! (R κ′) (Is (R κ′)) (shows 𝓤 H A (R κ′)) (LL.vals (Rd κ′) (Rl κ′)) (LL.tells (Rd κ′) (Rl κ′)) fullShare h vs b o $
+          spelt ! (R κ′) (Is (R κ′)) (shows 𝓤 H A (R κ′)) (LL.vals (Rd κ′) (Rl κ′))
+          (LL.tells (Rd κ′) (Rl κ′)) fullShare h vs b o $
           use1 W (‵ (fat fullShare (T′.mir erased) b o mach)) (W .laws .raw-at fullShare (T′.mir erased) b o mach) $
           move ! (1 ∷ []) $ peeks ! (R κ′) (Is (R κ′)) (shows 𝓤 H A (R κ′)) h (mach ∷ []) (λ g. move ! (1 ∷ 0 ∷ []) $
           let fits = LL.owed (Rd κ′) (Rl κ′) h _ g .1 .0 .1 in
           let wt = LL.lawful (Rd κ′) (Rl κ′) 𝓤 H A W .typed h _ g .0 in
-          -- [the struct's cell; what it owns; the open borrow; obs; auth; 'a's token; n's; _6; …; _5; …; _4; …; _3; …; _2; …; _1; …; _0; …]
+          -- [the struct's cell; what it owns; the open borrow; obs; auth; 'a's token; n's;
+          -- _6; …; _5; …; _4; …; _3; …; _2; …; _1; …; _0; …]
           assigns ! (of-opd ! (load ! (from ! (hop ! (look ! 17 refl) (fld ! refl (stop !)))) (look-in ! 0 (sub ! 1 refl (whole !)))))
           (from ! (stop !)) (init ! 13 refl (tt, record { fits = fits })) $
           assigns ! (of-opd ! (load ! (from ! (hop ! (look ! 17 refl) (fld ! refl (stop !)))) (look-in ! 0 (sub ! 0 refl (whole !)))))
@@ -182,7 +191,8 @@ module _ {M : Type 1} (𝓤 : URA M) (H : Heap 𝓤) (A : Atoms 𝓤) (at-mem : 
           calls-at ! fm StepAt known to-step
           (and-then ! (load ! (from ! (stop !)) (look ! 9 refl)) (and-then ! (load ! (from ! (stop !)) (look ! 13 refl))
           (and-then ! (load ! (from ! (stop !)) (look ! 15 refl)) (no-more !)))) (λ u.
-          use1 W (later (some (λ (r : Field). (Token 𝓤 κ′ q′ ⊛ ‵ (S.the-row .own r (u ∷ []))) ⊛ raw (StepSaid r)))) (id⊢ 𝓤 _) $
+          use1 W (later (some (λ (r : Field). (Token 𝓤 κ′ q′ ⊛ ‵ (S.the-row .own r (u ∷ []))) ⊛ raw (StepSaid r))))
+          (id⊢ 𝓤 _) $
           await ! tt $ pick ! (λ r. split ! $ move ! (1 ∷ []) $
           use1 W (raw (fact 𝓤 (r ≡ found))) (step-said r) $ heard ! (r ≡ found) (λ e. split ! $ move ! (1 ∷ []) $
           -- [the field; 'a's token; what the struct owns; its cell; the open borrow; obs; auth; n's; _6; …]
@@ -190,7 +200,8 @@ module _ {M : Type 1} (𝓤 : URA M) (H : Heap 𝓤) (A : Atoms 𝓤) (at-mem : 
           let typed = EL.lawful S.the-type S′.the-laws 𝓤 H A W tt .typed r _ is .0 in
           land ! (from ! (stop !)) (init ! 12 refl typed) $
           -- `past` is called
-          use1 W (raw (PastAt .pre (called r u)) ⊛ ‵ (S.the-row .own r (u ∷ []))) (goes-past 𝓤 H A at-mem run W (h .bit) fits r u) $
+          use1 W (raw (PastAt .pre (called r u)) ⊛ ‵ (S.the-row .own r (u ∷ [])))
+          (goes-past 𝓤 H A at-mem run W (h .bit) fits r u) $
           split ! $
           calls-at ! fm PastAt known-past (called r u)
           (and-then ! (load ! (from ! (stop !)) (look ! 15 refl)) (and-then ! (load ! (from ! (stop !)) (look ! 13 refl)) (no-more !)))
@@ -216,7 +227,8 @@ module _ {M : Type 1} (𝓤 : URA M) (H : Heap 𝓤) (A : Atoms 𝓤) (at-mem : 
           forget ! 16 refl $ forget ! 18 refl $
           move ! (18 ∷ 19 ∷ []) $ free1 ! $ move ! (16 ∷ 17 ∷ []) $ free1 ! $ move ! (14 ∷ 15 ∷ []) $ free1 ! $
           move ! (12 ∷ 13 ∷ []) $ free1 ! $ move ! (10 ∷ 11 ∷ []) $ free1 ! $ move ! (8 ∷ 9 ∷ []) $ free1 ! $
-          move ! (6 ∷ 7 ∷ []) $ free1 ! $ free0 ! $ keep ! (0 ∷ 1 ∷ 2 ∷ 3 ∷ 4 ∷ []) $ by ! (exits r u m e e′))))))))))))))))))
+          move ! (6 ∷ 7 ∷ []) $ free1 ! $ free0 ! $ keep ! (0 ∷ 1 ∷ 2 ∷ 3 ∷ 4 ∷ []) $
+          by ! (exits r u m e e′))))))))))))))))))
 
   module _ (W : Given 𝓤 H A) where
     take-walks : (C : Calls 𝓤 H) (Λ : Loops 𝓤 H) → FmC 𝓤 H (W .laws) C
@@ -241,8 +253,10 @@ pub take-bits-spec : {M : Type 1} → stated.statement M
 unfolding code.routine tablesOf
 take-bits-spec 𝓤 H 𝓜 𝓖 𝓡 =
     entered 𝓤 H (tripleOf 𝓤 H (𝓖 .A) take.signature (take.spec 𝓤 H (𝓖 .A) (𝓜 .mem) (𝓡 .run)))
-    (tables 𝓤 H 𝓜 𝓡 code.env .C) (tables 𝓤 H 𝓜 𝓡 code.env .Λ) #reader·take-bits code.function (code.unfolded 𝓤 H 𝓜 𝓡)
-    (take-meets 𝓤 H (𝓖 .A) (𝓜 .mem) (𝓡 .run) (givenOf 𝓤 H 𝓜 𝓖) (tablesOf 𝓤 H 𝓜 (tables 𝓤 H 𝓜 𝓡 code.env))
+    (tables 𝓤 H 𝓜 𝓡 code.env .C) (tables 𝓤 H 𝓜 𝓡 code.env .Λ) #reader·take-bits code.function
+    (code.unfolded 𝓤 H 𝓜 𝓡)
+    (take-meets 𝓤 H (𝓖 .A) (𝓜 .mem) (𝓡 .run) (givenOf 𝓤 H 𝓜 𝓖)
+    (tablesOf 𝓤 H 𝓜 (tables 𝓤 H 𝓜 𝓡 code.env))
     (cited 𝓤 H (StepAt 𝓤 H (𝓖 .A) (𝓜 .mem) (𝓡 .run)) 𝓜 𝓡 code.env #reader·bits-at step-def.routine
     code.calls-reader·bits-at (step-thm.met 𝓤 H 𝓜 𝓖 𝓡))
     (cited 𝓤 H (Past 𝓤 H (𝓖 .A) (𝓜 .mem) (𝓡 .run)) 𝓜 𝓡 code.env #reader·past past-def.routine
