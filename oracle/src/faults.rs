@@ -1,4 +1,4 @@
-//! Misreadings of document 01. Each one, put into the model, must be told apart from the Rust.
+//! Misreadings of the specification. Each one, put into the model, must be told apart from the Rust.
 
 macro_rules! faults {
     ($($subject:ident { $($name:ident = $words:literal,)+ })+) => {

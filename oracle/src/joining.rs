@@ -1,4 +1,4 @@
-//! Headers as document 01 has them: joining, equal names, order.
+//! Headers as SPECIFICATION 9 to 11 have them: joining, equal names, order.
 
 use crate::faults::Fault;
 use crate::model::Model;

@@ -1,9 +1,10 @@
-//! Cards read as document 01 has them, for a third opinion, and with one misreading, for the power of the comparison.
+//! Cards read as SPECIFICATION 3 to 8 have them, for a third opinion, and with one misreading, for the power of the
+//! comparison.
 
 use crate::faults::Fault;
 use crate::reading::{Card, Decimal, Entry, Value};
 
-/// Document 01 with at most one misreading.
+/// The specification with at most one misreading.
 #[derive(Clone, Copy)]
 pub struct Model(pub Fault);
 

@@ -1,10 +1,10 @@
 //! The form of the stored list: how a header and a tile are stored, and what the replay programs print of them.
 //!
 //! A stored header is the number of its cards in two bytes, the higher first, then for each card a length and so many
-//! bytes, which spaces fill to 80. Of a header are printed the lines of document 01. Behind a name's line stands one
-//! that begins with a space: the comment, the unit, and the digits and power of a finite decimal. What is there stands
-//! in double quotes, a byte outside 32..126, a double quote and a backslash as \xNN. The word none says that it is
-//! not there.
+//! bytes, which spaces fill to 80. Of a header are printed the lines of SPECIFICATION 13. Behind a name's line stands
+//! one that begins with a space: the comment, the unit, and the digits and power of a finite decimal. What is there
+//! stands in double quotes, a byte outside 32..126, a double quote and a backslash as \xNN. The word none says that it
+//! is not there.
 //!
 //! A stored tile is the width in a byte, nx, nblock and the tile's length in three bytes each, the highest first, then
 //! the tile. Of a tile are printed three lines. The first has the word whole, and the whole bytes used, or the word
@@ -40,7 +40,7 @@ fn minus(d: &Decimal) -> &'static str {
     }
 }
 
-/// A decimal as document 01 prints it, by its record.
+/// A decimal as `cards` prints it (SPECIFICATION 13), by its record.
 pub fn decimal(d: &Decimal) -> String {
     let float = f64::from_bits(d.bits);
     let (digits, power) = d.record.as_ref().expect("a decimal without its record");
@@ -53,7 +53,7 @@ pub fn decimal(d: &Decimal) -> String {
     format!("{}{word}", minus(d))
 }
 
-/// A decimal as document 01 prints it, by the fewest digits that give its nearest float.
+/// A decimal as `cards` prints it (SPECIFICATION 13), by the fewest digits that give its nearest float.
 pub fn shortest(d: &Decimal) -> String {
     let float = f64::from_bits(d.bits);
     let sign = minus(d);

@@ -1,4 +1,4 @@
-//! Tiles as document 01 has them: a start value, then bits, highest first.
+//! Tiles as SPECIFICATION 12 has them: a start value, then bits, highest first.
 
 use crate::faults::Fault;
 use crate::model::Model;

@@ -1,4 +1,4 @@
--- Any 80 bytes as a card, or one refusal (document 01, "One card"; the standard, 4.1 and 4.2).
+-- Any 80 bytes as a card, or one refusal (SPECIFICATION 3; the standard, 4.1 and 4.2).
 use Prim.Native.Nat.{ℕ, _+_, _-_}
 use Prim.Native.Char.{code}
 use mathlib.Core.Bool.{Bool, true, false, cond, _&&_}

@@ -1,4 +1,4 @@
--- Keywords and names (document 01, "One card"; the standard, 4.1.2.1 and 4.4.2).
+-- Keywords and names (SPECIFICATION 3; the standard, 4.1.2.1 and 4.4.2).
 use Prim.Native.Nat.{ℕ}
 use Prim.Native.Char.{code}
 use mathlib.Core.Bool.{Bool, true, false, cond}

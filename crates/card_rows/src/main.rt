@@ -1,4 +1,4 @@
-// Reads the cards of document 01's "Readings at the edges", and those that show how its other words on one card are read.
+// Reads the cards of the readings at the edges (SPECIFICATION 15), and those that show the other rules on one card (SPECIFICATION 3 to 8).
 // It prints a line for each: the card without the spaces that fill it up, and the reading: its class, its name, its value
 // or text, and its comment with the unit; or the refusal's number. A byte outside 32..126 is printed in hexadecimal.
 use card::CARD;

@@ -1,4 +1,4 @@
--- The starred rows of document 01's table "Readings at the edges": one table and one statement, proved by computing.
+-- The starred rows of SPECIFICATION 15: one table and one statement, proved by computing.
 -- A row is a card, a header of several cards in which KIT is looked up, or a tile. Beside them stand rows of an entry by its card's
 -- number.
 use Prim.Native.Nat.{ℕ}
@@ -75,9 +75,9 @@ headerBytes (t ∷ ts) = spacesTo 80 (ascii t) ++ headerBytes ts
 
 -- ---- the readings
 
--- in the paper's terms: a string by its text, an integer, a decimal by its sign, digits and power of ten, a refusal by its number, a
--- tile by its pixels and the bits used, a refused tile by the number, the pixels written and the pixels lent, a refused card by the
--- refusal's number and its own
+-- in the terms of SPECIFICATION 15: a string by its text, an integer, a decimal by its sign, digits and power of ten, a refusal by its
+-- number, a tile by its pixels and the bits used, a refused tile by the number, the pixels written and the pixels lent, a refused card
+-- by the refusal's number and its own
 pub data Reading : Type 0 where
   string : List ℕ → Reading
   integer : ℤ → Reading

@@ -1,1 +1,1 @@
-// Document 01's readings at the edges, as one table and one statement. There is no code here.
+// The readings at the edges (SPECIFICATION 15), as one table and one statement. There is no code here.

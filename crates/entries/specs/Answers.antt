@@ -1,4 +1,4 @@
--- What a lookup answers, and what the lent buffers then hold (document 01, "Joining and lookup").
+-- What a lookup answers, and what the lent buffers then hold (SPECIFICATION 10).
 use Prim.Native.Nat.{ℕ, suc}
 use mathlib.Core.Bool.{Bool, true, false, cond, _&&_}
 use mathlib.Core.List.{List, [], _∷_}

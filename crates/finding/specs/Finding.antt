@@ -1,4 +1,4 @@
--- Whether a header is accepted, and the last card that bears a name (document 01, "Refusal numbers" and "Joining and lookup").
+-- Whether a header is accepted, and the last card that bears a name (SPECIFICATION 2 and 10).
 use Prim.Native.Nat.{ℕ, suc}
 use mathlib.Core.Bool.{cond}
 use mathlib.Core.List.{List, [], _∷_}

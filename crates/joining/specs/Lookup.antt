@@ -1,4 +1,4 @@
--- What a name is answered by the cards of a header (document 01, "Joining and lookup").
+-- What a name is answered by the cards of a header (SPECIFICATION 9 and 10).
 use Prim.Native.Nat.{ℕ}
 use mathlib.Core.Bool.{Bool, cond}
 use mathlib.Core.List.{List, [], _∷_}

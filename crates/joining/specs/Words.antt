@@ -1,4 +1,4 @@
--- The text and comment of an entry, and the joining of a CONTINUE card to them (document 01, "Joining and lookup"; the standard, 4.2.1.2).
+-- The text and comment of an entry, and the joining of a CONTINUE card to them (SPECIFICATION 9; the standard, 4.2.1.2).
 use Prim.Native.Nat.{ℕ}
 use Prim.Native.Char.{code}
 use mathlib.Core.Bool.{Bool, true, false, cond, _&&_}

@@ -1,4 +1,4 @@
--- The names of a header in the order of their first cards (document 01, "Joining and lookup").
+-- The names of a header in the order of their first cards (SPECIFICATION 11).
 use Prim.Native.Nat.{ℕ, suc}
 use mathlib.Core.Bool.{cond}
 use mathlib.Core.List.{List, [], _∷_, _++_}

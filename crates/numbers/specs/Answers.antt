@@ -1,4 +1,4 @@
--- What reading a number answers (document 01, "Numbers").
+-- What reading a number answers (SPECIFICATION 7).
 use Prim.Native.Nat.{ℕ}
 use mathlib.Core.Bool.{Bool, true, false, cond}
 use mathlib.Core.List.{List, []}
@@ -30,7 +30,7 @@ isRead String = true
 isRead Undefined = true
 isRead Invalid = false
 
--- the first try, or the second where the first read nothing ("else")
+-- the first try, or the second where the first read nothing
 infixr 20 _orElse_
 abbrev pub _orElse_ : Number → Number → Number
 a orElse b = cond (isRead (a .value)) a b

@@ -1,4 +1,4 @@
--- Decimals (document 01, "Numbers"; FITS Standard 4.2.4): digits with at most one point and perhaps an exponent, or a word.
+-- Decimals (SPECIFICATION 7; FITS Standard 4.2.4): digits with at most one point and perhaps an exponent, or a word.
 use Prim.Native.Char.{code}
 use Prim.Native.Nat.{ℕ, _+_, _-_, min}
 use mathlib.Core.Bool.{Bool, false, cond, _&&_, _||_}

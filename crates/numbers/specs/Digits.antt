@@ -1,4 +1,4 @@
--- Digits (document 01, "Numbers"; FITS Standard 4.2.3), and the number that they write.
+-- Digits (SPECIFICATION 7; FITS Standard 4.2.3), and the number that they write.
 use Prim.Native.Char.{code}
 use Prim.Native.Nat.{ℕ, _+_, _*_, _-_}
 use mathlib.Core.Bool.{Bool, true, false}

@@ -1,4 +1,4 @@
--- Integers (document 01, "Numbers"; FITS Standard 4.2.3): an optional sign and digits, fitting 64 signed bits.
+-- Integers (SPECIFICATION 7; FITS Standard 4.2.3): an optional sign and digits, fitting 64 signed bits.
 use Prim.Native.Nat.{ℕ}
 use mathlib.Core.Bool.{cond, _&&_}
 use mathlib.Core.List.{List}

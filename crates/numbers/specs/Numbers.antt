@@ -1,4 +1,4 @@
--- The tries (document 01, "Numbers"): an integer, else a decimal, else a decimal with every D made an E,
+-- The tries (SPECIFICATION 7): an integer, else a decimal, else a decimal with every D made an E,
 -- else invalid, holding that altered text. The standard's exponents have the letter E or D (FITS Standard 4.2.4).
 use Prim.Native.Nat.{ℕ}
 use mathlib.Core.List.{List, map}

@@ -1,4 +1,4 @@
--- Signs (document 01, "Numbers"; FITS Standard 4.2.3 and 4.2.4), and numbers by their sign and size.
+-- Signs (SPECIFICATION 7; FITS Standard 4.2.3 and 4.2.4), and numbers by their sign and size.
 use Prim.Native.Char.{code}
 use Prim.Native.Nat.{ℕ, _^_}
 use mathlib.Core.Bool.{Bool, true, false, cond, _||_}
@@ -15,7 +15,7 @@ unfoldable pub isNegative : List ℕ → Bool
 isNegative [] = false
 isNegative (b ∷ s) = eqb b (code "-")
 
--- what follows the sign, if there is one ("an optional sign")
+-- what follows the sign, if there is one
 unfoldable pub unsigned : List ℕ → List ℕ
 unsigned [] = []
 unsigned (b ∷ s) = cond (isSign b) s (b ∷ s)

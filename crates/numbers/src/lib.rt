@@ -1,4 +1,4 @@
-// Numbers: an integer that fits 64 signed bits, or a decimal by its digits and a power of ten (document 01, "Numbers").
+// Numbers: an integer that fits 64 signed bits, or a decimal by its digits and a power of ten (SPECIFICATION 7).
 ghost use mathlib.Core.Path.{_≡_};
 ghost use mathlib.Core.Bool.{true};
 ghost use mathlib.Core.List.{[]};

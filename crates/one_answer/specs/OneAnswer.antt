@@ -1,4 +1,4 @@
--- One answer (document 01, "What each answer owes"): for each input, refused ones too, a contract admits one answer and one content of
+-- One answer (SPECIFICATION 14): for each input, refused ones too, a contract admits one answer and one content of
 -- lent memory.
 use mathlib.Core.Path.{_≡_}
 

@@ -1,4 +1,4 @@
--- What a reader finds at a place (document 01, "One tile"): what a cursor there finds.
+-- What a reader finds at a place (SPECIFICATION 12.8): what a cursor there finds.
 use mathlib.Core.List.{List}
 use Prim.Native.Nat.{ℕ}
 use lib.IntN.{pos}

@@ -1,4 +1,4 @@
--- The refusal numbers of document 01, "Refusal numbers".
+-- The numbers of the refusals (SPECIFICATION 2.1).
 use Prim.Native.Nat.{ℕ}
 use Rattle.refusal.specs.declared.Refusal.{Refusal}
 use Rattle.refusal.specs.declared.Refusal.the-variants.{HighByte, OddByte, StringNotClosed, StringNotOpened, Complex, NoEquals}

@@ -1,4 +1,4 @@
-// The refusals, one case for each row of document 01's table, and the fault that carries one up through every layer.
+// The refusals, one case for each row of SPECIFICATION 2.1, and the fault that carries one up through every layer.
 ghost use mathlib.Core.Path.{_≡_};
 ghost use Rattle.refusal.specs.Numbers.{numberOf, faultOf};
 
@@ -55,7 +55,7 @@ pub fn fault_of(why: Refusal) -> Fault
 }
 
 impl Fault {
-    // The number of its refusal in document 01.
+    // The number of its refusal.
     pub fn number(self) -> u8
         ensures { λ r. ⌜ r ≡ numberOf (self .why) ⌝ }
     {
@@ -65,7 +65,7 @@ impl Fault {
 }
 
 impl Refusal {
-    // The refusal's number in document 01.
+    // The refusal's number (SPECIFICATION 2.1).
     pub fn number(self) -> u8
         ensures { λ r. ⌜ r ≡ numberOf self ⌝ }
     {

@@ -1,4 +1,4 @@
-// Replays stored headers: reads each one from standard input and prints its lines, as document 01 has them. Behind a name's line
+// Replays stored headers: reads each one from standard input and prints its lines, as SPECIFICATION 13 has them. Behind a name's line
 // stands one more, which begins with a space: the comment, the unit, and a finite decimal's digits and power. Texts stand in double
 // quotes; the word none stands for a missing one. A byte outside 32..126, a double quote and a backslash are printed as \xNN.
 // The expected output comes from the oracle (oracle/README.md).

@@ -1,4 +1,4 @@
--- One block: its FS field and its pixels (document 01, "One tile"; FITS Standard 10.4.1).
+-- One block: its FS field and its pixels (SPECIFICATION 12.3; FITS Standard 10.4.1).
 use mathlib.Core.Bool.{cond}
 use mathlib.Core.List.{List, [], _∷_}
 use Prim.Native.Nat.{ℕ, zero, suc, _+_, _-_}

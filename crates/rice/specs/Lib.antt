@@ -1,4 +1,4 @@
--- What the contracts of `rice` cite, in the order of FITS Standard 10.4.1 and document 01.
+-- What the contracts of `rice` cite, in the order of FITS Standard 10.4.1 and SPECIFICATION 12.
 
 -- What public promises cite
 pub mod Tile

@@ -1,4 +1,4 @@
--- What is read at a place of a tile (document 01, "One tile"; FITS Standard 10.4.1).
+-- What is read at a place of a tile (SPECIFICATION 12.1 and 12.8; FITS Standard 10.4.1).
 use mathlib.Core.Bool.{cond, _&&_}
 use mathlib.Core.List.{List}
 use Prim.Native.Nat.{ℕ, _+_, _-_, _*_, _%_, _^_}
@@ -51,7 +51,7 @@ abbrev pub takenOf : Cursor → Read → Taken
 takenOf c (found u q) = Bits u (moved c q)
 takenOf c short = Short
 
--- the most bytes of a tile, and the most bits that are taken at once (document 01, "Numbers that bound it")
+-- the most bytes of a tile, and the most bits that are taken at once (SPECIFICATION 1 and 12.8)
 abbrev pub mostBytes : ℕ
 mostBytes = 8388608
 

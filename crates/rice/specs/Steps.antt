@@ -1,4 +1,4 @@
--- Opening, stepping and decoding a tile, with every refusal (document 01, "Refusal numbers" and "One tile").
+-- Opening, stepping and decoding a tile, with every refusal (SPECIFICATION 2 and 12).
 use mathlib.Core.Bool.{Bool, cond, _&&_, _||_}
 use mathlib.Core.List.{List, _++_}
 use Prim.Native.Nat.{ℕ, zero, suc, _+_, _-_, _*_, _%_, min}
@@ -24,7 +24,7 @@ use Rattle.rice.specs.declared.Opened.the-variants as O
 use Rattle.rice.specs.declared.Decoded.{Decoded}
 use Rattle.rice.specs.declared.Decoded.the-variants as D
 
--- the most pixels of a tile and of a block (document 01, "Numbers that bound it")
+-- the most pixels of a tile and of a block (SPECIFICATION 1)
 abbrev pub mostPixels : ℕ
 mostPixels = 1048576
 

@@ -1,4 +1,4 @@
--- The three widths, and pixels as whole numbers (document 01, "One tile"; FITS Standard 10.4.1).
+-- The three widths, and pixels as whole numbers (SPECIFICATION 12.2; FITS Standard 10.4.1).
 use Prim.Native.Nat.{ℕ, _+_, _-_, _/_, _%_, _^_}
 use mathlib.Core.Bool.{Bool, cond}
 use lib.Dec.{eqb, ltb}

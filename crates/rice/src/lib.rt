@@ -1,4 +1,4 @@
-// One tile of Rice-coded pixels, decoded whole or block by block (document 01, "One tile"; FITS Standard 10.4.1).
+// One tile of Rice-coded pixels, decoded whole or block by block (SPECIFICATION 12; FITS Standard 10.4.1).
 ghost use mathlib.Core.Path.{_≡_};
 ghost use mathlib.Core.Bool.{true};
 ghost use Prim.Native.Nat.{_+_, _^_, _<_, _≤_, min, suc};

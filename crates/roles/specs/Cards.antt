@@ -1,4 +1,4 @@
--- A header's bytes as its cards (document 01, "Refusal numbers").
+-- A header's bytes as its cards (SPECIFICATION 1).
 use Prim.Native.Nat.{ℕ, zero, suc, _*_, _/_, _%_}
 use Prim.Native.Char.{code}
 use mathlib.Core.Bool.{Bool, cond, _||_, not}

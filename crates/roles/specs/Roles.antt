@@ -1,4 +1,4 @@
--- What a card is to its header (document 01, "Joining and lookup").
+-- What a card is to its header (SPECIFICATION 3 and 9).
 use Prim.Native.Nat.{ℕ}
 use mathlib.Core.Bool.{Bool, true, false, cond}
 use mathlib.Core.List.{List, []}

@@ -1,4 +1,4 @@
--- The scan of a trimmed text for the slash (document 01, "Splitting"; the standard, 4.2.1).
+-- The scan of a trimmed text for the slash (SPECIFICATION 4; the standard, 4.2.1).
 use Prim.Native.Nat.{ℕ, suc}
 use Prim.Native.Char.{code}
 use mathlib.Core.Bool.{cond}

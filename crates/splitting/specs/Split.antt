@@ -1,4 +1,4 @@
--- Splitting a card's text (document 01, "One card").
+-- Splitting a card's text (SPECIFICATION 4).
 use Prim.Native.Nat.{ℕ, suc}
 use mathlib.Core.List.{List, [], map}
 use lib.ListN.{drop}

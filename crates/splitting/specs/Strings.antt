@@ -1,4 +1,4 @@
--- Strings (document 01, "Strings"; the standard, 4.2.1.1): an empty string differs from one of spaces alone.
+-- Strings (SPECIFICATION 6; the standard, 4.2.1.1): an empty string differs from one of spaces alone.
 use Prim.Native.Nat.{ℕ}
 use Prim.Native.Char.{code}
 use mathlib.Core.Bool.{Bool, cond}

@@ -1,4 +1,4 @@
--- The classes of bytes that document 01 names ("One card"), and bytes by their characters.
+-- The classes of bytes (SPECIFICATION 1), and bytes by their characters.
 use Prim.Native.Nat.{ℕ}
 use Prim.Native.Char.{code}
 use Prim.Native.String.{String, [] as none, _∷_ as _then_}
@@ -47,10 +47,10 @@ isDigit b = leb (code "0") b && leb b (code "9")
 unfoldable pub isZero : ℕ → Bool
 isZero b = eqb b (code "0")
 
--- a byte, or 127 where the standard does not allow it ("a replaced character")
+-- a byte, or 127 where the standard does not allow it: a replaced byte
 unfoldable pub shown : ℕ → ℕ
 shown b = cond (isPrintable b) b delete
 
--- a byte, or E where it is D ("Numbers": every D becomes E)
+-- a byte, or E where it is D (SPECIFICATION 7)
 unfoldable pub dToE : ℕ → ℕ
 dToE b = cond (eqb b (code "D")) (code "E") b

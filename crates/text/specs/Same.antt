@@ -1,4 +1,4 @@
--- Names are compared byte for byte (document 01, "Numbers that bound it").
+-- Names are compared byte for byte (SPECIFICATION 1).
 use Prim.Native.Nat.{ℕ}
 use mathlib.Core.Bool.{Bool, true, false, _&&_}
 use mathlib.Core.List.{List, [], _∷_}

@@ -1,5 +1,5 @@
-// Decodes the tiles of document 01's "Readings at the edges", whole and block by block, with nblock 32, and prints a line for each: the
-// tile's bytes, its width and number of pixels, and its pixels with the bits used, or the refusal with the pixels written.
+// Decodes the tiles of the readings at the edges (SPECIFICATION 15), whole and block by block, with nblock 32, and prints a line for
+// each: the tile's bytes, its width and number of pixels, and its pixels with the bits used, or the refusal with the pixels written.
 use libc::STDOUT_FILENO;
 use refusal::Fault;
 use rice::Decoded;

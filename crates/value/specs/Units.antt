@@ -1,4 +1,4 @@
--- The unit that a comment names (document 01, "One card"; the standard, 4.3.2).
+-- The unit that a comment names (SPECIFICATION 8; the standard, 4.3.2).
 use Prim.Native.Nat.{ℕ, _+_}
 use Prim.Native.Char.{code}
 use mathlib.Core.Bool.{cond}

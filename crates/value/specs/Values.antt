@@ -1,4 +1,4 @@
--- The six kinds of value (document 01, "One card"; the standard, 4.2).
+-- The six kinds of value (SPECIFICATION 5; the standard, 4.2).
 use Prim.Native.Nat.{ℕ}
 use Prim.Native.Char.{code}
 use mathlib.Core.Bool.{Bool, true, false, cond, _||_}
