@@ -1,4 +1,4 @@
--- Document 01's example, printed in full, and other headers, computed from the definitions.
+-- The example of SPECIFICATION 13, printed in full, and other headers, computed from the definitions; and lines made visible.
 use Prim.Native.Nat.{ℕ}
 use Prim.Native.Char.{code}
 use Prim.Native.String.{String}

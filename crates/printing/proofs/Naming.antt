@@ -41,7 +41,7 @@ use Rattle.bounds.proofs.Joined.{each-short}
 use Rattle.printing.specs.Output.{lineFor, nameLines, inOrder}
 
 -- ---- lists
-at-map : {A B : Type 0} (f : A → B) (l : List A) (k : ℕ) (d : A) (e : B) → k < length l → getD (map f l) k e ≡ f (getD l k d)
+pub at-map : {A B : Type 0} (f : A → B) (l : List A) (k : ℕ) (d : A) (e : B) → k < length l → getD (map f l) k e ≡ f (getD l k d)
 at-map f [] k d e p = absurd (omega arith)
 at-map f (x ∷ l) zero d e p = refl
 at-map f (x ∷ l) (suc k) d e p = at-map f l k d e (omega arith)

@@ -1,5 +1,7 @@
--- What `cards` prints of a header (document 01, "Readings at the edges").
+-- What `cards` prints of a header (SPECIFICATION 13).
 use Prim.Native.Nat.{ℕ}
+use mathlib.Core.Path.{_≡_}
+use mathlib.Core.Bool.{Bool, false}
 use mathlib.Core.List.{List, [], _∷_, _++_, map}
 use mathlib.Core.Option.{Option, none, some}
 use Rattle.roles.specs.Roles.{Held}
@@ -10,6 +12,7 @@ use Rattle.finding.specs.declared.Header.the-variants.{Accepted, Refused}
 use Rattle.finding.specs.Finding.{headerOf}
 use Rattle.listing.specs.Listing.{listOf}
 use Rattle.lines.specs.Lines.{entryLine, countLine, refusedLine}
+use Rattle.output.specs.Shown.{lineShown}
 use Rattle.agreeing.specs.Agreeing.{namesListed}
 
 -- the line of a name: its kind and reading, as lookup answers them; a name of the list is always answered
@@ -31,6 +34,19 @@ abbrev pub outputBy : Header → List ℕ → List ℕ
 outputBy (Accepted end) h = inOrder (nameLines h) ++ countLine (listOf h .count)
 outputBy (Refused s) h = refusedLine (s .fault .why) (s .card)
 
--- all that is printed of a header
+-- all that the program prints of a header
 unfoldable pub outputOf : List ℕ → List ℕ
 outputOf h = outputBy (headerOf h) h
+
+-- ---- the same with each line shown as it stands, or made visible
+
+abbrev pub shownBy : Bool → Header → List ℕ → List ℕ
+shownBy t (Accepted end) h = inOrder (map (lineShown t) (nameLines h)) ++ lineShown t (countLine (listOf h .count))
+shownBy t (Refused s) h = lineShown t (refusedLine (s .fault .why) (s .card))
+
+unfoldable pub shownOf : Bool → List ℕ → List ℕ
+shownOf t h = shownBy t (headerOf h) h
+
+-- lines that are shown as they stand are those that the program prints
+abbrev pub AsTheyStand : Type 0
+AsTheyStand = (h : List ℕ) → shownOf false h ≡ outputOf h

@@ -1,12 +1,14 @@
-// Prints what document 01 says of a header: its names, each with its kind and reading, and their count; or its refusal. Each line is proved
-// up to its write, and none is left out: the buffers hold every line that a header can give.
+// Prints a header's names, each with its kind and reading, and their count; or its refusal (SPECIFICATION 13). Each line is proved up to its
+// write, and none is left out: the buffers hold every line that a header can give, and a write that fails is answered.
 ghost use mathlib.Core.Path.{_≡_};
-ghost use mathlib.Core.List.{[], _++_};
+ghost use mathlib.Core.List.{[], _++_, map};
 ghost use Prim.Native.Nat.{_<_, _≤_};
 ghost use lib.ListN.{length, getD};
 ghost use Rattle.listing.specs.Listing.{listOf};
 ghost use Rattle.lines.specs.Lines.{countLine, refusedLine, lineRoom};
-ghost use Rattle.printing.specs.Output.{nameLines, inOrder, outputOf};
+ghost use Rattle.finding.specs.Finding.{headerOf};
+ghost use Rattle.output.specs.Shown.{lineShown, IsWhole};
+ghost use Rattle.printing.specs.Output.{nameLines, inOrder, shownOf};
 ghost use Rattle.printing.specs.Ready.{IsListed, IsWide, Front, lengthOf};
 use entries::LookupAnswer;
 use finding::Header;
@@ -14,33 +16,45 @@ use finding::Stop;
 use libc::STDOUT_FILENO;
 use lines::Line;
 use listing::Listing;
+use output::Printed;
 
-// Prints `outputOf` the header to standard output, and answers how many bytes that is.
-pub fn print_header(header: &[u8]) -> usize
-    ensures { λ r. ⌜ r ≡ length (outputOf (now (header .entry))) ⌝ }
+// What became of a header: whether it is accepted, and whether its lines were written.
+pub struct Report {
+    pub header: Header,
+    pub printed: Printed,
+}
+
+// Prints a header's lines to standard output, as they stand or made visible, and says how that went.
+pub fn print_header(header: &[u8], escaped: bool) -> Report
+    ensures { λ r. ⌜ (r .header ≡ headerOf (now (header .entry))) × IsWhole (r .printed) (shownOf escaped (now (header .entry))) ⌝ }
 {
     let listing = listing::list(header);
     let answer = listing.header;
     match answer {
-        Header::Accepted(_) => print_names(header, listing),
-        Header::Refused(stop) => print_refusal(stop),
+        Header::Accepted(_) => Report {
+            header: answer,
+            printed: print_names(header, listing, escaped),
+        },
+        Header::Refused(stop) => Report {
+            header: answer,
+            printed: print_refusal(stop, escaped),
+        },
     }
 }
 
 // The line of a refusal.
-fn print_refusal(stop: Stop) -> usize
-    ensures { λ r. ⌜ r ≡ length (refusedLine (stop .fault .why) (stop .card)) ⌝ }
+fn print_refusal(stop: Stop, escaped: bool) -> Printed
+    ensures { λ r. ⌜ IsWhole r (lineShown escaped (refusedLine (stop .fault .why) (stop .card))) ⌝ }
 {
     let mut line = [0u8; 321];
     let n = refused_part(stop, &mut line);
-    io::write_all(STDOUT_FILENO, text::first_of(&line, n));
-    n
+    output::write_line(STDOUT_FILENO, text::first_of(&line, n), escaped)
 }
 
-// The lines of the names in their order, then that of their count.
-fn print_names(header: &[u8], listing: Listing) -> usize
+// The lines of the names in their order, then that of their count. The first write that fails ends it.
+fn print_names(header: &[u8], listing: Listing, escaped: bool) -> Printed
     requires { ⌜ IsListed (now header) (listing .first) (listing .last) × (listing .count ≡ listOf (now header) .count) ⌝ }
-    ensures { λ r. ⌜ r ≡ length (inOrder (nameLines (now (header .entry))) ++ countLine (listing .count)) ⌝ }
+    ensures { λ r. ⌜ IsWhole r (inOrder (map (lineShown escaped) (nameLines (now (header .entry)))) ++ lineShown escaped (countLine (listing .count))) ⌝ }
 {
     let first = listing.first;
     let last = listing.last;
@@ -52,13 +66,26 @@ fn print_names(header: &[u8], listing: Listing) -> usize
     let mut k = 0;
     while k < count {
         let n = name_part(header, &first, &last, k, &mut text, &mut line);
-        io::write_all(STDOUT_FILENO, text::first_of(&line, n));
-        printed += n;
+        let Printed::Whole(written) = output::write_line(
+            STDOUT_FILENO,
+            text::first_of(&line, n),
+            escaped,
+        ) else {
+            return Printed::Cut;
+        };
+        printed += written;
         k += 1;
     }
     let n = count_part(count, &mut line);
-    io::write_all(STDOUT_FILENO, text::first_of(&line, n));
-    printed + n
+    let Printed::Whole(written) = output::write_line(
+        STDOUT_FILENO,
+        text::first_of(&line, n),
+        escaped,
+    ) else {
+        return Printed::Cut;
+    };
+    let all = printed + written;
+    Printed::Whole(all)
 }
 
 // ---- the lines, each at the front of a lent buffer, by their lengths

@@ -1,8 +1,8 @@
 -- `printing::print_header` meets its contract: the list says whether the header is accepted.
 use Prim.Native.Nat.{ℕ}
 use mathlib.Core.Path.{_≡_, refl, sym, ap, subst, _∙_}
-use mathlib.Core.List.{List, _++_}
-use lib.ListN.{length}
+use mathlib.Core.Bool.{Bool}
+use mathlib.Core.List.{List, _++_, map}
 use Rattle.finding.specs.declared.Header.{Header}
 use Rattle.finding.specs.declared.Header.the-variants.{Accepted, Refused}
 use Rattle.finding.specs.Finding.{headerOf}
@@ -10,7 +10,8 @@ use Rattle.listing.specs.declared.Listing.{Listing}
 use Rattle.listing.specs.Listing.{listOf}
 use Rattle.agreeing.proofs.Agreed.{contents, same-refusal}
 use Rattle.lines.specs.Lines.{countLine}
-use Rattle.printing.specs.Output.{nameLines, inOrder, outputBy, outputOf}
+use Rattle.output.specs.Shown.{lineShown, IsWhole}
+use Rattle.printing.specs.Output.{nameLines, inOrder, shownBy, shownOf}
 use Rattle.printing.specs.Ready.{IsListed}
 use borrow.Author.Needs.{needs}
 use Rattle.printing.proofs.print_header.Statement.{statement}
@@ -55,9 +56,9 @@ print-refusal-requires : tie.Need-print-refusal-requires
 print-refusal-requires c κs = search needs
 
 -- by what the header is
-by-header : (h : List ℕ) (x : Header) → headerOf h ≡ x → length (outputBy x h) ≡ length (outputOf h)
-unfolding outputOf
-by-header h x e = sym (ap (λ (y : Header). length (outputBy y h)) e)
+by-header : (t : Bool) (h : List ℕ) (x : Header) → headerOf h ≡ x → shownBy t x h ≡ shownOf t h
+unfolding shownOf
+by-header t h x e = sym (ap (λ (y : Header). shownBy t y h) e)
 
 returns : tie.Need-returns
 returns c =
@@ -65,10 +66,14 @@ returns c =
     let made = told .before .before in
     let h = made .before .before .args .header .now in
     let is = made .list .ensures in
-    let end = told .enum-told .given .0 .0 in
-    c .print-names .ensures
-    ∙ ap (λ (x : Listing). length (inOrder (nameLines h) ++ countLine (x .count))) is
-    ∙ by-header h (Accepted end) (known-header h is (told .enum-told .given .1))
+    let t = made .before .before .args .escaped in
+    let end = told .enum-told .given .0 .0 in (
+      sym (known-header h is refl),
+      subst (IsWhole (c .print-names .result))
+          (ap (λ (x : Listing). inOrder (map (lineShown t) (nameLines h)) ++ lineShown t (countLine (x .count))) is
+          ∙ by-header t h (Accepted end) (known-header h is (told .enum-told .given .1)))
+          (c .print-names .ensures),
+    )
 
 returns-2 : tie.Need-returns-2
 returns-2 c =
@@ -76,8 +81,12 @@ returns-2 c =
     let made = known .before .before in
     let h = made .before .before .args .header .now in
     let is = made .list .ensures in
-    let s = known .answer .given .0 .0 in
-    c .print-refusal .ensures ∙ by-header h (Refused s) (known-header h is (known .answer .given .1))
+    let t = made .before .before .args .escaped in
+    let s = known .answer .given .0 .0 in (
+      sym (known-header h is (known .answer .given .1)),
+      subst (IsWhole (c .print-refusal .result)) (by-header t h (Refused s) (known-header h is (known .answer .given .1)))
+          (c .print-refusal .ensures),
+    )
 
 pub print-header-spec : {M : Type 1} → statement M
 print-header-spec =

@@ -1,29 +1,40 @@
--- `printing::print_names` meets what it calls: the buffers stay as wide as they are made, and every place is one of the list's.
+-- `printing::print_names` meets its contract: the buffers stay as wide as they are made, every place is one of the list's, and the
+-- bytes of the lines are summed.
+use Prim.{tt}
 use Prim.Native.Nat.{ℕ, _+_, _-_, _*_, _≤_, _<_}
 use native.Mathlib.Omega.{arith}
 use mathlib.Core.Path.{_≡_, refl, sym, ap, ap₂, _∙_}
-use mathlib.Core.List.{List, _++_}
-use lib.ListN.{length, take, getD, replicate, length-replicate, length-append}
+use mathlib.Core.Bool.{Bool}
+use mathlib.Core.List.{List, [], _++_, map}
+use lib.ListN.{length, take, getD, replicate, length-replicate, length-append, length-map, length-take}
 use borrow.Author.Needs.{needs}
+use Rattle.lines.specs.Lines.{countLine}
+use Rattle.output.specs.Shown.{lineShown}
+use Rattle.output.proofs.Pieces.{counted, line-few}
 use Rattle.printing.specs.Output.{nameLines, inOrder}
-use Rattle.printing.specs.Ready.{IsListed, IsWide}
+use Rattle.printing.specs.Ready.{IsListed, IsWide, Front}
 use Rattle.printing.proofs.Naming as naming
 use Rattle.printing.proofs.print_names.Statement.{statement}
 use Rattle.printing.proofs.print_names.Tie as tie
 
+-- the lines of the names, as they are shown
+abbrev linesOf : Bool → List ℕ → List (List ℕ)
+linesOf t h = map (lineShown t) (nameLines h)
+
 -- the buffers stay as wide as they are made, and the first k lines are printed
-pub record Printing (h : List ℕ) (count : ℕ) (text line : List ℕ) (printed k : ℕ) : Type 0 where
+pub record Printing (h : List ℕ) (t : Bool) (count : ℕ) (text line : List ℕ) (printed k : ℕ) : Type 0 where
   pub text-long : length text ≡ 51200
   pub line-long : length line ≡ 52640
   pub within : k ≤ count
-  pub bytes : printed ≡ length (inOrder (take k (nameLines h)))
-  pub small : printed ≤ 52640 * k
+  pub bytes : printed ≡ length (inOrder (take k (linesOf t h)))
+  pub small : printed ≤ 210561 * k
 
 abbrev Inv-loop : tie.InvT-loop
-Inv-loop header first last count text₀ line₀ printed₀ k₀ text line printed k = Printing header count text line printed k
+Inv-loop header escaped first last count text₀ line₀ printed₀ k₀ text line printed k =
+    Printing header escaped count text line printed k
 
 abbrev μ-loop : tie.MeasureT-loop
-μ-loop header first last count text₀ line₀ printed₀ k₀ text line printed k = count - k
+μ-loop header escaped first last count text₀ line₀ printed₀ k₀ text line printed k = count - k
 
 loop-holds : tie.Need-loop-holds Inv-loop μ-loop
 unfolding inOrder
@@ -77,26 +88,53 @@ slice-aggregate-first-of c = search needs
 first-of-requires : tie.Need-first-of-requires Inv-loop μ-loop
 first-of-requires c κs = search needs
 
-write-all-requires : tie.Need-write-all-requires Inv-loop μ-loop
-write-all-requires c κs = search needs
+write-line-requires : tie.Need-write-line-requires Inv-loop μ-loop
+write-line-requires c κs = search needs
 
--- the loop where a line was made
-abbrev made : tie.After-write-all Inv-loop μ-loop → tie.After-name-part Inv-loop μ-loop
-made c = c .before .before .before .before .before
+enum-known-written : tie.Need-enum-known-written Inv-loop μ-loop
+enum-known-written c = search needs
 
-abbrev at : tie.After-write-all Inv-loop μ-loop → tie.At-loop Inv-loop μ-loop
-at c = made c .before .before .before .before .before .before
+enum-told : tie.Need-enum-told Inv-loop μ-loop
+enum-told c = search needs
 
--- no line is longer than its buffer
-line-few : (c : tie.After-write-all Inv-loop μ-loop) → made c .name-part .result ≤ 52640
-line-few c =
+returns : tie.Need-returns Inv-loop μ-loop
+returns c = tt
+
+-- the loop where a line was made and written
+abbrev made : tie.After-known-told Inv-loop μ-loop → tie.After-name-part Inv-loop μ-loop
+made c = c .before .before .before .before .before .before .before .before
+
+abbrev inside : tie.After-known-told Inv-loop μ-loop → tie.In-loop Inv-loop μ-loop
+inside c = made c .before .before .before .before .before
+
+abbrev at : tie.After-known-told Inv-loop μ-loop → tie.At-loop Inv-loop μ-loop
+at c = inside c .before
+
+-- the line of the name
+abbrev line : tie.After-known-told Inv-loop μ-loop → List ℕ
+line c = getD (nameLines (start (at c) .args .header .now)) (at c .loop .k) []
+
+-- how many bytes of it were written
+bytes : (c : tie.After-known-told Inv-loop μ-loop)
+    → c .before .written .given .0 .0 ≡ length (lineShown (start (at c) .args .escaped) (line c))
+bytes c =
+    let t = start (at c) .args .escaped in
+    let wrote = c .before .before .before in
+    let part = wrote .before in
+    counted (lineShown t (part .first-of .result .now)) (c .before .written .given .1) (wrote .write-line .ensures)
+    ∙ ap (λ (s : List ℕ). length (lineShown t s)) (part .first-of .ensures ∙ made c .name-part .ensures .content)
+
+-- no line is longer than its buffer, and shown it is four times as long at most
+written-few : (c : tie.After-known-told Inv-loop μ-loop) → c .before .written .given .0 .0 ≤ 210561
+written-few c =
     let same : length (made c .name-part .last .1 .1 .1 .1 .1 .0) ≡ length (at c .loop .line) = search needs in
-    omega (arith, made c .name-part .ensures .few, same, at c .loop .inv .line-long)
+    let front = made c .name-part .ensures in
+    let short : length (line c) ≤ 52640 = omega (arith, front .count, front .few, same, at c .loop .inv .line-long) in
+    omega (arith, bytes c, line-few (start (at c) .args .escaped) (line c), short)
 
 add-printed : tie.Need-add-printed Inv-loop μ-loop
 add-printed c =
-    let inside = made c .before .before .before .before .before in
-    record { fits = omega (arith, line-few c, at c .loop .inv .small, few (start (at c)), inside .loop-test .taken) }
+    record { fits = omega (arith, written-few c, at c .loop .inv .small, few (start (at c)), inside c .loop-test .taken) }
 
 add-k : tie.Need-add-k Inv-loop μ-loop
 add-k c = search needs
@@ -106,17 +144,21 @@ loop-less c = search needs
 
 loop-again : tie.Need-loop-again Inv-loop μ-loop
 loop-again c =
-    let inside = made c .before .before .before .before .before in
     let v = at c .loop .inv in
     let k = at c .loop .k in
-    let lines = nameLines (start (at c) .args .header .now) in
-    let under : k < length lines = omega (arith, inside .loop-test .taken, as-many (start (at c))) in
+    let s = start (at c) in
+    let t = s .args .escaped in
+    let names = nameLines (s .args .header .now) in
+    let under : k < length names = omega (arith, inside c .loop-test .taken, as-many s) in
+    let under-all : k < length (map (lineShown t) names) = omega (arith, under, length-map names (lineShown t)) in
     record {
       text-long = search needs;
       line-long = search needs;
-      within = omega (arith, inside .loop-test .taken);
-      bytes = ap₂ (λ (n m : ℕ). n + m) (v .bytes) (made c .name-part .ensures .count) ∙ sym (naming.in-order-next lines k under);
-      small = omega (arith, v .small, line-few c);
+      within = omega (arith, inside c .loop-test .taken);
+      bytes =
+          ap₂ (λ (n m : ℕ). n + m) (v .bytes) (bytes c ∙ sym (ap length (naming.at-map (lineShown t) names k [] [] under)))
+          ∙ sym (naming.in-order-next (map (lineShown t) names) k under-all);
+      small = omega (arith, v .small, written-few c);
     }
 
 slice-aggregate-count-part : tie.Need-slice-aggregate-count-part Inv-loop μ-loop
@@ -131,40 +173,66 @@ slice-aggregate-first-of-2 c = search needs
 first-of-requires-2 : tie.Need-first-of-requires-2 Inv-loop μ-loop
 first-of-requires-2 c κs = search needs
 
-write-all-requires-2 : tie.Need-write-all-requires-2 Inv-loop μ-loop
-write-all-requires-2 c κs = search needs
+write-line-requires-2 : tie.Need-write-line-requires-2 Inv-loop μ-loop
+write-line-requires-2 c κs = search needs
 
-abbrev counted : tie.After-write-all2 Inv-loop μ-loop → tie.After-count-part Inv-loop μ-loop
-counted c = c .before .before .before .before
+enum-known-written-2 : tie.Need-enum-known-written-2 Inv-loop μ-loop
+enum-known-written-2 c = search needs
 
-abbrev end : tie.After-write-all2 Inv-loop μ-loop → tie.After-loop Inv-loop μ-loop
-end c = counted c .before .before
+enum-told-2 : tie.Need-enum-told-2 Inv-loop μ-loop
+enum-told-2 c = search needs
 
-add-result : tie.Need-add-result Inv-loop μ-loop
-add-result c =
-    let at = end c .before in
-    let same : length (counted c .count-part .last .1 .0) ≡ length (at .loop .line) = search needs in
+returns-2 : tie.Need-returns-2 Inv-loop μ-loop
+returns-2 c = tt
+
+-- the count's line, made and written
+abbrev counted-part : tie.After-known-told2 Inv-loop μ-loop → tie.After-count-part Inv-loop μ-loop
+counted-part c = c .before .before .before .before .before .before .before
+
+abbrev end : tie.After-known-told2 Inv-loop μ-loop → tie.After-loop Inv-loop μ-loop
+end c = counted-part c .before .before
+
+abbrev last-line : tie.After-known-told2 Inv-loop μ-loop → List ℕ
+last-line c = countLine (start (end c .before) .args .listing .count)
+
+last-bytes : (c : tie.After-known-told2 Inv-loop μ-loop)
+    → c .before .written2 .given .0 .0 ≡ length (lineShown (start (end c .before) .args .escaped) (last-line c))
+last-bytes c =
+    let t = start (end c .before) .args .escaped in
+    let wrote = c .before .before .before in
+    let part = wrote .before in
+    counted (lineShown t (part .first-of2 .result .now)) (c .before .written2 .given .1) (wrote .write-line2 .ensures)
+    ∙ ap (λ (s : List ℕ). length (lineShown t s)) (part .first-of2 .ensures ∙ counted-part c .count-part .ensures .content)
+
+add-all : tie.Need-add-all Inv-loop μ-loop
+add-all c =
+    let l = end c .before in
+    let same : length (counted-part c .count-part .last .1 .0) ≡ length (l .loop .line) = search needs in
+    let front = counted-part c .count-part .ensures in
+    let short : length (last-line c) ≤ 52640 = omega (arith, front .count, front .few, same, l .loop .inv .line-long) in
     record {
       fits = omega (
         arith,
-        counted c .count-part .ensures .few,
-        same,
-        at .loop .inv .line-long,
-        at .loop .inv .small,
-        at .loop .inv .within,
-        few
-            (start at),
+        last-bytes c,
+        line-few (start l .args .escaped) (last-line c),
+        short,
+        l .loop .inv .small,
+        l .loop .inv .within,
+        few (start l),
       );
     }
 
-returns : tie.Need-returns Inv-loop μ-loop
-returns c =
-    let at = end c .before in
-    let lines = nameLines (start at .args .header .now) in
-    let all : at .loop .k ≡ length lines = omega (arith, end c .loop-test .left, at .loop .inv .within, as-many (start at)) in
-    ap₂ (λ (n m : ℕ). n + m) (at .loop .inv .bytes ∙ ap length (naming.in-order-all lines (at .loop .k) all))
-    (counted c .count-part .ensures .count)
-    ∙ sym (length-append (inOrder lines) _)
+returns-3 : tie.Need-returns-3 Inv-loop μ-loop
+returns-3 c =
+    let l = end c .before in
+    let s = start l in
+    let t = s .args .escaped in
+    let names = nameLines (s .args .header .now) in
+    let lines = map (lineShown t) names in
+    let all : l .loop .k ≡ length lines =
+    omega (arith, end c .loop-test .left, l .loop .inv .within, as-many s, length-map names (lineShown t)) in
+    ap₂ (λ (n m : ℕ). n + m) (l .loop .inv .bytes ∙ ap length (naming.in-order-all lines (l .loop .k) all)) (last-bytes c)
+    ∙ sym (length-append (inOrder lines) (lineShown t (last-line c)))
 
 pub print-names-spec : {M : Type 1} → statement M
 print-names-spec =
@@ -180,7 +248,10 @@ print-names-spec =
     name-part-requires
     slice-aggregate-first-of
     first-of-requires
-    write-all-requires
+    write-line-requires
+    enum-known-written
+    enum-told
+    returns
     add-printed
     add-k
     loop-less
@@ -189,6 +260,9 @@ print-names-spec =
     count-part-requires
     slice-aggregate-first-of-2
     first-of-requires-2
-    write-all-requires-2
-    add-result
-    returns)
+    write-line-requires-2
+    enum-known-written-2
+    enum-told-2
+    returns-2
+    add-all
+    returns-3)

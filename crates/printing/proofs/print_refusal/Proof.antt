@@ -1,17 +1,17 @@
 -- `printing::print_refusal` meets its contract: the line has the room that any refusal needs.
-use native.Mathlib.Omega.{arith}
+use mathlib.Core.Path.{_≡_, subst, ap, _∙_}
+use mathlib.Core.List.{List}
 use Prim.Native.Nat.{ℕ}
-use mathlib.Core.Path.{sym}
-use lib.ListN.{length, replicate, length-replicate}
+use Rattle.output.specs.Shown.{lineShown, IsWhole}
 use borrow.Author.Needs.{needs}
 use Rattle.printing.proofs.print_refusal.Statement.{statement}
 use Rattle.printing.proofs.print_refusal.Tie as tie
 
 slice-aggregate-refused-part : tie.Need-slice-aggregate-refused-part
-slice-aggregate-refused-part c = sym (length-replicate {A = ℕ} 321 0)
+slice-aggregate-refused-part c = search needs
 
 refused-part-requires : tie.Need-refused-part-requires
-refused-part-requires c κs = omega (arith, length-replicate {A = ℕ} 321 0)
+refused-part-requires c κs = search needs
 
 slice-aggregate-first-of : tie.Need-slice-aggregate-first-of
 slice-aggregate-first-of c = search needs
@@ -19,11 +19,16 @@ slice-aggregate-first-of c = search needs
 first-of-requires : tie.Need-first-of-requires
 first-of-requires c κs = search needs
 
-write-all-requires : tie.Need-write-all-requires
-write-all-requires c κs = search needs
+write-line-requires : tie.Need-write-line-requires
+write-line-requires c κs = search needs
 
 returns : tie.Need-returns
-returns c = c .before .before .before .before .refused-part .ensures .count
+returns c =
+    let part = c .before in
+    let made = part .before .before .before in
+    let t = made .before .before .args .escaped in
+    subst (λ (s : List ℕ). IsWhole (c .write-line .result) (lineShown t s)) (part .first-of .ensures ∙ made .refused-part .ensures .content)
+    (c .write-line .ensures)
 
 pub print-refusal-spec : {M : Type 1} → statement M
 print-refusal-spec =
@@ -33,5 +38,5 @@ print-refusal-spec =
     refused-part-requires
     slice-aggregate-first-of
     first-of-requires
-    write-all-requires
+    write-line-requires
     returns)

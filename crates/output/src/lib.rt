@@ -1,0 +1,73 @@
+// Bytes handed to a descriptor, as they stand or made visible, and how that went. What arrives is outside every contract: one says how
+// many bytes were handed on where no write failed.
+ghost use mathlib.Core.Path.{_≡_};
+ghost use Prim.Native.Nat.{_-_};
+ghost use Rattle.escaping.specs.Escaping.{escaped};
+ghost use Rattle.output.specs.Shown.{lineShown, IsWhole};
+
+// All bytes were taken, so many; or a write failed, and some may be missing.
+pub enum Printed {
+    Whole(usize),
+    Cut,
+}
+
+// The longest text that is made visible. No line of a header is longer.
+const LONGEST: usize = 65536;
+
+// Writes a text as it stands.
+pub fn write(fd: i32, s: &[u8]) -> Printed
+    ensures { λ r. ⌜ IsWhole r (now (s .entry)) ⌝ }
+{
+    if io::write_all(fd, s) {
+        return Printed::Whole(s.len());
+    }
+    Printed::Cut
+}
+
+// Writes a text made visible, piece by piece. One that is longer than 65,536 bytes is not written.
+pub fn write_visibly(fd: i32, s: &[u8]) -> Printed
+    ensures { λ r. ⌜ IsWhole r (escaped (now (s .entry))) ⌝ }
+{
+    if LONGEST < s.len() {
+        return Printed::Cut;
+    }
+    let mut piece = [0u8; 1024];
+    let mut written = 0;
+    let mut at = 0;
+    while at < s.len() {
+        let made = escaping::escape(text::rest_of(s, at), &mut piece);
+        if !io::write_all(fd, text::first_of(&piece, made.put)) {
+            return Printed::Cut;
+        }
+        written += made.put;
+        at += made.taken;
+    }
+    Printed::Whole(written)
+}
+
+// Writes a line, which ends in a line feed: as it stands, or made visible up to there. One that is longer than 65,536 bytes is not made visible.
+pub fn write_line(fd: i32, line: &[u8], escaped: bool) -> Printed
+    ensures { λ r. ⌜ IsWhole r (lineShown escaped (now (line .entry))) ⌝ }
+{
+    if !escaped {
+        return write(fd, line);
+    }
+    if LONGEST < line.len() {
+        return Printed::Cut;
+    }
+    let Printed::Whole(n) = write_visibly(fd, text::first_of(line, one_less(line.len()))) else {
+        return Printed::Cut;
+    };
+    if io::write_all(fd, b"\n") {
+        let written = n + 1;
+        return Printed::Whole(written);
+    }
+    Printed::Cut
+}
+
+// A number less 1; 0 stays.
+fn one_less(n: usize) -> usize
+    ensures { λ r. ⌜ r ≡ n - 1 ⌝ }
+{
+    if n == 0 { 0 } else { n - 1 }
+}
