@@ -5,12 +5,18 @@ use mathlib.Core.Bool.{Bool, true, false}
 use mathlib.Core.List.{List}
 use lib.IntN.{ℤ}
 use Rattle.laws.specs.Lending.{Lent}
+use Rattle.refusal.specs.declared.Fault.{Fault}
+use Rattle.refusal.specs.Numbers.{numberOf}
 use Rattle.abi_value.specs.Telling.{wrongLength}
 use Rattle.finding.specs.declared.Header.{Header}
 use Rattle.entries.specs.declared.LookupAnswer.{LookupAnswer}
 use Rattle.entries.specs.declared.Looked.{Looked}
 use Rattle.entries.specs.Answers.{LookupOutcome, leftBy}
 use Rattle.listing.specs.declared.Listing.{Listing}
+use Rattle.naming.specs.declared.Named.{Named}
+use Rattle.naming.specs.declared.Named.the-variants.{Bears, Refused}
+use Rattle.naming.specs.Naming.{NameOutcome, namingBy}
+use Rattle.abi_header.specs.Headers.{HeaderOutcome, headerTold, nameTold, NameLeft}
 use Rattle.abi_header.specs.Headers.{EntryOutcome, entryTold, entryFits, entryInto, EntryLeft}
 use Rattle.abi_header.specs.Headers.{ListOutcome, listTold, listFits, listInto, ListLeft}
 use Rattle.abi_header.specs.Writing.{EntryWritten, ListWritten}
@@ -18,6 +24,12 @@ use Rattle.abi_header.specs.Writing.{EntryWritten, ListWritten}
 -- lent memory that stays
 abbrev same : {A : Type 0} → A → Lent A
 same x = record { was = x; left = x }
+
+-- ---- where END stands
+
+-- the answer that an arm knows is the answer
+pub header-by : {x a b : Header} {o : HeaderOutcome} → a ≡ b → a ≡ x → o ≡ headerTold b → o ≡ headerTold x
+header-by e g w = w ∙ ap headerTold (sym e ∙ g)
 
 -- ---- an entry
 
@@ -76,3 +88,21 @@ listed x first last count r e g w =
 pub unlisted : (x : Listing) (first last : List ℕ) (count : ℕ) → listFits first last ≡ false
     → ListLeft x (same first) (same last) (same count) wrongLength
 unlisted x first last count e = sym (ap (λ (b : Bool). listInto b x first last count) e)
+
+-- ---- a name
+
+module _ (read : List ℕ → NameOutcome) (name : Lent (List ℕ)) where
+  -- what was read is told, where an arm knows the answer n
+  told-name : (bytes : ℕ) {m n : Named} → m ≡ n → namingBy m (name .left) ≡ read (name .was)
+      → nameTold n (name .left) bytes ≡ nameTold (read (name .was) .answer) (read (name .was) .name) bytes
+  told-name bytes e g =
+      ap (λ (x : Named). nameTold x (name .left) bytes) (sym e)
+      ∙ ap (λ (x : NameOutcome). nameTold (x .answer) (x .name) bytes) g
+
+  pub named : (bytes : ℕ) {m : Named} {n : ℕ} → m ≡ Bears n → namingBy m (name .left) ≡ read (name .was)
+      → NameLeft read name (record { was = bytes; left = n }) 0
+  named bytes e g = told-name bytes e g
+
+  pub unnamed : (bytes : ℕ) {m : Named} {f : Fault} {r : ℕ} → m ≡ Refused f → namingBy m (name .left) ≡ read (name .was)
+      → r ≡ numberOf (f .why) → NameLeft read name (same bytes) r
+  unnamed bytes e g said = (λ j. record { answer = said j; name = name .left; bytes = bytes }) ∙ told-name bytes e g

@@ -1,4 +1,4 @@
--- What the C boundary writes of a header: an entry in bytes and seven numbers, and the list of its names.
+-- What the C boundary writes of a header: where END stands, an entry in bytes and seven numbers, the list of its names, and a name.
 use Prim.Native.Nat.{ℕ}
 use mathlib.Core.Path.{_≡_}
 use mathlib.Core.Bool.{Bool, cond, _&&_}
@@ -19,6 +19,25 @@ use Rattle.entries.specs.declared.Looked.{Looked}
 use Rattle.entries.specs.Answers.{LookupOutcome}
 use Rattle.listing.specs.declared.Listing.{Listing}
 use Rattle.listing.specs.Listing.{places}
+use Rattle.naming.specs.declared.Named.{Named}
+use Rattle.naming.specs.declared.Named.the-variants as N
+use Rattle.naming.specs.Naming.{NameOutcome}
+
+-- ---- where END stands
+
+-- an answer, and the lent card's number after it
+pub record HeaderOutcome : Type 0 where
+  pub answer : ℕ
+  pub card : ℕ
+
+-- 0, with the number of END; or the refusal's number, with the number of the card at which the header is refused
+abbrev pub headerTold : Header → HeaderOutcome
+headerTold (Accepted end) = record { answer = 0; card = end }
+headerTold (Refused s) = record { answer = numberOf (s .fault .why); card = s .card }
+
+-- what saying where END stands leaves, where x is what the header is read as and r the answer
+abbrev pub HeaderLeft : Header → Lent ℕ → ℕ → Type 0
+HeaderLeft x card r = _≡_ {A = HeaderOutcome} (record { answer = r; card = card .left }) (headerTold x)
 
 -- ---- an entry
 
@@ -123,3 +142,24 @@ ListLeft x first last count r =
     _≡_ {A = ListOutcome}
     (record { answer = r; first = first .left; last = last .left; count = count .left })
     (listInto (listFits (first .was) (last .was)) x (first .was) (last .was) (count .was))
+
+-- ---- a name
+
+-- an answer, and the lent memory after it
+pub record NamedOutcome : Type 0 where
+  pub answer : ℕ
+  pub name : List ℕ
+  pub bytes : ℕ
+
+-- 0, with the length of the name; or the refusal's number, and the length stays as it was
+abbrev pub nameTold : Named → List ℕ → ℕ → NamedOutcome
+nameTold (N.Bears n) name bytes = record { answer = 0; name = name; bytes = n }
+nameTold (N.Refused f) name bytes = record { answer = numberOf (f .why); name = name; bytes = bytes }
+
+-- what reading a name leaves: `read` says what is read with the lent buffer, and r is the answer
+abbrev pub NameLeft : (List ℕ → NameOutcome) → Lent (List ℕ) → Lent ℕ → ℕ → Type 0
+NameLeft read name bytes r =
+    let x = read (name .was) in
+    _≡_ {A = NamedOutcome}
+    (record { answer = r; name = name .left; bytes = bytes .left })
+    (nameTold (x .answer) (x .name) (bytes .was))

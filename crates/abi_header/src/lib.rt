@@ -1,10 +1,12 @@
-// A header as the C boundary gives it: an entry in bytes and numbers, and the list of its names.
+// A header as the C boundary gives it: where END stands, an entry in bytes and numbers, the list of its names, and a name.
 ghost use mathlib.Core.Path.{_≡_};
 ghost use lib.ListN.{length};
 ghost use Rattle.laws.specs.Lending.{lentOf};
+ghost use Rattle.finding.specs.Finding.{headerOf};
 ghost use Rattle.entries.specs.Answers.{lookupOf, entryOf};
 ghost use Rattle.listing.specs.Listing.{listOf};
-ghost use Rattle.abi_header.specs.Headers.{numbersOf, EntryLeft, ListLeft};
+ghost use Rattle.naming.specs.Naming.{nameAt};
+ghost use Rattle.abi_header.specs.Headers.{numbersOf, HeaderLeft, EntryLeft, ListLeft, NameLeft};
 ghost use Rattle.abi_header.specs.Writing.{EntryWritten, ListWritten};
 use abi_value::Told;
 use entries::Looked;
@@ -12,11 +14,31 @@ use entries::LookupAnswer;
 use finding::Header;
 use listing::Listing;
 use listing::PLACES;
+use naming::Named;
 
 // The numbers of an entry, and the bytes of its digits.
 const NUMBERS: usize = 7;
 
 const DIGITS: usize = 80;
+
+// Says where END stands. Answers 0, with the card's number of END; otherwise the refusal's number, with the number of the card at which
+// the header is refused.
+pub fn header_into(header: &[u8], card: &mut usize) -> u8
+    ensures { λ r. ⌜ HeaderLeft (headerOf (now (header .entry))) (lentOf card) r ⌝ }
+{
+    match finding::read_header(header) {
+        Header::Refused(stop) => {
+            let fault = stop.fault;
+            let i = stop.card;
+            *card = i;
+            fault.number()
+        }
+        Header::Accepted(end) => {
+            *card = end;
+            0
+        }
+    }
+}
 
 // Looks a name up. Answers 0, and lays the entry's numbers, text, comment and digits into the lent memory.
 // Otherwise it answers the refusal's number, or 255 where digits or numbers have another length. Nothing is written then, except
@@ -70,6 +92,21 @@ pub fn list_into(header: &[u8], first: &mut [usize], last: &mut [usize], count: 
         return write_listing(read, first, last, count);
     }
     abi_value::WRONG_LENGTH
+}
+
+// Reads the name that the entry at a card's number bears. Answers 0, with the name at the front of the lent bytes and its length.
+// Otherwise it answers the refusal's number, and nothing is written.
+pub fn name_into(header: &[u8], card: usize, name: &mut [u8], length: &mut usize) -> u8
+    ensures { λ r. ⌜ NameLeft (nameAt (now (header .entry)) card) (lentOf name) (lentOf length) r ⌝ }
+{
+    let read = naming::read_name(header, card, name);
+    match read {
+        Named::Bears(n) => {
+            *length = n;
+            0
+        }
+        Named::Refused(fault) => fault.number(),
+    }
 }
 
 // What was looked up, in lent memory.

@@ -5,7 +5,7 @@ use lib.IntN.{ℤ}
 use mathlib.Core.Path.{_≡_, sym, _∙_}
 use denote.Ref.{now}
 use Rattle.abi_card.specs.Records.{cardOutcome}
-use Rattle.abi_header.specs.Headers.{EntryOutcome, ListOutcome}
+use Rattle.abi_header.specs.Headers.{HeaderOutcome, EntryOutcome, ListOutcome, NamedOutcome}
 use Rattle.abi_tile.specs.Tiles.{cursorOf}
 use Rattle.one_answer.specs.OneAnswer.{OneAnswer, pairOf}
 use Rattle.one_answer.proofs.Both.{both}
@@ -13,18 +13,22 @@ use Rattle.abi_value.proofs.value_told.Reads as value-told-reads
 use Rattle.abi_value.proofs.bit.Reads as bit-reads
 use Rattle.abi_value.proofs.unit_end.Reads as unit-end-reads
 use Rattle.abi_card.proofs.read_into.Reads as read-into-reads
+use Rattle.abi_header.proofs.header_into.Reads as header-into-reads
 use Rattle.abi_header.proofs.lookup_into.Reads as lookup-into-reads
 use Rattle.abi_header.proofs.entry_into.Reads as entry-into-reads
 use Rattle.abi_header.proofs.list_into.Reads as list-into-reads
+use Rattle.abi_header.proofs.name_into.Reads as name-into-reads
 use Rattle.abi_tile.proofs.open_into.Reads as open-into-reads
 use Rattle.abi_tile.proofs.step_into.Reads as step-into-reads
 use Rattle.abi_tile.proofs.decode_into.Reads as decode-into-reads
 use Rattle.widrekas.proofs.widrekas_version.Reads as widrekas-version-reads
 use Rattle.widrekas.proofs.widrekas_unit.Reads as widrekas-unit-reads
 use Rattle.widrekas.proofs.widrekas_card.Reads as widrekas-card-reads
+use Rattle.widrekas.proofs.widrekas_header.Reads as widrekas-header-reads
 use Rattle.widrekas.proofs.widrekas_lookup.Reads as widrekas-lookup-reads
 use Rattle.widrekas.proofs.widrekas_entry.Reads as widrekas-entry-reads
 use Rattle.widrekas.proofs.widrekas_list.Reads as widrekas-list-reads
+use Rattle.widrekas.proofs.widrekas_name.Reads as widrekas-name-reads
 use Rattle.widrekas.proofs.widrekas_open.Reads as widrekas-open-reads
 use Rattle.widrekas.proofs.widrekas_step.Reads as widrekas-step-reads
 use Rattle.widrekas.proofs.widrekas_decode.Reads as widrekas-decode-reads
@@ -35,6 +39,12 @@ entryLeft r text comment digits out number =
 
 abbrev listLeft : ℕ → List ℕ → List ℕ → ℕ → ListOutcome
 listLeft r first last count = record { answer = r; first = first; last = last; count = count }
+
+abbrev headerLeft : ℕ → ℕ → HeaderOutcome
+headerLeft r card = record { answer = r; card = card }
+
+abbrev nameLeft : ℕ → List ℕ → ℕ → NamedOutcome
+nameLeft r name bytes = record { answer = r; name = name; bytes = bytes }
 
 -- `abi_value::value_told`
 pub value-told : OneAnswer value-told-reads.Post (λ r s. r)
@@ -52,6 +62,10 @@ unit-end κs a r q s t x y = x ∙ sym y
 pub read-into : OneAnswer read-into-reads.Post (λ r s. cardOutcome r (now (s .1 .0)) (now (s .1 .1 .0)))
 read-into κs a r q s t x y = x ∙ sym y
 
+-- `abi_header::header_into`
+pub header-into : OneAnswer header-into-reads.Post (λ r s. headerLeft r (now (s .1 .0)))
+header-into κs a r q s t x y = x ∙ sym y
+
 -- `abi_header::lookup_into`
 pub lookup-into : OneAnswer lookup-into-reads.Post
     (λ r s. entryLeft r (now (s .1 .1 .0)) (now (s .1 .1 .1 .0)) (now (s .1 .1 .1 .1 .0)) (now (s .1 .1 .1 .1 .1 .0))
@@ -67,6 +81,10 @@ entry-into κs a r q s t x y = x ∙ sym y
 -- `abi_header::list_into`
 pub list-into : OneAnswer list-into-reads.Post (λ r s. listLeft r (now (s .1 .0)) (now (s .1 .1 .0)) (now (s .1 .1 .1 .0)))
 list-into κs a r q s t x y = x ∙ sym y
+
+-- `abi_header::name_into`
+pub name-into : OneAnswer name-into-reads.Post (λ r s. nameLeft r (now (s .1 .1 .0)) (now (s .1 .1 .1 .0)))
+name-into κs a r q s t x y = x ∙ sym y
 
 -- `abi_tile::open_into`
 pub open-into : OneAnswer open-into-reads.Post
@@ -97,6 +115,10 @@ widrekas-unit κs a r q s t x y = x ∙ sym y
 pub widrekas-card : OneAnswer widrekas-card-reads.Post (λ r s. cardOutcome r (now (s .1 .0)) (now (s .1 .1 .0)))
 widrekas-card κs a r q s t x y = x ∙ sym y
 
+-- `widrekas::widrekas_header`
+pub widrekas-header : OneAnswer widrekas-header-reads.Post (λ r s. headerLeft r (now (s .1 .0)))
+widrekas-header κs a r q s t x y = x ∙ sym y
+
 -- `widrekas::widrekas_lookup`
 pub widrekas-lookup : OneAnswer widrekas-lookup-reads.Post
     (λ r s. entryLeft r (now (s .1 .1 .0)) (now (s .1 .1 .1 .0)) (now (s .1 .1 .1 .1 .0)) (now (s .1 .1 .1 .1 .1 .0))
@@ -113,6 +135,10 @@ widrekas-entry κs a r q s t x y = x ∙ sym y
 pub widrekas-list : OneAnswer widrekas-list-reads.Post
     (λ r s. listLeft r (now (s .1 .0)) (now (s .1 .1 .0)) (now (s .1 .1 .1 .0)))
 widrekas-list κs a r q s t x y = x ∙ sym y
+
+-- `widrekas::widrekas_name`
+pub widrekas-name : OneAnswer widrekas-name-reads.Post (λ r s. nameLeft r (now (s .1 .1 .0)) (now (s .1 .1 .1 .0)))
+widrekas-name κs a r q s t x y = x ∙ sym y
 
 -- `widrekas::widrekas_open`
 pub widrekas-open : OneAnswer widrekas-open-reads.Post

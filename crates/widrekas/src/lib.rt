@@ -3,9 +3,11 @@ ghost use mathlib.Core.Path.{_≡_};
 ghost use Rattle.value.specs.Units.{unitOf};
 ghost use Rattle.abi_value.specs.Telling.{unitEnd};
 ghost use Rattle.abi_card.specs.Records.{CardLeft};
+ghost use Rattle.finding.specs.Finding.{headerOf};
 ghost use Rattle.entries.specs.Answers.{lookupOf, entryOf};
 ghost use Rattle.listing.specs.Listing.{listOf};
-ghost use Rattle.abi_header.specs.Headers.{EntryLeft, ListLeft};
+ghost use Rattle.naming.specs.Naming.{nameAt};
+ghost use Rattle.abi_header.specs.Headers.{HeaderLeft, EntryLeft, ListLeft, NameLeft};
 ghost use Rattle.laws.specs.Lending.{lentOf};
 ghost use Rattle.abi_tile.specs.Tiles.{cursorIn, OpenLeft, StepLeft, DecodeLeft};
 
@@ -37,6 +39,15 @@ pub extern "C" fn widrekas_unit(comment: &[u8]) -> usize
 }
 
 // ---- headers
+
+// Says where END stands. Answers 0, with the card's number of END; or the refusal's number, with the number of the card at which the
+// header is refused.
+#[no_mangle]
+pub extern "C" fn widrekas_header(header: &[u8], card: &mut usize) -> u8
+    ensures { λ r. ⌜ HeaderLeft (headerOf (now (header .entry))) (lentOf card) r ⌝ }
+{
+    abi_header::header_into(header, card)
+}
 
 // Looks a name up in a header. Answers 0, with seven numbers: 0, the value's kind, whether it is true or negative, whether there is
 // a comment, and the lengths of the text, the comment and the digits; the text and the comment at the front of their buffers; a
@@ -89,6 +100,20 @@ pub extern "C" fn widrekas_list(
     ensures { λ r. ⌜ ListLeft (listOf (now (header .entry))) (lentOf first) (lentOf last) (lentOf count) r ⌝ }
 {
     abi_header::list_into(header, first, last, count)
+}
+
+// Reads the name that the entry at a card's number bears, whatever stands elsewhere in the header. Answers 0, with the name at the
+// front of the lent bytes and its length; or the refusal's number, and both stay as they are.
+#[no_mangle]
+pub extern "C" fn widrekas_name(
+    header: &[u8],
+    card: usize,
+    name: &mut [u8],
+    length: &mut usize,
+) -> u8
+    ensures { λ r. ⌜ NameLeft (nameAt (now (header .entry)) card) (lentOf name) (lentOf length) r ⌝ }
+{
+    abi_header::name_into(header, card, name, length)
 }
 
 // ---- tiles

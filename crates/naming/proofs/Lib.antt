@@ -1,0 +1,2 @@
+-- Laws that the proofs of `naming` share.
+pub mod Reading

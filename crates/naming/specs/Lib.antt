@@ -1,0 +1,2 @@
+-- What public promises cite.
+pub mod Naming
