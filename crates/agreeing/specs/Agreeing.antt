@@ -3,7 +3,7 @@
 -- made up are not spoken of: `placeOfEntry` reads whatever number stands in them.
 use Prim.Native.Nat.{ℕ, _<_, _≤_}
 use mathlib.Core.Path.{_≡_}
-use mathlib.Core.List.{List, map}
+use mathlib.Core.List.{List, [], map}
 use mathlib.Core.Option.{some}
 use lib.ListN.{getD, take, drop}
 use Rattle.refusal.specs.declared.Refusal.the-variants as R
@@ -17,6 +17,7 @@ use Rattle.finding.specs.Finding.{headerOf, lastOf}
 use Rattle.entries.specs.declared.LookupAnswer.the-variants as L
 use Rattle.entries.specs.Answers.{untouched, given, lookupOf, entryHead, entryAt, entryOf}
 use Rattle.listing.specs.Listing.{free, nameOf, empty, tabled, listOf, placeOfEntry}
+use Rattle.naming.specs.Naming.{nameWritten, nameAt}
 use Rattle.agreeing.specs.Firsts.{firstsOf, lastsOf}
 
 -- the arrays of an accepted header hold its first cards and, for the name of each, its last entry; then free marks.
@@ -66,6 +67,12 @@ abbrev pub Once : Type 0
 Once =
     (h : List ℕ) (end : ℕ) → headerOf h ≡ Accepted end
     → (name : List ℕ) (j k : ℕ) → StandsAt h name j → StandsAt h name k → j ≡ k
+
+-- the name that is read at the first card of place k, with a lent buffer, is the k-th of the list
+abbrev pub NameRead : Type 0
+NameRead =
+    (h : List ℕ) (end : ℕ) → headerOf h ≡ Accepted end → (k : ℕ) → k < listOf h .count
+    → (name : List ℕ) → nameAt h (getD (listOf h .first) k free) name ≡ nameWritten (getD (namesListed h) k []) name
 
 -- lookup finds a name
 pub record FoundIn (h name : List ℕ) : Type 0 where

@@ -8,7 +8,7 @@ use mathlib.Core.List.{List, [], _∷_, _++_, map}
 use mathlib.Core.Option.{Option, none, some}
 use borrow.Author.Tests.{le-leb}
 use lib.Dec.{leb, ltb}
-use lib.ListN.{length, getD, take, replicate, length-append, length-map, length-take}
+use lib.ListN.{length, getD, take, length-append, length-map}
 use lib.Seq.{sets, take-length, length-take-le}
 use Rattle.text.specs.Text.{filled, textOf, bytesOf}
 use Rattle.numbers.specs.declared.Value.{Value}
@@ -36,31 +36,17 @@ use Rattle.lines.specs.Lines.{entryLine}
 use Rattle.agreeing.specs.Firsts.{isAmong, firstsFrom, firstsOf, lastsOf}
 use Rattle.agreeing.specs.Agreeing.{StandsAt, PlaceTaken, FoundIn, namesListed}
 use Rattle.agreeing.proofs.Agreed.{agreement, each-taken, each-standing, contents}
+use Rattle.agreeing.proofs.Naming.{at-map, filled-long, first-long, name-kth}
 use Rattle.bounds.specs.Longest.{longestText, longestRemark, Short}
 use Rattle.bounds.proofs.Joined.{each-short}
 use Rattle.printing.specs.Output.{lineFor, nameLines, inOrder}
 
 -- ---- lists
-pub at-map : {A B : Type 0} (f : A → B) (l : List A) (k : ℕ) (d : A) (e : B) → k < length l → getD (map f l) k e ≡ f (getD l k d)
-at-map f [] k d e p = absurd (omega arith)
-at-map f (x ∷ l) zero d e p = refl
-at-map f (x ∷ l) (suc k) d e p = at-map f l k d e (omega arith)
-
-at-take : (l : List ℕ) (n k d : ℕ) → k < n → getD (take n l) k d ≡ getD l k d
-at-take l zero k d p = absurd (omega arith)
-at-take [] (suc n) k d p = refl
-at-take (x ∷ l) (suc n) zero d p = refl
-at-take (x ∷ l) (suc n) (suc k) d p = at-take l n k d (omega arith)
-
 -- another default, where there is an element
 pub at-within : (l : List ℕ) (k d e : ℕ) → k < length l → getD l k d ≡ getD l k e
 at-within [] k d e p = absurd (omega arith)
 at-within (x ∷ l) zero d e p = refl
 at-within (x ∷ l) (suc k) d e p = at-within l k d e (omega arith)
-
-filled-long : (mark n : ℕ) (l : List ℕ) → length l ≤ length (filled mark n l)
-unfolding filled
-filled-long mark n l = omega (arith, length-append l (replicate (n - length l) mark))
 
 -- ---- lines one behind the other
 pub in-order-next : (ls : List (List ℕ)) (k : ℕ) → k < length ls
@@ -118,15 +104,7 @@ card-named h i n v e =
 
 -- ---- the name at place k of an accepted header
 module _ (h : List ℕ) (end : ℕ) (a : headerOf h ≡ Accepted end) where
-  -- its table is long enough for every place
-  pub first-long : listOf h .count ≤ length (listOf h .first)
-  first-long =
-      let is = contents h end a in
-      let count : listOf h .count ≡ length (firstsOf (rolesOf h)) = ap (λ (x : Listing). x .count) is in
-      let first : length (listOf h .first) ≡ length (filled free places (firstsOf (rolesOf h))) = ap
-      (λ (x : Listing). length (x .first)) is in
-      omega (arith, count, first, filled-long free places (firstsOf (rolesOf h)))
-
+  -- its tables are long enough for every place
   pub last-long : listOf h .count ≤ length (listOf h .last)
   last-long =
       let is = contents h end a in
@@ -147,7 +125,7 @@ module _ (h : List ℕ) (end : ℕ) (a : headerOf h ≡ Accepted end) where
       let firsts = take (listOf h .count) (listOf h .first) in
       let named : ℕ → List ℕ = λ i. nameOf (getD (rolesOf h) i neutral) in
       let lined : List ℕ → List ℕ = λ n. lineFor n (lookup n (rolesOf h)) in
-      length-map (namesListed h) lined ∙ length-map firsts named ∙ length-take-le (listOf h .count) (listOf h .first) first-long
+      length-map (namesListed h) lined ∙ length-map firsts named ∙ length-take-le (listOf h .count) (listOf h .first) (first-long h end a)
 
   module _ (k : ℕ) (p : k < listOf h .count) where
     pub taken : PlaceTaken h k
@@ -189,15 +167,10 @@ module _ (h : List ℕ) (end : ℕ) (a : headerOf h ≡ Accepted end) where
     -- the line is one of the header's
     pub line-is : getD (nameLines h) k [] ≡ entryLine name (value .value) (value .digits) (value .words .text)
     line-is =
-        let named : ℕ → List ℕ = λ i. nameOf (getD (rolesOf h) i neutral) in
-        let firsts = take (listOf h .count) (listOf h .first) in
-        let long : k < length firsts = omega (arith, p, first-long, length-take (listOf h .count) (listOf h .first)) in
-        let names-long : k < length (namesListed h) = omega (arith, long, length-map firsts named) in
-        let at-k : getD (namesListed h) k [] ≡ name =
-        at-map named firsts k free [] long ∙ ap named (at-take (listOf h .first) (listOf h .count) k free p) ∙ ap nameOf
-        (taken .stands .bears) in
+        let lined : List ℕ → List ℕ = λ n. lineFor n (lookup n (rolesOf h)) in
+        let names-long : k < length (namesListed h) = omega (arith, p, as-many, length-map (namesListed h) lined) in
         at-map (λ (n : List ℕ). lineFor n (lookup n (rolesOf h))) (namesListed h) k [] [] names-long
-        ∙ ap (λ (n : List ℕ). lineFor n (lookup n (rolesOf h))) at-k
+        ∙ ap (λ (n : List ℕ). lineFor n (lookup n (rolesOf h))) (name-kth h end a name k (taken .stands))
         ∙ ap (lineFor name) (found .is)
 
     -- a text that fits its buffer

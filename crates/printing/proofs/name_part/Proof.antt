@@ -21,6 +21,7 @@ use Rattle.entries.specs.Answers.{LookupOutcome, leftBy, bytesIn, foundAs, entr
 use Rattle.entries.proofs.LookupAnswer as answering
 use Rattle.listing.specs.Listing.{free, listOf}
 use Rattle.lines.specs.Lines.{entryLine}
+use Rattle.agreeing.proofs.Naming.{first-long}
 use Rattle.bounds.specs.Longest.{longestText}
 use Rattle.printing.specs.Ready.{Front}
 use Rattle.printing.proofs.Fitting.{front, written-line}
@@ -45,7 +46,7 @@ first-within s =
       arith,
       s .pre .1,
       ap length (s .pre .0 .first-cards),
-      naming.first-long (s .args .header .now) (s .pre .0 .end)
+      first-long (s .args .header .now) (s .pre .0 .end)
           (s .pre .0 .accepted),
     )
 

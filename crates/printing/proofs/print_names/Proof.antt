@@ -13,6 +13,7 @@ use Rattle.output.specs.Shown.{lineShown}
 use Rattle.output.proofs.Pieces.{counted, line-few}
 use Rattle.printing.specs.Output.{nameLines, inOrder}
 use Rattle.printing.specs.Ready.{IsListed, IsWide, Front}
+use Rattle.agreeing.proofs.Naming.{at-map}
 use Rattle.printing.proofs.Naming as naming
 use Rattle.printing.proofs.print_names.Statement.{statement}
 use Rattle.printing.proofs.print_names.Tie as tie
@@ -156,7 +157,7 @@ loop-again c =
       line-long = search needs;
       within = omega (arith, inside c .loop-test .taken);
       bytes =
-          ap₂ (λ (n m : ℕ). n + m) (v .bytes) (bytes c ∙ sym (ap length (naming.at-map (lineShown t) names k [] [] under)))
+          ap₂ (λ (n m : ℕ). n + m) (v .bytes) (bytes c ∙ sym (ap length (at-map (lineShown t) names k [] [] under)))
           ∙ sym (naming.in-order-next (map (lineShown t) names) k under-all);
       small = omega (arith, v .small, written-few c);
     }
