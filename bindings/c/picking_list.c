@@ -108,12 +108,12 @@ static int print_line(const char *file, const char *name)
     }
     uint8_t answer = widrekas_lookup(header, length, (const uint8_t *)name, strlen(name), text, sizeof text, comment,
                                      sizeof comment, digits, sizeof digits, out, WIDREKAS_NUMBERS, &number);
-    if (answer == WIDREKAS_NAME_NOT_FOUND) {
-        fprintf(stderr, "%s: refused %d\n", file, answer);
+    if (answer > WIDREKAS_NO_END) {
+        fprintf(stderr, "%s: refused %d: %s\n", file, answer, widrekas_meaning(answer));
         return 0;
     }
     if (answer != 0) {
-        fprintf(stderr, "%s: refused %d at %zu\n", file, answer, out[WIDREKAS_ENTRY_CARD]);
+        fprintf(stderr, "%s: refused %d at %zu: %s\n", file, answer, out[WIDREKAS_ENTRY_CARD], widrekas_meaning(answer));
         return 0;
     }
     size_t kind = out[WIDREKAS_ENTRY_KIND];

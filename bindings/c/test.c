@@ -1,9 +1,10 @@
 /*
- * Tests of the C boundary. What is expected is document 01's (its edge table, its example, its rules), never our own output.
+ * Tests of the C boundary. What is expected comes from the rules and examples of docs/SPECIFICATION.md, never from our own output.
  * Every slice that is lent has its own memory of just its length, so that a step outside is seen by valgrind.
  */
 #include "widrekas.h"
 
+#include <math.h>
 #include <stdio.h>
 #include <stdlib.h>
 #include <string.h>
@@ -222,6 +223,183 @@ static void test_lists(void)
     is_refused_header(endless, 0, WIDREKAS_HEADER_LENGTH, 0);
 }
 
+/* ---- where END stands */
+
+static void is_header(const char *const *fronts, size_t many, int refusal, size_t card)
+{
+    uint8_t *header = cards(fronts, many);
+    size_t *told = lent(sizeof *told);
+    CHECK(widrekas_header(header, many * WIDREKAS_CARD, told) == refusal && *told == card);
+    free(told);
+    free(header);
+}
+
+/* A card that is END, whatever follows the keyword, and one that is not. */
+static void is_end(const char *front, int is)
+{
+    const char *const fronts[] = {"K       = 5", front};
+    is_header(fronts, 2, is ? 0 : WIDREKAS_NO_END, is ? 1 : 2);
+}
+
+static void test_header(void)
+{
+    is_end("END", 1);
+    is_end("END     of it", 1);
+    is_end("END     = 5", 1);
+    is_end("  END", 1);
+    is_end("     END", 1);
+    is_end("\tEND", 1);
+    is_end("END\n\f\r", 1);
+    is_end("END     \x01\x7f", 1);
+    is_end("      END", 0);
+    is_end("ENDE", 0);
+    is_end("END = 5", 0);
+    is_end("E ND", 0);
+    is_end("end", 0);
+    is_end("END\v", 0);
+    is_end("COMMENT END", 0);
+
+    static const char *const twice[] = {"END", "K       = (", "END"};
+    is_header(twice, 3, 0, 0);
+    static const char *const high[] = {"K       = 1", "END   \x80"};
+    is_header(high, 2, WIDREKAS_HIGH_BYTE, 1);
+    static const char *const lone[] = {"K       = 1", "COMMENT", "K       = '", "K       = (", "END"};
+    is_header(lone, 5, WIDREKAS_STRING_NOT_CLOSED, 2);
+    is_header(lone, 2, WIDREKAS_NO_END, 2);
+    is_header(lone, 0, WIDREKAS_HEADER_LENGTH, 0);
+
+    /* The longest header, one card more, and lengths between cards. The answer takes what may be lent beside it. */
+    uint8_t *header = lent(WIDREKAS_LONGEST + WIDREKAS_CARD);
+    memset(header, ' ', WIDREKAS_LONGEST + WIDREKAS_CARD);
+    memcpy(header + WIDREKAS_LONGEST - WIDREKAS_CARD, "END", 3);
+    size_t told[3] = {11, 12, 13};
+    CHECK(widrekas_header(header, WIDREKAS_LONGEST, told + 1) == 0 && told[1] == 719);
+    CHECK(widrekas_header(header, WIDREKAS_LONGEST - WIDREKAS_CARD, told + 1) == WIDREKAS_NO_END && told[1] == 719);
+    CHECK(widrekas_header(header, WIDREKAS_LONGEST + WIDREKAS_CARD, told + 1) == WIDREKAS_HEADER_LENGTH && told[1] == 0);
+    told[1] = 12;
+    CHECK(widrekas_header(header, 79, told + 1) == WIDREKAS_HEADER_LENGTH && told[1] == 0);
+    told[1] = 12;
+    CHECK(widrekas_header(header, 81, told + 1) == WIDREKAS_HEADER_LENGTH && told[1] == 0);
+    CHECK(told[0] == 11 && told[2] == 13);
+    free(header);
+}
+
+/* ---- names */
+
+/* Reads a name into room bytes between two guards, and checks that nothing else is touched. */
+static uint8_t read_name(const uint8_t *header, size_t length, size_t card, size_t room, uint8_t *name, size_t *told)
+{
+    enum { GUARD = 16 };
+    uint8_t *memory = lent(GUARD + room + GUARD);
+    *told = 4321;
+    uint8_t answer = widrekas_name(header, length, card, memory + GUARD, room, told);
+    size_t written = answer == 0 ? *told : 0;
+    CHECK(written <= room && written <= WIDREKAS_LONGEST_NAME);
+    CHECK(answer == 0 || *told == 4321);
+    CHECK(untouched(memory, GUARD) && untouched(memory + GUARD + written, room - written + GUARD));
+    memcpy(name, memory + GUARD, written);
+    free(memory);
+    return answer;
+}
+
+/* The name that the second of three cards bears: with no room, a byte too little, just enough, and more. */
+static void is_name(const char *front, const char *expected)
+{
+    const char *const fronts[] = {"K       = (", front, "\xff"};
+    uint8_t *header = cards(fronts, 3);
+    size_t length = strlen(expected), told;
+    uint8_t name[WIDREKAS_LONGEST_NAME];
+    for (size_t room = 0; room <= WIDREKAS_LONGEST_NAME + 5; room++) {
+        uint8_t answer = read_name(header, 3 * WIDREKAS_CARD, 1, room, name, &told);
+        if (room < length) {
+            CHECK(answer == WIDREKAS_BUFFER_SHORT);
+        } else {
+            CHECK(answer == 0 && told == length && memcmp(name, expected, length) == 0);
+        }
+    }
+    free(header);
+}
+
+/* A card without a name, with any room. */
+static void has_no_name(const char *front, int refusal)
+{
+    const char *const fronts[] = {"A       = 1", front};
+    uint8_t *header = cards(fronts, 2);
+    size_t told;
+    uint8_t name[WIDREKAS_LONGEST_NAME];
+    for (size_t room = 0; room <= WIDREKAS_LONGEST_NAME; room += 40) {
+        CHECK(read_name(header, 2 * WIDREKAS_CARD, 1, room, name, &told) == refusal);
+    }
+    free(header);
+}
+
+static void test_names(void)
+{
+    is_name("KIT     = 5", "KIT");
+    is_name("  KIT   = 'a'", "KIT");
+    is_name("\tKIT\t   = 'a'", "KIT");
+    is_name("A B     = T", "A B");
+    is_name("A\x01\x7f     = T", "A\x01\x7f");
+    is_name("ABCDEFGH= / nothing", "ABCDEFGH");
+    is_name("KIT     = what", "KIT");
+    is_name("XTENSION= 'IMAGE'", "XTENSION");
+    is_name("XTENSION  'IMAGE'", "XTENSION");
+    is_name("HIERARCH KIT = 5", "KIT");
+    is_name("HIERARCH  ESO  DET\tID= 5", "ESO.DET.ID");
+    is_name("HIERARCHxA = 5", "A");
+    is_name("HIERARCH=K = 5", "K");
+    is_name("HIERARCH ABCDEFGHIJKLMNOPQRSTUVWXYZABCDEFGHIJKLMNOPQRSTUVWXYZABCDEFGHIJKLMNOPQR=",
+            "ABCDEFGHIJKLMNOPQRSTUVWXYZABCDEFGHIJKLMNOPQRSTUVWXYZABCDEFGHIJKLMNOPQR");
+    has_no_name("COMMENT = 5", WIDREKAS_NAME_NOT_FOUND);
+    has_no_name("HISTORY = 5", WIDREKAS_NAME_NOT_FOUND);
+    has_no_name("        = 5", WIDREKAS_NAME_NOT_FOUND);
+    has_no_name("", WIDREKAS_NAME_NOT_FOUND);
+    has_no_name("CONTINUE  'a'", WIDREKAS_NAME_NOT_FOUND);
+    has_no_name("END", WIDREKAS_NAME_NOT_FOUND);
+    has_no_name("  END   = 5", WIDREKAS_NAME_NOT_FOUND);
+    has_no_name("KIT     =5", WIDREKAS_NAME_NOT_FOUND);
+    has_no_name("KIT = 5", WIDREKAS_NAME_NOT_FOUND);
+    has_no_name("KIT     = \x80", WIDREKAS_HIGH_BYTE);
+    has_no_name("KIT     = 5 \x0b 6", WIDREKAS_ODD_BYTE);
+    has_no_name("KIT     = 'a", WIDREKAS_STRING_NOT_CLOSED);
+    has_no_name("CONTINUE  a'", WIDREKAS_STRING_NOT_OPENED);
+    has_no_name("KIT     = (1, 2)", WIDREKAS_COMPLEX);
+    has_no_name("HIERARCH KIT", WIDREKAS_NO_EQUALS);
+    has_no_name("HIERARCH = 5", WIDREKAS_NO_NAME);
+    has_no_name("XTENSION= IMAGE", WIDREKAS_EXTENSION_NOT_QUOTED);
+
+    /* Behind END a name is read; a number that the header lacks is 12, and a bad length comes first. */
+    static const char *const some[] = {"B       = 1", "HIERARCH A B = 2", "COMMENT", "B       = 3", "C       = 4", "END", "D       = 5"};
+    uint8_t *header = cards(some, 7);
+    uint8_t name[WIDREKAS_LONGEST_NAME];
+    size_t told;
+    CHECK(read_name(header, 7 * WIDREKAS_CARD, 6, 80, name, &told) == 0 && told == 1 && name[0] == 'D');
+    static const size_t beyond[] = {7, 8, 720, (size_t)-1, (size_t)-1 / WIDREKAS_CARD + 1};
+    for (size_t i = 0; i < sizeof beyond / sizeof beyond[0]; i++) {
+        CHECK(read_name(header, 7 * WIDREKAS_CARD, beyond[i], 80, name, &told) == WIDREKAS_NAME_NOT_FOUND);
+        CHECK(read_name(header, 79, beyond[i], 80, name, &told) == WIDREKAS_HEADER_LENGTH);
+    }
+    CHECK(read_name(header, 0, 0, 80, name, &told) == WIDREKAS_HEADER_LENGTH);
+    CHECK(read_name(header, 7 * WIDREKAS_CARD - 1, 0, 0, name, &told) == WIDREKAS_HEADER_LENGTH);
+
+    /* The names of a list, each at its first card and at its last. */
+    static const char *const names[] = {"B", "A.B", "C"};
+    size_t *first, *last, count;
+    CHECK(list(header, 7, &first, &last, &count) == 0 && count == 3);
+    for (size_t k = 0; k < count; k++) {
+        size_t length = strlen(names[k]);
+        CHECK(read_name(header, 7 * WIDREKAS_CARD, first[k], 80, name, &told) == 0);
+        CHECK(told == length && memcmp(name, names[k], length) == 0);
+        CHECK(read_name(header, 7 * WIDREKAS_CARD, last[k], length, name, &told) == 0);
+        CHECK(told == length && memcmp(name, names[k], length) == 0);
+    }
+    free(first);
+    free(last);
+    free(header);
+}
+
+/* ---- entries */
+
 /* What an entry is asked by, and what it was laid into. */
 struct asked {
     const uint8_t *header;
@@ -408,6 +586,124 @@ static void test_met(void)
     free(header);
 }
 
+/* ---- doubles and words */
+
+/* The same double to the bit; any nan is the same as another of its sign. */
+static int same_double(double a, double b)
+{
+    uint64_t x, y;
+    memcpy(&x, &a, sizeof x);
+    memcpy(&y, &b, sizeof y);
+    return a != a ? b != b && x >> 63 == y >> 63 : x == y;
+}
+
+static double double_of(const char *value)
+{
+    char front[WIDREKAS_CARD + 1];
+    CHECK(snprintf(front, sizeof front, "K       = %s", value) <= WIDREKAS_CARD);
+    const char *fronts = front;
+    uint8_t *header = cards(&fronts, 1);
+    struct asked a = {header, WIDREKAS_CARD, NULL, 0, NULL, NULL, NULL, NULL, 0};
+    CHECK(ask(&a, 80, 80) == 0);
+    double read = widrekas_double(a.out, a.digits, a.number);
+    give_back(&a);
+    free(header);
+    return read;
+}
+
+/* What stands on the right was rounded by the compiler, or is written to the bit. */
+static void test_doubles(void)
+{
+    static const struct {
+        const char *value;
+        double is;
+    } rows[] = {
+        {"0", 0.0},
+        {"-0", 0.0},
+        {"-0.", -0.0},
+        {"0.", 0.0},
+        {"-0.0E5", -0.0},
+        {"1", 1.0},
+        {"-12", -12.0},
+        {"1.5D3", 1500.0},
+        {"-.5", -0.5},
+        {"0.1", 0x1.999999999999ap-4},
+        {"1e23", 0x1.52d02c7e14af6p+76},
+        {"-1E23", -0x1.52d02c7e14af6p+76},
+        {"8.41E21", 8.41e21},
+        {"9.5367431640625e-7", 0x1p-20},
+        {"5e-324", 0x1p-1074},
+        {"9007199254740993", 9007199254740992.0},
+        {"9007199254740995", 9007199254740996.0},
+        {"9007199254740993.", 9007199254740992.0},
+        {"9007199254740993.0000000000000000000000000000000000000000001", 9007199254740994.0},
+        {"9223372036854775807", 0x1p63},
+        {"-9223372036854775808", -0x1p63},
+        {"9223372036854775808", 0x1p63},
+        {"2.2250738585072011e-308", 0x0.fffffffffffffp-1022},
+        {"2.2250738585072014e-308", 0x1p-1022},
+        {"4.9406564584124654e-324", 0x1p-1074},
+        {"2.4703282292062328e-324", 0x1p-1074},
+        {"2.4703282292062327e-324", 0.0},
+        {"-2.4703282292062327e-324", -0.0},
+        {"1.7976931348623157e308", 0x1.fffffffffffffp+1023},
+        {"1.7976931348623158e308", 0x1.fffffffffffffp+1023},
+        {"1e99999", HUGE_VAL},
+        {"-1e99999", -HUGE_VAL},
+        {"1.7976931348623159e308", HUGE_VAL},
+        {"1e-99999", 0.0},
+        {"-1e-99999", -0.0},
+        {"1e-999999999999999999999", 0.0},
+        {"-1e999999999999999999999", -HUGE_VAL},
+        {"+inf", HUGE_VAL},
+        {"-Infinity", -HUGE_VAL},
+        {"3141592653589793238462643383279502884197169399375105820974944592307816",
+         3141592653589793238462643383279502884197169399375105820974944592307816.0},
+        {".000000000000000000000000000000000000000031415926535897932384626433832",
+         0.000000000000000000000000000000000000000031415926535897932384626433832},
+    };
+    for (size_t i = 0; i < sizeof rows / sizeof rows[0]; i++) {
+        CHECK(same_double(double_of(rows[i].value), rows[i].is));
+    }
+    double minus = double_of("-nan"), plus = double_of("+NaN");
+    CHECK(minus != minus && plus != plus && !same_double(minus, plus));
+    static const char *const others[] = {"T", "F", "'5'", "", "what", "1D", "inf"};
+    for (size_t i = 0; i < sizeof others / sizeof others[0]; i++) {
+        double none = double_of(others[i]);
+        CHECK(none != none);
+    }
+
+    /* All 80 digits, and powers that no card has. */
+    size_t out[WIDREKAS_NUMBERS] = {0, WIDREKAS_FINITE, 1, 0, 0, 0, WIDREKAS_DIGITS};
+    uint8_t digits[WIDREKAS_DIGITS];
+    for (size_t i = 0; i < WIDREKAS_DIGITS; i++) {
+        digits[i] = (uint8_t)('0' + (i + 1) % 10);
+    }
+    double all = -1.2345678901234567890123456789012345678901234567890123456789012345678901234567890;
+    CHECK(same_double(widrekas_double(out, digits, -79), all));
+    CHECK(same_double(widrekas_double(out, digits, INT64_MAX), -HUGE_VAL));
+    CHECK(same_double(widrekas_double(out, digits, INT64_MIN), -0.0));
+    out[WIDREKAS_ENTRY_DIGITS_LENGTH] = (size_t)-1;
+    CHECK(same_double(widrekas_double(out, digits, -79), all));
+    out[WIDREKAS_ENTRY_KIND] = 0;
+    double none = widrekas_double(out, digits, 0);
+    CHECK(none != none);
+}
+
+static void test_meanings(void)
+{
+    for (int answer = 0; answer <= 255; answer++) {
+        const char *words = widrekas_meaning((uint8_t)answer);
+        CHECK(strlen(words) > 0 && strlen(words) <= 80);
+        int known = answer <= WIDREKAS_BAD_CURSOR || answer >= WIDREKAS_NOTHING_LEFT;
+        CHECK((strcmp(words, "no such answer") == 0) == !known);
+        for (int other = 0; known && other < answer; other++) {
+            CHECK(strcmp(words, widrekas_meaning((uint8_t)other)) != 0);
+        }
+    }
+    CHECK(strstr(widrekas_meaning(WIDREKAS_NO_END), "END") != NULL);
+}
+
 /* ---- tiles */
 
 struct tile {
@@ -529,6 +825,19 @@ static void test_random(void)
         int looked = ask(&a, below(100), below(100));
         CHECK(listed <= 10 && (listed == 0 ? looked == 0 || looked == 12 || looked == 13 : looked == listed));
         give_back(&a);
+
+        /* Where END stands is refused as the list is; each name of the list is found, and no other number of a card bears it first. */
+        size_t card = 777;
+        CHECK(widrekas_header(header, length, &card) == listed && (listed == 0 ? card < many : card == count));
+        for (size_t k = 0; listed == 0 && k < count; k++) {
+            uint8_t name[WIDREKAS_LONGEST_NAME], text[1], comment[1], digits[WIDREKAS_DIGITS];
+            size_t told = 0, out[WIDREKAS_NUMBERS];
+            int64_t number;
+            CHECK(widrekas_name(header, length, first[k], name, sizeof name, &told) == 0 && first[k] < card);
+            int found = widrekas_lookup(header, length, name, told, text, 1, comment, 1, digits, WIDREKAS_DIGITS, out, WIDREKAS_NUMBERS,
+                                        &number);
+            CHECK(found == 0 || found == WIDREKAS_BUFFER_SHORT);
+        }
         free(first);
         free(last);
 
@@ -551,8 +860,12 @@ int main(void)
     test_cards();
     test_units();
     test_lists();
+    test_header();
+    test_names();
     test_entries();
     test_met();
+    test_doubles();
+    test_meanings();
     test_decode();
     test_tile_refusals();
     test_random();

@@ -1,23 +1,34 @@
 /*
- * Widrekas: FITS header cards, joined strings, keyword lookup and Rice tiles. What is proved of the functions below stands in the
- * project's docs/PROMISES.md; the names and meanings here are not checked against it.
+ * Widrekas: FITS header cards, joined strings, keyword lookup and Rice tiles. What is proved of the exported functions below stands in
+ * the project's docs/PROMISES.md; the names and meanings here are not checked against it. The two functions at the end, which are
+ * static inline, are not proved.
  *
  * Link with libwidrekas.a (pkg-config: widrekas). The library uses memcpy and memset, no heap, no files and no state of its own, so it
- * may be called from any number of threads. Reading an entry takes some 120 KiB of the caller's stack.
+ * may be called from any number of threads.
  *
  * For every function:
  *
  * - It takes any bytes and any numbers, returns, and reads and writes within the lent lengths alone.
  * - No pointer may be null, also where its length is 0. What is lent to be written (no const) may overlap nothing else that is
  *   lent in the same call, and every byte or number of it is in memory that may be written.
- * - The answer is 0, or the number of one refusal (enum widrekas_refusal, document 01), or 254 or 255 where it is said.
+ * - The answer is 0, or the number of one refusal (enum widrekas_refusal), or 254 or 255 where it is said.
+ * - 255 is tested first. A function that can answer it looks at no byte before the lengths are right, so with a wrong length no refusal
+ *   is given. Refusals are tested in the order in which the comment names them; on one card that is 1, then 6 and 7, then 2, then 3 to 8.
  * - Whatever the comment does not name stays as it was.
+ *
+ * Stack. What a call takes of its caller's stack, as measured, up to the next hundred bytes: widrekas_list 79,300, widrekas_lookup
+ * 62,100, widrekas_entry 62,000, widrekas_header 3,400, widrekas_name 3,300, widrekas_card 3,200, widrekas_decode and widrekas_step
+ * 1,000, the others 200. stack.c measures it on x86-64 Linux: each call runs in a thread whose stack was painted before, over strings
+ * of up to 720 cards, 1,000 headers at random and tiles of each width. It holds the list below 80 KiB, lookup and entry below 64, and
+ * the others below 4. valgrind's massif sees the same of a lookup and a list. The loader takes some 2 KiB more where it binds memcpy
+ * at the first call.
  */
 #ifndef WIDREKAS_H
 #define WIDREKAS_H
 
 #include <stddef.h>
 #include <stdint.h>
+#include <stdlib.h>
 
 #ifdef __cplusplus
 extern "C" {
@@ -33,6 +44,9 @@ extern "C" {
 #define WIDREKAS_DIGITS 80
 #define WIDREKAS_PLACES 720
 
+/* The bytes of the longest name. */
+#define WIDREKAS_LONGEST_NAME 80
+
 /* Room that is enough for any joined text or comment: 81 bytes for each of 720 cards. */
 #define WIDREKAS_ROOM 58320
 
@@ -45,7 +59,7 @@ extern "C" {
 #define WIDREKAS_NOTHING_LEFT 254
 #define WIDREKAS_WRONG_LENGTH 255
 
-/* Document 01's refusals. */
+/* The refusals, in words by widrekas_meaning. */
 enum widrekas_refusal {
     WIDREKAS_HIGH_BYTE = 1,            /* a byte of the card is 128 or more */
     WIDREKAS_ODD_BYTE = 2,             /* before the slash, a byte outside 32..126 that is not replaced */
@@ -58,8 +72,8 @@ enum widrekas_refusal {
     WIDREKAS_HEADER_LENGTH = 9,        /* the header's length is 0, not a multiple of 80, or above 57,600 */
     WIDREKAS_NO_END = 10,              /* there is no END card */
     WIDREKAS_TABLE_FULL = 11,          /* the name table is full; no header meets it */
-    WIDREKAS_NAME_NOT_FOUND = 12,      /* no entry bears the name */
-    WIDREKAS_BUFFER_SHORT = 13,        /* a lent text buffer is shorter than the text for it */
+    WIDREKAS_NAME_NOT_FOUND = 12,      /* no entry bears the name, or stands at the card */
+    WIDREKAS_BUFFER_SHORT = 13,        /* a lent buffer is shorter than the text for it */
     WIDREKAS_LIMITS = 14,              /* nx, nblock, the width or the tile's length is outside its limits */
     WIDREKAS_PIXEL_COUNT = 15,         /* the pixel slice is not nx long */
     WIDREKAS_TILE_ENDS = 16,           /* the tile ends before the bits asked for */
@@ -117,16 +131,19 @@ enum widrekas_number {
     WIDREKAS_ENTRY_DIGITS_LENGTH = 6
 };
 
-/* The version of this boundary: 1. */
+/* The version of this boundary: 1. Functions may join without a change of it. */
 uint32_t widrekas_version(void);
 
 /*
  * Reads a card of 80 bytes.
  *
- * 0: out, 248 bytes, is the card's record, its texts padded with zeros; *number is the integer or the power of ten, or 0. The text
- * is the value's (a string, an invalid text, a decimal's digits), a CONTINUE or XTENSION card's string, a comment or history
- * text, or an undefined card whole.
- * 1 to 8: the refusal. 255: card_length is not 80 or out_length not 248. Both leave out and *number as they were.
+ * 0: out, 248 bytes, is the card's record, its texts padded with zeros; *number is the integer or the power of ten, or 0.
+ * The name is the keyword, bytes 0 to 7 without the blanks at both ends, whatever the class: that of a commentary, CONTINUE, XTENSION,
+ * END or undefined card too, so that a record with a name need not be an entry. Where there is no keyword the name is empty. A HIERARCH
+ * card has its dotted name instead.
+ * The text is the value's (a string, an invalid text, a decimal's digits), a CONTINUE or XTENSION card's string, a comment or history
+ * text, or an undefined card whole. END and space cards have none.
+ * 255: card_length is not 80 or out_length not 248. 1 to 8: the refusal. Both leave out and *number as they were.
  */
 uint8_t widrekas_card(const uint8_t *card, size_t card_length, uint8_t *out, size_t out_length, int64_t *number);
 
@@ -138,28 +155,50 @@ uint8_t widrekas_card(const uint8_t *card, size_t card_length, uint8_t *out, siz
 size_t widrekas_unit(const uint8_t *comment, size_t comment_length);
 
 /*
+ * Says where END stands. Nothing behind the first END is looked at.
+ *
+ * 0: *card is END's card number. The header has (*card + 1) * 80 bytes, and the data begin at the next multiple of 2,880.
+ * 9: *card is 0. 1 to 8: *card is the number of the first card that is refused. 10: *card is the number of cards.
+ */
+uint8_t widrekas_header(const uint8_t *header, size_t header_length, size_t *card);
+
+/*
  * Lists the names of a header, in the order of their first cards. Nothing behind the first END is looked at.
  *
  * 0: *count is the number of names; for each of them first has the number of the first card that bears it, and last that of the
  * last one, whose entry counts. The places behind them are 720.
- * 1 to 10: the refusal, and *count is the card's number (0 for 9, the number of cards for 10). 255: first_length or last_length is
- * not 720. Both leave first and last as they were, and 255 leaves *count.
+ * 255: first_length or last_length is not 720; *count stays as it was. 9, 1 to 8, 10: *count is the card's number, as in
+ * widrekas_header. All leave first and last as they were.
  */
 uint8_t widrekas_list(const uint8_t *header, size_t header_length, size_t *first, size_t first_length, size_t *last,
                       size_t last_length, size_t *count);
 
 /*
+ * Reads the name that the entry at a card's number bears. The name at place k of a list is that at card first[k]. No other card is
+ * looked at, as in widrekas_entry.
+ *
+ * 0: name begins with the name, what is beyond stays, and *length is the name's length. There is no zero behind it. Its bytes are the
+ * card's, each below 128; control characters may stand among them.
+ * 9. 1 to 8: that card is refused. 12: there is no such card, or it bears no entry (a commentary, CONTINUE, END or undefined card).
+ * 13: name is shorter than the name; WIDREKAS_LONGEST_NAME bytes are always enough. All leave name and *length as they were.
+ */
+uint8_t widrekas_name(const uint8_t *header, size_t header_length, size_t card, uint8_t *name, size_t name_length,
+                      size_t *length);
+
+/*
  * Reads the entry at a card's number, joined with the CONTINUE cards behind it. The header's length is tested. Of its cards that one
  * is read and those behind it, up to where the entry ends; others are not looked at. So an entry behind END is read if its number is
- * asked for, and whether the header is accepted is for widrekas_list to say.
+ * asked for, and whether the header is accepted is for widrekas_header or widrekas_list to say.
  *
  * 0: out, 7 numbers, is the entry (enum widrekas_number); text begins with the string or invalid text, comment with the comment,
  * by their lengths, and what is beyond stays; digits, 80 bytes, is the decimal's digits, then zeros; *number is the integer or
  * the power of ten, or 0.
- * 1 to 8: a refused card is met, with that card's number in out[0]. It is the card itself, or the first one that is refused while the
+ * 255: digits_length is not 80 or out_length not 7. 9: out[0] is 0.
+ * 1 to 8: a refused card is met, and out[0] is that card's number. It is the card itself, or the first one that is refused while the
  * entry's string is open. A string that is complete before a refused card is read, as is any other value.
- * 9, with 0 in out[0]. 12: there is no such card, or it is no entry. 13: text or comment is too short; the answer does not say by
- * how much, WIDREKAS_ROOM is always enough. 255: digits_length is not 80 or out_length not 7. All leave the rest as it was.
+ * 12: there is no such card, or it is no entry. 13: text or comment is too short; the answer does not say by how much, and
+ * WIDREKAS_ROOM is always enough.
+ * All leave the rest as it was: text, comment, digits, *number and out[1] to out[6], and but for 9 and 1 to 8 out[0] too.
  */
 uint8_t widrekas_entry(const uint8_t *header, size_t header_length, size_t card, uint8_t *text, size_t text_length,
                        uint8_t *comment, size_t comment_length, uint8_t *digits, size_t digits_length, size_t *out,
@@ -168,8 +207,8 @@ uint8_t widrekas_entry(const uint8_t *header, size_t header_length, size_t card,
 /*
  * Looks a name up: the last entry that bears it, joined. Names are compared byte for byte.
  *
- * 0: as widrekas_entry. 1 to 10: the header's refusal, with the card's number in out[0]. 12: no entry bears the name.
- * 13 and 255: as widrekas_entry. All leave the rest as it was.
+ * 0: as widrekas_entry. 255: as widrekas_entry. 9, 1 to 8, 10: the header's refusal, and out[0] is the card's number, as in
+ * widrekas_header. 12: no entry bears the name. 13: as widrekas_entry. All leave the rest as it was, as in widrekas_entry.
  */
 uint8_t widrekas_lookup(const uint8_t *header, size_t header_length, const uint8_t *name, size_t name_length,
                         uint8_t *text, size_t text_length, uint8_t *comment, size_t comment_length, uint8_t *digits,
@@ -179,7 +218,7 @@ uint8_t widrekas_lookup(const uint8_t *header, size_t header_length, const uint8
  * Opens a Rice tile of nx pixels in blocks of nblock, with pixels of 8, 16 or 32 bits.
  *
  * 0: *bit, *done and *last are the cursor at the first block: the next bit of the tile, the pixels done, the last pixel.
- * 14, or 16 for a short start value: the cursor stays as it was.
+ * 14. 16: the tile is shorter than its start value. Both leave the cursor as it was.
  */
 uint8_t widrekas_open(const uint8_t *tile, size_t tile_length, size_t nx, size_t nblock, size_t bits, size_t *bit,
                       size_t *done, int32_t *last);
@@ -188,8 +227,9 @@ uint8_t widrekas_open(const uint8_t *tile, size_t tile_length, size_t nx, size_t
  * Decodes one block from a cursor into its part of the tile's nx pixels, which starts at pixel *done, touching no other.
  *
  * 0: the cursor stands at the next block. 254: nothing is left.
- * 14, 15, 18: no pixel is touched, and *written is 0. 16, 17: the pixels of the block before the fault are written, and *written
- * is how many. A refusal and 254 leave the cursor as it was; 0 and 254 leave *written.
+ * 14. 15: pixels_length is not nx. 18. All three touch no pixel, and *written is 0. 16, 17: the pixels of the block before the fault
+ * are written, the others untouched, and *written is how many. A refusal and 254 leave the cursor as it was; 0 and 254 leave
+ * *written; 254 touches no pixel.
  */
 uint8_t widrekas_step(const uint8_t *tile, size_t tile_length, size_t nx, size_t nblock, size_t bits, size_t *bit,
                       size_t *done, int32_t *last, int32_t *pixels, size_t pixels_length, size_t *written);
@@ -198,10 +238,92 @@ uint8_t widrekas_step(const uint8_t *tile, size_t tile_length, size_t nx, size_t
  * Decodes a tile whole.
  *
  * 0: pixels, nx of them, is the tile, and *count is the bits used.
- * 14, 15: no pixel is touched, and *count is 0. 16, 17: the pixels before the fault are written, and *count is how many.
+ * 14. 15: pixels_length is not nx. Both touch no pixel, and *count is 0. 16, 17: the pixels before the fault are written, the others
+ * untouched, and *count is how many.
  */
 uint8_t widrekas_decode(const uint8_t *tile, size_t tile_length, size_t nx, size_t nblock, size_t bits, int32_t *pixels,
                         size_t pixels_length, size_t *count);
+
+/* ---- Not proved: what follows is C, and stands here for convenience. */
+
+/* An answer in words, which are those of docs/REFUSALS.md. They end with a zero and are at most 80 bytes. */
+static inline const char *widrekas_meaning(uint8_t answer)
+{
+    switch (answer) {
+    case 0: return "nothing is refused";
+    case 1: return "a byte of the card is 128 or more";
+    case 2: return "before the slash and outside a string stands a byte outside 32 to 126";
+    case 3: return "the string begins with a quote and does not end with one";
+    case 4: return "the CONTINUE string ends with a quote and does not begin with one";
+    case 5: return "the value begins with a parenthesis, and complex numbers are not read";
+    case 6: return "the HIERARCH card has no = from byte 9 on";
+    case 7: return "the HIERARCH card has no name before its =";
+    case 8: return "the XTENSION value is not within quotes";
+    case 9: return "the header's length is 0, no multiple of 80, or above 57,600";
+    case 10: return "the header has no END card";
+    case 11: return "the name table is full";
+    case 12: return "no entry bears the name or stands at the card";
+    case 13: return "a lent buffer is shorter than the text for it";
+    case 14: return "the tile's pixels, block, width or length is outside its limits";
+    case 15: return "the pixel slice is not as long as the tile has pixels";
+    case 16: return "the tile ends before its last pixel";
+    case 17: return "an FS field of the tile is above its top";
+    case 18: return "the cursor does not fit the tile";
+    case WIDREKAS_NOTHING_LEFT: return "nothing is left to step over";
+    case WIDREKAS_WRONG_LENGTH: return "a lent slice has another length than the one asked for";
+    default: return "no such answer";
+    }
+}
+
+/*
+ * The double of an entry's integer or decimal, from out, digits and *number as widrekas_entry or widrekas_lookup left them with 0.
+ *
+ * An integer is converted, and a finite decimal is given to strtod as its sign, digits, e and power, with no decimal point: the locale
+ * has no say, and the double is the nearest one if the C library rounds right, as glibc does. One that is too large becomes an
+ * infinity, one that is too small a zero, both of the decimal's sign, and errno may then be ERANGE. Zero, inf and nan keep their sign.
+ * Any other kind (logical, string, undefined, invalid) gives nan.
+ */
+static inline double widrekas_double(const size_t *out, const uint8_t *digits, int64_t number)
+{
+    /* A sign, the digits, e, a sign, up to 19 digits of the power, and the zero at the end. */
+    char text[1 + WIDREKAS_DIGITS + 1 + 1 + 19 + 1];
+    char power[19];
+    size_t count = out[WIDREKAS_ENTRY_DIGITS_LENGTH];
+    size_t length = 0;
+    size_t places = 0;
+    size_t i;
+    uint64_t size = number < 0 ? 0 - (uint64_t)number : (uint64_t)number;
+    int minus = out[WIDREKAS_ENTRY_FLAG] != 0;
+    switch (out[WIDREKAS_ENTRY_KIND]) {
+    case WIDREKAS_INTEGER: return (double)number;
+    case WIDREKAS_FINITE: break;
+    case WIDREKAS_INFINITE: return strtod(minus ? "-inf" : "inf", NULL);
+    case WIDREKAS_NAN: return strtod(minus ? "-nan" : "nan", NULL);
+    default: return strtod("nan", NULL);
+    }
+    if (minus) {
+        text[length++] = '-';
+    }
+    for (i = 0; i < count && i < WIDREKAS_DIGITS; i++) {
+        text[length++] = (char)digits[i];
+    }
+    if (count == 0) {
+        text[length++] = '0';
+    }
+    text[length++] = 'e';
+    if (number < 0) {
+        text[length++] = '-';
+    }
+    do {
+        power[places++] = (char)('0' + size % 10);
+        size /= 10;
+    } while (size > 0);
+    while (places > 0) {
+        text[length++] = power[--places];
+    }
+    text[length] = 0;
+    return strtod(text, NULL);
+}
 
 #ifdef __cplusplus
 }
