@@ -1,4 +1,4 @@
--- The name that the entry at a card's number bears, and what the lent buffer then holds (SPECIFICATION 10 and 11).
+-- The name that the entry at a card's number bears, and what the lent buffer then holds (SPECIFICATION 10.3).
 use Prim.Native.Nat.{ℕ}
 use mathlib.Core.Bool.{cond}
 use mathlib.Core.List.{List}
