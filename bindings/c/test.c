@@ -130,6 +130,10 @@ static void test_cards(void)
     is_card("COMMENT a", WIDREKAS_COMMENT_CARD, 0, 0, 0, "COMMENT", "a", NULL);
     is_card("HISTORY b", WIDREKAS_HISTORY_CARD, 0, 0, 0, "HISTORY", "b", NULL);
     is_card("HIERARCH A  B = F", WIDREKAS_HIERARCH_CARD, WIDREKAS_LOGICAL, 0, 0, "A.B", "", NULL);
+    is_card("        a", WIDREKAS_COMMENT_CARD, 0, 0, 0, "", "a", NULL);
+    is_card("KIT     =5", WIDREKAS_UNDEFINED_CARD, 0, 0, 0, "KIT",
+            "KIT     =5                                                                      ", NULL);
+    is_card("  END", WIDREKAS_END_CARD, 0, 0, 0, "END", "", NULL);
     is_card("", WIDREKAS_SPACE_CARD, 0, 0, 0, "", "", NULL);
     is_card("END     of it", WIDREKAS_END_CARD, 0, 0, 0, "END", "", NULL);
     is_refused("K       = \x80", WIDREKAS_HIGH_BYTE);

@@ -155,9 +155,11 @@ uint8_t widrekas_card(const uint8_t *card, size_t card_length, uint8_t *out, siz
 size_t widrekas_unit(const uint8_t *comment, size_t comment_length);
 
 /*
- * Says where END stands. Nothing behind the first END is looked at.
+ * Says where END stands. Nothing behind the first END is looked at, so the front of a file may be lent: as many whole cards as there
+ * are, and at most WIDREKAS_LONGEST bytes.
  *
- * 0: *card is END's card number. The header has (*card + 1) * 80 bytes, and the data begin at the next multiple of 2,880.
+ * 0: *card is END's card number. The header has (*card + 1) * 80 bytes; in a file the data begin at this number, rounded up to a
+ * multiple of 2,880.
  * 9: *card is 0. 1 to 8: *card is the number of the first card that is refused. 10: *card is the number of cards.
  */
 uint8_t widrekas_header(const uint8_t *header, size_t header_length, size_t *card);
@@ -246,7 +248,7 @@ uint8_t widrekas_decode(const uint8_t *tile, size_t tile_length, size_t nx, size
 
 /* ---- Not proved: what follows is C, and stands here for convenience. */
 
-/* An answer in words, which are those of docs/REFUSALS.md. They end with a zero and are at most 80 bytes. */
+/* An answer in words, at most 80 bytes and a zero. Those of a refusal are the ones of docs/REFUSALS.md. */
 static inline const char *widrekas_meaning(uint8_t answer)
 {
     switch (answer) {
