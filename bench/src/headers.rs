@@ -167,7 +167,7 @@ impl Headers {
                 }
                 (ours, theirs) => panic!("{shown}: {ours:?}, {theirs:?}"),
             };
-            let comments = entry.comment.as_ref().and_then(|text| text.to_str()) == comment.as_deref();
+            let comments = entry.comment.as_deref() == comment.as_deref();
             assert!(same && comments, "{shown} differs: {entry:?}");
         }
     }

@@ -2,7 +2,8 @@
 
 use crate::theirs;
 use fitsrs::card::{Card, Value};
-use widrekas::{tile, Header, Refusal};
+use fitsrs::hdu::header::extension::{image::Image, Xtension};
+use widrekas::{tile, Header, Reason};
 
 const CARDS: [&str; 12] = [
     "SIMPLE  =                    T / a FITS file",
@@ -35,7 +36,12 @@ fn headers() {
     let kit: Option<&Value> = old.get("KIT");
     let entry = new.get("KIT");
     assert_eq!(kit.and_then(string), entry.as_ref().and_then(|e| e.value.as_str()));
-    assert_eq!(kit.and_then(Value::unit), entry.as_ref().and_then(|e| e.unit()).as_ref().and_then(|u| u.to_str()));
+    assert_eq!(kit.and_then(Value::unit), entry.as_ref().and_then(|e| e.unit()).as_deref());
+    let comment = match kit {
+        Some(Value::String { comment, .. }) => comment.as_deref(),
+        _ => None,
+    };
+    assert_eq!(comment, entry.as_ref().and_then(|e| e.comment.as_deref()));
 
     let number: Result<i64, _> = old.get_parsed("BITPIX");
     assert_eq!(number.ok(), new.get("BITPIX").and_then(|e| e.value.as_i64()));
@@ -44,7 +50,7 @@ fn headers() {
     let cooled: Result<bool, _> = old.get_parsed("COOLED");
     assert_eq!(cooled.ok(), new.get("COOLED").and_then(|e| e.value.as_bool()));
     let kit: Result<String, _> = old.get_parsed("KIT");
-    assert_eq!(kit.ok().as_deref(), new.get("KIT").as_ref().and_then(|e| e.value.as_str()));
+    assert_eq!(kit.ok(), new.get("KIT").and_then(|e| e.value.as_str().map(String::from)));
     let none: Result<Option<i64>, _> = old.get_parsed("NONE");
     assert_eq!(none, Ok(new.get("NONE").and_then(|e| e.value.as_i64())));
     let empty: Result<Option<i64>, _> = old.get_parsed("EMPTY");
@@ -52,18 +58,18 @@ fn headers() {
     // get_parsed gives an invalid text as a string, as_str does not.
     let odd: Result<String, _> = old.get_parsed("ODD");
     let text = match new.get("ODD").map(|e| e.value) {
-        Some(widrekas::Value::String(text) | widrekas::Value::Invalid(text)) => text.to_str().map(String::from),
+        Some(widrekas::Value::String(text) | widrekas::Value::Invalid(text)) => Some(String::from(text)),
         _ => None,
     };
     assert_eq!(odd.ok(), text);
 
     let names: Vec<&str> = old.keywords().map(String::as_str).collect();
-    assert!(names.iter().eq(new.keywords().filter_map(|name| name.to_str()).collect::<Vec<_>>().iter()));
-    assert_eq!(old.iter().count(), new.entries().count());
+    assert_eq!(names, new.keywords().map(|name| name.as_str()).collect::<Vec<_>>());
+    assert_eq!((old.iter().count(), old.iter().count()), (new.entries().count(), new.into_iter().count()));
     assert_eq!(old.cards().count(), new.cards().count());
     let lines: Vec<&String> = old.history().collect();
     let history = new.cards().filter_map(|card| match card {
-        widrekas::Card::History(text) => text.to_str().map(String::from),
+        widrekas::Card::History(text) => Some(text.into_string()),
         _ => None,
     });
     assert!(history.eq(lines.into_iter().cloned()));
@@ -73,7 +79,10 @@ fn headers() {
     assert!(matches!(widrekas::Card::read(card), Ok(widrekas::Card::Value { name, .. }) if name == "SIMPLE"));
 
     let complex: [u8; 80] = *format!("{:80}", "WCS     = (1.0, 2.0)").as_bytes().first_chunk().expect("a card");
-    assert!(Card::try_from(&complex).is_err() && widrekas::Card::read(&complex).is_err());
+    assert!(Card::try_from(&complex).is_err());
+    let refusal = widrekas::Card::read(&complex).expect_err("a complex number");
+    assert_eq!((refusal.reason(), refusal.number(), refusal.card()), (Reason::Complex, 5, None));
+    assert_eq!(refusal.to_string(), format!("refused 5: {}", refusal.meaning()));
 
     // The six kinds of values.
     for ((name, value), (other, entry)) in old.iter().zip(new.entries()) {
@@ -116,8 +125,8 @@ fn refused_cards() {
     ]);
     let (old, _) = theirs::read_on(&bytes);
     let new = Header::read_on(&bytes).expect("the rest is read");
-    let told: Vec<(u8, Option<usize>)> = new.refusals().iter().map(|refusal| (refusal.number, refusal.card)).collect();
-    assert_eq!(told, [(5, Some(2)), (3, Some(4)), (1, Some(6))]);
+    let told: Vec<_> = new.refusals().iter().map(|refusal| (refusal.reason(), refusal.card())).collect();
+    assert_eq!(told, [(Reason::Complex, Some(2)), (Reason::StringNotClosed, Some(4)), (Reason::HighByte, Some(6))]);
     assert_eq!(old.get("KIT").and_then(string), Some("FKM-75 ring"));
     for touched in ["KIT", "WCS", "NOTE", "TEMP"] {
         assert!(new.get(touched).is_err(), "{touched}");
@@ -132,7 +141,39 @@ fn refused_cards() {
     let (old, _) = theirs::read_on(&bytes);
     assert_eq!(old.get("KIT").and_then(string), Some("FKM-A2"));
     let new = Header::read_on(&bytes).expect("the rest is read");
-    assert_eq!(new.get("KIT"), Err(Refusal { number: 3, card: Some(2) }));
+    let refusal = new.get("KIT").expect_err("a damaged string");
+    assert_eq!((refusal.reason(), refusal.card()), (Reason::StringNotClosed, Some(2)));
+}
+
+/// The bytes of a header's data, as the guide finds them.
+fn data_length(header: &Header) -> Option<usize> {
+    let number = |name: &str| header.get(name).and_then(|entry| entry.value.as_i64());
+    let size = |name: &str| usize::try_from(number(name)?).ok();
+    let bytes = usize::try_from(number("BITPIX")?.unsigned_abs() / 8).ok()?;
+    let axes = size("NAXIS")?;
+    if axes == 0 {
+        return Some(0);
+    }
+    let pixels = (1..=axes).try_fold(1_usize, |all, axis| all.checked_mul(size(&format!("NAXIS{axis}"))?))?;
+    let (groups, behind) = (size("GCOUNT").unwrap_or(1), size("PCOUNT").unwrap_or(0));
+    pixels.checked_add(behind)?.checked_mul(groups)?.checked_mul(bytes)
+}
+
+/// Where the data of an image end: fitsrs' image has as many bytes of data.
+fn data() {
+    for bits in [8, 16, 32, 64, -32, -64] {
+        for axes in [&[][..], &[7], &[300, 20], &[2, 3, 5], &[5, 0]] {
+            let mut cards =
+                vec!["SIMPLE  = T".to_string(), format!("BITPIX  = {bits}"), format!("NAXIS   = {}", axes.len())];
+            cards.extend(axes.iter().enumerate().map(|(at, size)| format!("NAXIS{:<3}= {size}", at + 1)));
+            cards.push("END".to_string());
+            let bytes: Vec<u8> = cards.iter().flat_map(|card| format!("{card:80}").into_bytes()).collect();
+            let (old, new) = (theirs::header(&bytes), Header::parse(&bytes).expect("the header"));
+            let image = Image::parse(&old).expect("an image");
+            assert_eq!(data_length(&new).map(|length| length as u64), Some(image.get_num_bytes_data_block()));
+            assert_eq!((new.end(), new.data_start()), (cards.len() - 1, 2880));
+        }
+    }
 }
 
 /// Tiles.
@@ -156,5 +197,6 @@ fn tiles() {
 pub fn check() {
     headers();
     refused_cards();
+    data();
     tiles();
 }

@@ -1,7 +1,7 @@
 //! Our boundary, called as it is, and the binding.
 
-use widrekas::boundary::{self, Told, PLACES};
 use widrekas::{Entry, Header};
+use widrekas_sys::{self as boundary, Told, PLACES};
 
 /// Room for any text.
 const ROOM: usize = 58_320;

@@ -79,7 +79,7 @@ fn main() {
     let words: Vec<String> = std::env::args().collect();
     let number = |at: usize, default: u64| words.get(at).and_then(|w| w.parse().ok()).unwrap_or(default);
     let (seed, many) = (number(2, 1), number(3, 200_000) as usize);
-    println!("boundary version {}, seed {seed}, {many} random cases a part", widrekas::version());
+    println!("boundary version {}, seed {seed}, {many} random cases a part", widrekas_sys::version());
     let bad = match words.get(1).map(String::as_str) {
         Some("power") => power::run(seed, many) as u64,
         Some("stored") => {

@@ -2,7 +2,7 @@
 
 use crate::reading::{Card, Decimal, Entry, Header, Tile, Value};
 
-use widrekas::boundary::{self, Stepping, Told, DIGITS, NUMBERS, PLACES, RECORD};
+use widrekas_sys::{self as boundary, Stepping, Told, DIGITS, NUMBERS, PLACES, RECORD};
 
 /// Where the texts of a card's record stand.
 const NAME: usize = 8;

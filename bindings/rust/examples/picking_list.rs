@@ -1,33 +1,40 @@
 //! picking_list NAME FILE...: prints a line for each FITS file: file, value of the name, comment, unit, with tabs between.
 //!
 //! A file that has no such line (it cannot be read, its header is refused, it has no such name, or a value that is undefined or
-//! invalid) is named on standard error with the reason, and the exit status is 1.
+//! invalid) is named on standard error with the reason, and the exit status is 1. Control characters are printed as \xNN, so that no
+//! file can forge a line.
 
 use std::ffi::OsString;
+use std::fmt::Display;
 use std::fs::File;
 use std::io::{self, Read, Write};
 use std::path::Path;
 use std::process::ExitCode;
-use widrekas::{Entry, Header, Refusal, Value, LONGEST};
+use widrekas::{Entry, Header, Reason, Value, LONGEST};
 
 /// The entry of a name in a file's header.
 fn entry(file: &Path, name: &str) -> Result<Entry, Box<dyn std::error::Error>> {
     let mut bytes = Vec::new();
     File::open(file)?.take(LONGEST as u64).read_to_end(&mut bytes)?;
-    let entry = Header::parse_file(&bytes)?.get(name);
-    let entry = entry.ok_or(Refusal { number: Refusal::NAME_NOT_FOUND, card: None })?;
+    let entry = Header::parse_file(&bytes)?.get(name).ok_or(Reason::NameNotFound)?;
     match entry.value {
         Value::Undefined => Err(format!("{name} has no value").into()),
-        Value::Invalid(text) => Err(format!("{name} has an invalid value: {text}").into()),
+        Value::Invalid(text) => Err(format!("{name} has an invalid value: {}", text.trim_end()).into()),
         _ => Ok(entry),
     }
 }
 
+/// A text on one line, with control characters as \xNN.
+fn shown(text: impl Display) -> String {
+    let shown = |c: char| if c.is_control() { format!("\\x{:02x}", u32::from(c)) } else { c.to_string() };
+    text.to_string().chars().map(shown).collect()
+}
+
 /// The line of a file. A comment over several cards stands on one line: the seams become spaces.
 fn line(file: &Path, entry: &Entry) -> String {
-    let comment = entry.comment.as_ref().map(|text| text.to_string().replace('\n', " ")).unwrap_or_default();
+    let comment = entry.comment.as_deref().unwrap_or_default().replace('\n', " ");
     let unit = entry.unit().unwrap_or_default();
-    format!("{}\t{}\t{}\t{unit}", file.display(), entry.value, comment.trim())
+    [shown(file.display()), shown(&entry.value), shown(comment.trim()), shown(unit)].join("\t")
 }
 
 fn main() -> ExitCode {
@@ -42,7 +49,7 @@ fn main() -> ExitCode {
             Ok(entry) => writeln!(io::stdout(), "{}", line(file, &entry)),
             Err(why) => {
                 all = ExitCode::FAILURE;
-                writeln!(io::stderr(), "{}: {why}", file.display())
+                writeln!(io::stderr(), "{}: {}", shown(file.display()), shown(why))
             }
         };
         if written.is_err() {

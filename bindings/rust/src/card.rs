@@ -1,9 +1,9 @@
 //! One card.
 
-use crate::boundary::{self, CARD, RECORD};
 use crate::refusal::Refusal;
 use crate::text::Text;
 use crate::value::{Entry, Value};
+use widrekas_sys::{self as boundary, CARD, RECORD};
 
 /// What 80 bytes are read as, with fitsrs' names.
 #[derive(Clone, Debug, PartialEq, Eq)]
@@ -68,7 +68,7 @@ impl Card {
         let mut number = 0;
         match boundary::card(card, &mut record, &mut number) {
             0 => Ok(Card::told(&record, number)),
-            refused => Err(Refusal { number: refused, card: None }),
+            number => Err(Refusal::told(number)),
         }
     }
 

@@ -1,12 +1,13 @@
 //! Headers: the list of their names, and the entry of each.
 
-use crate::boundary::{self, Told, CARD, PLACES};
 use crate::card::{self, Card};
 use crate::refusal::Refusal;
 use crate::text::Text;
 use crate::value::{Entry, Value};
-use std::fmt;
+use std::iter::Zip;
 use std::sync::OnceLock;
+use std::{fmt, slice};
+use widrekas_sys::{self as boundary, Told, CARD, PLACES};
 
 mod read_on;
 
@@ -15,8 +16,14 @@ pub use read_on::ReadOn;
 /// The bytes of the longest header: 720 cards.
 pub const LONGEST: usize = PLACES * CARD;
 
+/// The bytes of the keyword field.
+const KEYWORD: usize = 8;
+
 /// The room that is lent for an entry's text and comment at first: enough for a string over seven cards.
 const USUAL: usize = 560;
+
+/// The bytes of a FITS block: a header and its data each fill whole ones (FITS Standard 4.0, section 3.1).
+const BLOCK: usize = 2_880;
 
 /// The most that a card adds to a text or a comment, the seam included.
 const ADDED: usize = CARD + 1;
@@ -68,15 +75,16 @@ pub struct Header {
     names: OnceLock<Names>,
 }
 
-/// The cards up to the first END, and with it; all of them where it is not found. Nothing behind END is looked at, so this saves
-/// memory and decides nothing.
+/// Whether a card is END. Its keyword is compared first, so that nearly every other card is not read for it.
+fn is_end(card: &[u8]) -> bool {
+    let keyword = card.get(..KEYWORD).unwrap_or_default().trim_ascii();
+    keyword == b"END" && card.first_chunk().is_some_and(|card| Card::read(card) == Ok(Card::End))
+}
+
+/// The cards of an accepted header up to the first END, and with it.
 fn up_to_end(bytes: &[u8]) -> &[u8] {
-    let end = bytes.chunks_exact(CARD).position(|card| card.starts_with(b"END "));
-    let cut = end.and_then(|at| bytes.get(..(at + 1) * CARD)).unwrap_or(bytes);
-    match cut.last_chunk().map(Card::read) {
-        Some(Ok(Card::End)) => cut,
-        _ => bytes,
-    }
+    let end = bytes.chunks_exact(CARD).position(is_end);
+    end.and_then(|number| bytes.get(..(number + 1) * CARD)).unwrap_or(bytes)
 }
 
 /// The whole cards among the first 57,600 bytes of a file.
@@ -94,7 +102,7 @@ impl Header {
         let (mut first, mut last, mut count) = ([0; PLACES], [0; PLACES], 0);
         match boundary::list(bytes, &mut first, &mut last, &mut count) {
             0 => (),
-            number => return Err(Refusal { number, card: Some(count) }),
+            number => return Err(Refusal::told(number).at(count)),
         }
         let places = first.iter().zip(&last).take(count).map(|(&first, &last)| Place { first, last }).collect();
         Ok(Header { cards: up_to_end(bytes).to_vec(), places, asked: OnceLock::new(), names: OnceLock::new() })
@@ -110,7 +118,8 @@ impl Header {
     /// Reads the header with which a file begins past cards that are refused: names that they could touch are errors, the other
     /// ones answer. The file is given as to [`Header::parse_file`].
     ///
-    /// Refusals 9 and 10, for the length and the missing END, refuse the whole header here too.
+    /// A missing END ([`NoEnd`](crate::Reason::NoEnd)) and less than one card ([`HeaderLength`](crate::Reason::HeaderLength)) refuse
+    /// the whole header here too.
     pub fn read_on(file: &[u8]) -> Result<ReadOn, Refusal> {
         ReadOn::of(front_of(file))
     }
@@ -132,9 +141,9 @@ impl Header {
         self.names().names.iter()
     }
 
-    /// The names with their entries, in the same order.
-    pub fn entries(&self) -> impl Iterator<Item = (&Text, Entry)> {
-        self.keywords().zip(&self.places).filter_map(|(name, place)| Some((name, self.entry_at(place.last)?)))
+    /// The names with their entries, in the same order: what `for (name, entry) in &header` goes through.
+    pub fn entries(&self) -> Entries<'_> {
+        Entries { header: self, left: self.names().names.iter().zip(&self.places) }
     }
 
     /// How many names there are.
@@ -149,17 +158,34 @@ impl Header {
 
     /// The cards, up to END and with it. A string is not joined there.
     pub fn cards(&self) -> impl Iterator<Item = Card> + '_ {
-        let mut ended = false;
-        self.cards.chunks_exact(CARD).map_while(move |card| {
-            let card = Card::read(card.first_chunk()?).ok().filter(|_| !ended);
-            ended = card == Some(Card::End);
-            card
-        })
+        self.cards.chunks_exact(CARD).map_while(|card| Card::read(card.first_chunk()?).ok())
     }
 
-    /// The bytes of the cards, up to END and with it; where END is written in an unusual way, the bytes behind it too.
+    /// The bytes of the cards, up to END and with it, in whatever way END is written.
     pub fn as_bytes(&self) -> &[u8] {
         &self.cards
+    }
+
+    /// The number of the END card, counted from 0.
+    pub fn end(&self) -> usize {
+        self.as_bytes().len() / CARD - 1
+    }
+
+    /// Where the data begin, in bytes from the header's first: behind the 2,880-byte block that END stands in.
+    ///
+    /// ```
+    /// # fn main() -> Result<(), widrekas::Refusal> {
+    /// let file = format!("{:80}{:2800}", "SIZE    = 12", "END") + "data";
+    /// let header = widrekas::Header::parse_file(file.as_bytes())?;
+    /// assert_eq!((header.end(), header.data_start()), (1, 2880));
+    /// assert_eq!(file.get(header.data_start()..), Some("data"));
+    /// # Ok(())
+    /// # }
+    /// ```
+    ///
+    /// A file that ends within that block has fewer bytes than this. The project's docs/MIGRATING.md goes on to the next header.
+    pub fn data_start(&self) -> usize {
+        self.as_bytes().len().next_multiple_of(BLOCK)
     }
 
     /// The card with a number.
@@ -203,7 +229,44 @@ impl Header {
     }
 }
 
-/// Headers are equal where their cards are.
+/// The names of a header with their entries, each read as it is asked for.
+#[derive(Clone)]
+pub struct Entries<'a> {
+    header: &'a Header,
+    left: Zip<slice::Iter<'a, Text>, slice::Iter<'a, Place>>,
+}
+
+impl<'a> Iterator for Entries<'a> {
+    type Item = (&'a Text, Entry);
+
+    fn next(&mut self) -> Option<Self::Item> {
+        let header = self.header;
+        self.left.find_map(|(name, place)| Some((name, header.entry_at(place.last)?)))
+    }
+
+    fn size_hint(&self) -> (usize, Option<usize>) {
+        self.left.size_hint()
+    }
+}
+
+/// The names and entries that are left.
+impl fmt::Debug for Entries<'_> {
+    fn fmt(&self, f: &mut fmt::Formatter<'_>) -> fmt::Result {
+        f.debug_map().entries(self.clone()).finish()
+    }
+}
+
+/// The names with their entries.
+impl<'a> IntoIterator for &'a Header {
+    type Item = (&'a Text, Entry);
+    type IntoIter = Entries<'a>;
+
+    fn into_iter(self) -> Entries<'a> {
+        self.entries()
+    }
+}
+
+/// Headers are equal if their bytes up to END and with it are; nothing behind END counts.
 impl PartialEq for Header {
     fn eq(&self, other: &Self) -> bool {
         self.cards == other.cards
@@ -215,7 +278,7 @@ impl Eq for Header {}
 /// The names with their entries.
 impl fmt::Debug for Header {
     fn fmt(&self, f: &mut fmt::Formatter<'_>) -> fmt::Result {
-        f.debug_map().entries(self.entries()).finish()
+        self.entries().fmt(f)
     }
 }
 

@@ -1,9 +1,9 @@
 //! FITS headers and Rice tiles over a proved library.
 //!
-//! What is read is what fitsrs 0.4.1 reads, on the domain that the project's document 01 names; any other input gets a reading or
-//! one numbered [`Refusal`]. What is proved of the functions behind the C boundary stands in the project's docs/PROMISES.md; this
-//! crate is not proved. It lends memory and takes the answers apart, and decides nothing of what a card says or which are joined.
-//! [`ReadOn`] adds one rule: which names a refused card touches.
+//! What is read is what fitsrs 0.4.1 reads, on the domain that section 14 of the project's docs/SPECIFICATION.md names. Every input
+//! gets a reading or one numbered [`Refusal`]. What is proved of the functions behind the C boundary stands in docs/PROMISES.md.
+//! This crate is not proved. It lends memory and takes the answers apart, and decides nothing of what a card says or which are
+//! joined. [`ReadOn`] adds one rule: which names a refused card touches.
 //!
 //! - [`Header`]: the names of a header and the [`Entry`] of each, strings joined over CONTINUE cards.
 //! - [`ReadOn`]: the same of a header with refused cards, where the names that they could touch are errors.
@@ -12,11 +12,9 @@
 //!
 //! Nothing here panics, whatever the input. Reading an open string takes some 120 KiB of the caller's stack.
 #![warn(missing_docs)]
-#![deny(unsafe_op_in_unsafe_fn)]
+#![forbid(unsafe_code)]
+#![doc(test(attr(deny(warnings))))]
 
-/// The C boundary as it is, for the project's own comparison and measurements. It may change at any time.
-#[doc(hidden)]
-pub mod boundary;
 mod card;
 mod decimal;
 mod header;
@@ -27,14 +25,14 @@ mod value;
 
 pub use card::Card;
 pub use decimal::Decimal;
-pub use header::{Header, ReadOn, LONGEST};
-pub use refusal::Refusal;
+pub use header::{Entries, Header, ReadOn, LONGEST};
+pub use refusal::{Reason, Refusal};
 pub use text::Text;
 pub use value::{Entry, Value};
 
 /// The version of the C boundary, which is 1.
 pub fn version() -> u32 {
-    boundary::version()
+    widrekas_sys::version()
 }
 
 /// The code of the guide for users of fitsrs.

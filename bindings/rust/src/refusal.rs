@@ -1,56 +1,168 @@
-//! Refusals, by document 01's numbers.
+//! Refusals: why an input was not read, and at which card.
 
 use std::fmt;
 
-/// Why an input was not read: document 01's number, and the card it was met at where it carries one.
-///
-/// Refusals 1 to 8, 10 and 11 of a header carry the card's number, counted from 0; 10 carries the number of cards, 9 carries 0.
-/// Those of a lone card, and 12 to 18, carry none.
-#[derive(Clone, Copy, Debug, PartialEq, Eq, Hash)]
-pub struct Refusal {
-    /// Document 01's number, 1 to 18.
-    pub number: u8,
-    /// The card's number.
-    pub card: Option<usize>,
+/// Why an input was not read: the refusals of the project's docs/REFUSALS.md, by their names and numbers.
+#[derive(Clone, Copy, Debug, PartialEq, Eq, PartialOrd, Ord, Hash)]
+#[non_exhaustive]
+pub enum Reason {
+    /// A byte of the card is 128 or more.
+    HighByte = 1,
+    /// Before the slash stands a byte outside 32..126, neither in a string nor directly after its closing quote.
+    OddByte = 2,
+    /// The value text begins with a quote and does not end with one, or is one lone quote.
+    StringNotClosed = 3,
+    /// A CONTINUE text ends with a quote and does not begin with one.
+    StringNotOpened = 4,
+    /// The value text begins with a parenthesis: complex values are not read.
+    Complex = 5,
+    /// A HIERARCH card has no = from byte 9 on.
+    NoEquals = 6,
+    /// A HIERARCH card has nothing but blanks before that =.
+    NoName = 7,
+    /// An XTENSION text is not within quotes.
+    ExtensionNotQuoted = 8,
+    /// The header's length is 0, no multiple of 80, or above 57,600.
+    HeaderLength = 9,
+    /// The header has no END card.
+    NoEnd = 10,
+    /// The name table is full. No header meets it.
+    TableFull = 11,
+    /// No entry bears the name.
+    NameNotFound = 12,
+    /// A lent buffer is shorter than the text for it. This crate lends enough.
+    BufferShort = 13,
+    /// A tile's nx, nblock, width or length is outside its limits.
+    Limits = 14,
+    /// The pixel slice is not nx long.
+    PixelCount = 15,
+    /// The tile ends before the bits asked for.
+    TileEnds = 16,
+    /// An FS field is above its top.
+    FsAboveTop = 17,
+    /// A cursor is outside its rules.
+    BadCursor = 18,
 }
 
-impl Refusal {
-    /// A name that no entry bears.
-    pub const NAME_NOT_FOUND: u8 = 12;
+impl Reason {
+    /// All of them, in the order of their numbers, which begin at 1.
+    const ALL: [Reason; 18] = [
+        Reason::HighByte,
+        Reason::OddByte,
+        Reason::StringNotClosed,
+        Reason::StringNotOpened,
+        Reason::Complex,
+        Reason::NoEquals,
+        Reason::NoName,
+        Reason::ExtensionNotQuoted,
+        Reason::HeaderLength,
+        Reason::NoEnd,
+        Reason::TableFull,
+        Reason::NameNotFound,
+        Reason::BufferShort,
+        Reason::Limits,
+        Reason::PixelCount,
+        Reason::TileEnds,
+        Reason::FsAboveTop,
+        Reason::BadCursor,
+    ];
 
-    /// What the number means.
-    pub fn meaning(&self) -> &'static str {
-        match self.number {
-            1 => "a byte of the card is 128 or more",
-            2 => "before the slash stands a byte outside 32..126, neither in a string nor directly after its closing quote",
-            3 => "the value text begins with a quote and does not end with one, or is one lone quote",
-            4 => "a CONTINUE text ends with a quote and does not begin with one",
-            5 => "the value text begins with a parenthesis",
-            6 => "a HIERARCH card has no = from byte 9 on",
-            7 => "a HIERARCH card has no name before its =",
-            8 => "an XTENSION text is not within quotes",
-            9 => "the header's length is 0, not a multiple of 80, or above 57,600",
-            10 => "there is no END card",
-            11 => "the name table is full",
-            12 => "no entry bears the name",
-            13 => "a lent text buffer is shorter than the text for it",
-            14 => "nx, nblock, the width or the tile's length is outside its limits",
-            15 => "the pixel slice is not nx long",
-            16 => "the tile ends before the bits asked for",
-            17 => "an FS field is above its top",
-            18 => "the cursor is outside its rules",
-            _ => "no such refusal",
+    /// The reason with a number, 1 to 18; none for any other.
+    pub fn from_number(number: u8) -> Option<Reason> {
+        Reason::ALL.get(usize::from(number).checked_sub(1)?).copied()
+    }
+
+    /// The number, 1 to 18.
+    pub fn number(self) -> u8 {
+        self as u8
+    }
+
+    /// The reason in words.
+    pub fn meaning(self) -> &'static str {
+        match self {
+            Reason::HighByte => "a byte of the card is 128 or more",
+            Reason::OddByte => "before the slash and outside a string stands a byte outside 32 to 126",
+            Reason::StringNotClosed => "the string begins with a quote and does not end with one",
+            Reason::StringNotOpened => "the CONTINUE string ends with a quote and does not begin with one",
+            Reason::Complex => "the value begins with a parenthesis, and complex numbers are not read",
+            Reason::NoEquals => "the HIERARCH card has no = from byte 9 on",
+            Reason::NoName => "the HIERARCH card has no name before its =",
+            Reason::ExtensionNotQuoted => "the XTENSION value is not within quotes",
+            Reason::HeaderLength => "the header's length is 0, no multiple of 80, or above 57,600",
+            Reason::NoEnd => "the header has no END card",
+            Reason::TableFull => "the name table is full",
+            Reason::NameNotFound => "no entry bears the name or stands at the card",
+            Reason::BufferShort => "a lent buffer is shorter than the text for it",
+            Reason::Limits => "the tile's pixels, block, width or length is outside its limits",
+            Reason::PixelCount => "the pixel slice is not as long as the tile has pixels",
+            Reason::TileEnds => "the tile ends before its last pixel",
+            Reason::FsAboveTop => "an FS field of the tile is above its top",
+            Reason::BadCursor => "the cursor does not fit the tile",
         }
     }
 }
 
+/// `refused`, the number and the words.
+impl fmt::Display for Reason {
+    fn fmt(&self, f: &mut fmt::Formatter<'_>) -> fmt::Result {
+        write!(f, "refused {}: {}", self.number(), self.meaning())
+    }
+}
+
+impl std::error::Error for Reason {}
+
+/// A refusal: the reason, and the card it was met at if it carries one. Only this crate makes them.
+///
+/// [`Reason`]s 1 to 8 of a header carry the card's number, counted from 0. [`Reason::NoEnd`] carries the number of cards,
+/// [`Reason::HeaderLength`] carries 0. The refusals of a lone card and of a tile carry none.
+#[derive(Clone, Copy, Debug, PartialEq, Eq, Hash)]
+pub struct Refusal {
+    reason: Reason,
+    card: Option<usize>,
+}
+
+impl Refusal {
+    /// The refusal of an answer of the boundary, which is proved to be one of the numbers.
+    pub(crate) fn told(number: u8) -> Self {
+        match Reason::from_number(number) {
+            Some(reason) => Refusal { reason, card: None },
+            None => unreachable!("version 1 of the boundary has no refusal {number}"),
+        }
+    }
+
+    /// The same, met at a card.
+    pub(crate) fn at(self, card: usize) -> Self {
+        Refusal { card: Some(card), ..self }
+    }
+
+    /// Why the input was not read.
+    pub fn reason(&self) -> Reason {
+        self.reason
+    }
+
+    /// The reason's number, 1 to 18.
+    pub fn number(&self) -> u8 {
+        self.reason.number()
+    }
+
+    /// The reason in words.
+    pub fn meaning(&self) -> &'static str {
+        self.reason.meaning()
+    }
+
+    /// The card's number.
+    pub fn card(&self) -> Option<usize> {
+        self.card
+    }
+}
+
+/// `refused`, the number, `at` and the card's number if there is one, and the words.
 impl fmt::Display for Refusal {
     fn fmt(&self, f: &mut fmt::Formatter<'_>) -> fmt::Result {
-        write!(f, "refused {}", self.number)?;
-        if let Some(card) = self.card {
-            write!(f, " at {card}")?;
+        match self.card {
+            Some(card) => write!(f, "refused {} at {card}: {}", self.number(), self.meaning()),
+            None => self.reason.fmt(f),
         }
-        write!(f, ": {}", self.meaning())
     }
 }
 

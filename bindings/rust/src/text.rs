@@ -2,74 +2,113 @@
 
 use std::borrow::Borrow;
 use std::fmt;
+use std::ops::Deref;
 
 /// A name, a string, a comment or another text of a header: its bytes as they stand.
 ///
-/// Every byte of an accepted header is below 128 (refusal 1), so a text is ASCII and [`Text::to_str`] gives it whole. In a string
-/// or a comment, the byte 127 stands for a character that FITS does not allow, and in a comment byte 10 for the seam between two
-/// cards. A name and an [invalid](crate::Value::Invalid) text may have any byte below 128.
+/// Every byte of an accepted card is below 128 ([`HighByte`](crate::Reason::HighByte)), so a text is ASCII and is a `str`. It gives
+/// one without a test: `&*text`, [`Text::as_str`], `String::from(text)`; and `entry.comment.as_deref()` is an `Option<&str>`.
+///
+/// In a string or a comment, the byte 127 stands for a character that FITS does not allow, and in a comment byte 10 for the seam
+/// between two cards. A name and an [invalid](crate::Value::Invalid) text may have any byte below 128, a line feed or ESC too:
+/// `{:?}` shows those escaped, `{}` as they stand.
 #[derive(Clone, Default, PartialEq, Eq, Hash, PartialOrd, Ord)]
-pub struct Text(Vec<u8>);
+pub struct Text(String);
 
 impl Text {
+    /// The text of bytes below 128. They are tested as UTF-8 once, here; any other byte would become U+FFFD.
     pub(crate) fn new(bytes: &[u8]) -> Self {
-        Text(bytes.to_vec())
+        Text(String::from_utf8_lossy(bytes).into_owned())
+    }
+
+    /// The text as a `str`.
+    pub fn as_str(&self) -> &str {
+        &self.0
+    }
+
+    /// The text, taken over.
+    pub fn into_string(self) -> String {
+        self.0
     }
 
     /// The bytes.
     pub fn as_bytes(&self) -> &[u8] {
-        &self.0
-    }
-
-    /// The same bytes as a `str`; none where they are not UTF-8, which no header's text meets.
-    pub fn to_str(&self) -> Option<&str> {
-        std::str::from_utf8(&self.0).ok()
+        self.0.as_bytes()
     }
 
     /// The bytes, taken over.
     pub fn into_bytes(self) -> Vec<u8> {
-        self.0
+        self.0.into_bytes()
+    }
+}
+
+impl Deref for Text {
+    type Target = str;
+
+    fn deref(&self) -> &str {
+        &self.0
+    }
+}
+
+impl AsRef<str> for Text {
+    fn as_ref(&self) -> &str {
+        &self.0
     }
 }
 
 impl AsRef<[u8]> for Text {
     fn as_ref(&self) -> &[u8] {
+        self.0.as_bytes()
+    }
+}
+
+/// Texts are equal, ordered and hashed as their `str`s are.
+impl Borrow<str> for Text {
+    fn borrow(&self) -> &str {
         &self.0
     }
 }
 
-/// Texts are equal, ordered and hashed as their bytes are.
-impl Borrow<[u8]> for Text {
-    fn borrow(&self) -> &[u8] {
-        &self.0
+impl From<Text> for String {
+    fn from(text: Text) -> String {
+        text.0
     }
 }
 
 impl PartialEq<str> for Text {
     fn eq(&self, other: &str) -> bool {
-        self.0 == other.as_bytes()
+        self.0 == other
     }
 }
 
 impl PartialEq<&str> for Text {
     fn eq(&self, other: &&str) -> bool {
-        self.0 == other.as_bytes()
+        self.0 == *other
+    }
+}
+
+impl PartialEq<Text> for str {
+    fn eq(&self, other: &Text) -> bool {
+        self == other.0
+    }
+}
+
+impl PartialEq<Text> for &str {
+    fn eq(&self, other: &Text) -> bool {
+        *self == other.0
     }
 }
 
 /// The text as it stands.
 impl fmt::Display for Text {
     fn fmt(&self, f: &mut fmt::Formatter<'_>) -> fmt::Result {
-        match self.to_str() {
-            Some(text) => f.pad(text),
-            None => write!(f, "{}", self.0.escape_ascii()),
-        }
+        f.pad(&self.0)
     }
 }
 
 /// The text within quotes, with what is not printable escaped.
 impl fmt::Debug for Text {
     fn fmt(&self, f: &mut fmt::Formatter<'_>) -> fmt::Result {
-        write!(f, "\"{}\"", self.0.escape_ascii())
+        write!(f, "\"{}\"", self.0.as_bytes().escape_ascii())
     }
 }

@@ -1,12 +1,12 @@
 //! Rice tiles, decoded whole or block by block.
 
-use crate::boundary::{self, Stepping, NOTHING_LEFT};
 use crate::refusal::Refusal;
 use std::fmt;
 use std::ops::Range;
+use widrekas_sys::{self as boundary, Stepping, NOTHING_LEFT};
 
-/// How a tile is laid out. Refusal 14 says where a number is outside its limits.
-#[derive(Clone, Copy, Debug, PartialEq, Eq)]
+/// How a tile is laid out. [`Limits`](crate::Reason::Limits) refuses a number outside its limits.
+#[derive(Clone, Copy, Debug, PartialEq, Eq, Hash)]
 pub struct Shape {
     /// The pixels of the tile, 1 to 1,048,576.
     pub nx: usize,
@@ -17,7 +17,7 @@ pub struct Shape {
 }
 
 /// Where decoding stands between two blocks.
-#[derive(Clone, Copy, Debug, PartialEq, Eq)]
+#[derive(Clone, Copy, Debug, PartialEq, Eq, Hash)]
 pub struct Cursor {
     /// The next bit of the tile, counted from its first byte's highest.
     pub bit: usize,
@@ -27,18 +27,28 @@ pub struct Cursor {
     pub last: i32,
 }
 
-/// A refusal among a tile's pixels, and how many pixels were written before it.
-#[derive(Clone, Copy, Debug, PartialEq, Eq)]
+/// A refusal among a tile's pixels, and how many pixels were written before it. Only this crate makes them.
+#[derive(Clone, Copy, Debug, PartialEq, Eq, Hash)]
 pub struct Fault {
+    refusal: Refusal,
+    written: usize,
+}
+
+impl Fault {
     /// Why decoding ended.
-    pub refusal: Refusal,
-    /// The pixels written: of the whole tile where it is decoded whole, of the step where it is a step's.
-    pub written: usize,
+    pub fn refusal(&self) -> Refusal {
+        self.refusal
+    }
+
+    /// The pixels written: of the whole tile if it is decoded whole, of the step if it is a step's.
+    pub fn written(&self) -> usize {
+        self.written
+    }
 }
 
 impl fmt::Display for Fault {
     fn fmt(&self, f: &mut fmt::Formatter<'_>) -> fmt::Result {
-        write!(f, "{}; {} pixels were written", self.refusal, self.written)
+        write!(f, "{}; pixels written: {}", self.refusal, self.written)
     }
 }
 
@@ -62,7 +72,7 @@ pub fn decode(tile: &[u8], shape: Shape, pixels: &mut [i32]) -> Result<usize, Fa
     let mut count = 0;
     match boundary::decode(tile, shape.nx, shape.nblock, shape.bits, pixels, &mut count) {
         0 => Ok(count),
-        number => Err(Fault { refusal: Refusal { number, card: None }, written: count }),
+        number => Err(Fault { refusal: Refusal::told(number), written: count }),
     }
 }
 
@@ -99,7 +109,7 @@ impl<'a> Tile<'a> {
         let Cursor { bit, done, last } = &mut cursor;
         match boundary::open(bytes, shape.nx, shape.nblock, shape.bits, bit, done, last) {
             0 => Ok(Tile { bytes, shape, cursor }),
-            number => Err(Refusal { number, card: None }),
+            number => Err(Refusal::told(number)),
         }
     }
 
@@ -124,7 +134,7 @@ impl<'a> Tile<'a> {
         match boundary::step(self.bytes, nx, nblock, bits, at, pixels) {
             0 => Ok(Some(start..self.cursor.done)),
             NOTHING_LEFT => Ok(None),
-            number => Err(Fault { refusal: Refusal { number, card: None }, written }),
+            number => Err(Fault { refusal: Refusal::told(number), written }),
         }
     }
 }

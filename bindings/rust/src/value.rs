@@ -1,6 +1,5 @@
 //! Values, and entries with their comments.
 
-use crate::boundary;
 use crate::decimal::{Decimal, Size};
 use crate::text::Text;
 use std::fmt;
@@ -65,7 +64,7 @@ impl Value {
     /// The text, of a string alone.
     pub fn as_str(&self) -> Option<&str> {
         match self {
-            Value::String(text) => text.to_str(),
+            Value::String(text) => Some(text),
             _ => None,
         }
     }
@@ -97,7 +96,7 @@ impl Entry {
     /// The unit (section 4.3.2): what stands between the brackets with which the comment begins.
     pub fn unit(&self) -> Option<Text> {
         let comment = self.comment.as_ref()?.as_bytes();
-        let end = boundary::unit(comment);
+        let end = widrekas_sys::unit(comment);
         // 0, where there is no unit, is before the start.
         comment.get(1..end).map(Text::new)
     }

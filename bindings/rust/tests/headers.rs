@@ -1,12 +1,12 @@
-//! Headers, by document 01's example, its edge table and its rules.
+//! Headers, by the examples and the edge table of docs/SPECIFICATION.md and by its rules.
 
 mod common;
 
-use common::{card, cards, entry, header, refused, value};
-use widrekas::{Card, Header, Refusal, Value, LONGEST};
+use common::{at, card, cards, entry, header, refused, told, value};
+use widrekas::{Card, Header, Reason, Value, LONGEST};
 
 #[test]
-fn the_example_of_document_01() {
+fn the_example_of_the_specification() {
     let header = header(&["SIZE    = 12", "KIT     = 'FKM-&'", "CONTINUE  '75' / ring"]);
     let lines: Vec<String> = header.entries().map(|(name, entry)| format!("{name} {}", entry.value)).collect();
     assert_eq!(lines, ["SIZE 12", "KIT FKM-75"]);
@@ -73,7 +73,7 @@ fn comments_and_units() {
     assert_eq!(comment("5 /").as_deref(), Some(""));
     assert_eq!(comment("5"), None);
     assert_eq!((comment("/ lost"), comment("what / lost")), (None, None));
-    // FITS Standard 4.0, section 4.3.2: the unit within brackets, where document 01 wants the bracket first.
+    // FITS Standard 4.0, section 4.3.2: the unit within brackets, where SPECIFICATION 8 wants the bracket first.
     let unit = |text: &str| entry(text).unit().map(|u| u.to_string());
     assert_eq!(unit("4.2E1 /[km/s] rotation").as_deref(), Some("km/s"));
     assert_eq!(unit("4.2E1 /[] none").as_deref(), Some(""));
@@ -104,7 +104,7 @@ fn replaced_bytes_are_kept_as_127() {
 fn names_in_their_order() {
     let header =
         header(&["B       = 1", "HIERARCH  ESO  DET = 2", "A       = 3", "B       = 4", "XTENSION= 'IMAGE   '"]);
-    let names: Vec<&str> = header.keywords().filter_map(|name| name.to_str()).collect();
+    let names: Vec<&str> = header.keywords().map(|name| name.as_str()).collect();
     assert_eq!(names, ["B", "ESO.DET", "A", "XTENSION"]);
     assert_eq!(header.keywords().len(), 4);
     // Of equal names the last entry counts.
@@ -130,14 +130,14 @@ fn all_classes_of_cards() {
     let read: Vec<Card> = header.cards().collect();
     assert_eq!(read.len(), 10);
     let Card::Value { name, entry } = &read[0] else { panic!("a value") };
-    assert_eq!((name.to_str(), entry.value.as_str()), (Some("K"), Some("a&")));
+    assert_eq!((name.as_str(), entry.value.as_str()), ("K", Some("a&")));
     let Card::Continuation { string, comment } = &read[1] else { panic!("a CONTINUE card") };
-    assert_eq!((string.to_str(), comment.as_ref().unwrap().to_str()), (Some("c"), Some(" d")));
+    assert_eq!((string.as_str(), comment.as_deref()), ("c", Some(" d")));
     assert!(matches!(&read[2], Card::Xtension(text) if *text == "IMAGE"));
     assert!(matches!(&read[3], Card::Comment(text) if *text == "  e"));
     assert!(matches!(&read[4], Card::History(text) if *text == "f"));
     let Card::Hierarch { name, entry } = &read[5] else { panic!("a HIERARCH card") };
-    assert_eq!((name.to_str(), entry.value.as_i64()), (Some("G.H"), Some(1)));
+    assert_eq!((name.as_str(), entry.value.as_i64()), ("G.H", Some(1)));
     assert_eq!(read[6], Card::Space);
     assert!(matches!(&read[7], Card::Comment(text) if *text == "i"));
     assert!(matches!(&read[8], Card::Undefined(text) if *text == *format!("{:80}", "NO VALUE")));
@@ -148,8 +148,7 @@ fn all_classes_of_cards() {
 
 #[test]
 fn refusals_of_headers_with_their_cards() {
-    let refusal = |fronts: &[&str]| Header::parse(&cards(fronts)).unwrap_err();
-    let at = |number: u8, card: usize| Refusal { number, card: Some(card) };
+    let refusal = |fronts: &[&str]| told(Header::parse(&cards(fronts)).unwrap_err());
     assert_eq!(refusal(&["A       = 1", "B       = 5 \u{b}6", "END"]), at(2, 1));
     assert_eq!(refusal(&["A       = '", "END"]), at(3, 0));
     assert_eq!(refusal(&["A       = 1", "", "CONTINUE  a'", "END"]), at(4, 2));
@@ -161,47 +160,86 @@ fn refusals_of_headers_with_their_cards() {
     assert_eq!(refusal(&["A       = 1", "B       = 2"]), at(10, 2));
     let mut high = cards(&["A       = 1", "B       = 'x'", "END"]);
     high[80 + 70] = 128;
-    assert_eq!(Header::parse(&high), Err(at(1, 1)));
+    assert_eq!(Header::parse(&high).map_err(told), Err(at(1, 1)));
     for bytes in [vec![], vec![b' '; 79], vec![b' '; 81], vec![b' '; LONGEST + 80]] {
-        assert_eq!(Header::parse(&bytes), Err(at(9, 0)));
+        assert_eq!(Header::parse(&bytes).map_err(told), Err(at(9, 0)));
     }
-    assert_eq!(Card::read(&card("A       = (1")), Err(Refusal { number: 5, card: None }));
-}
-
-#[test]
-fn every_refusal_has_its_meaning() {
-    let said = Refusal { number: 3, card: Some(7) }.to_string();
-    assert!(said.starts_with("refused 3 at 7: the value text begins with a quote"), "{said}");
-    assert_eq!(
-        Refusal { number: Refusal::NAME_NOT_FOUND, card: None }.to_string(),
-        "refused 12: no entry bears the name"
-    );
-    let mut all: Vec<&str> = (1..=18).map(|number| Refusal { number, card: None }.meaning()).collect();
-    all.sort_unstable();
-    all.dedup();
-    assert_eq!(all.len(), 18);
-    assert_eq!(Refusal { number: 19, card: None }.meaning(), "no such refusal");
-    let error: Box<dyn std::error::Error> = Box::new(Refusal { number: 9, card: Some(0) });
-    assert!(error.to_string().starts_with("refused 9 at 0: "));
+    assert_eq!(Card::read(&card("A       = (1")).map_err(told), Err((5, None)));
 }
 
 #[test]
 fn whole_files() {
     let mut file = cards(&["SIZE    = 12", "END"]);
     file.extend(vec![0xff; 3 * LONGEST + 17]);
-    assert_eq!(Header::parse(&file).unwrap_err().number, 9);
+    assert_eq!(Header::parse(&file).unwrap_err().reason(), Reason::HeaderLength);
     let header = Header::parse_file(&file).unwrap();
     assert_eq!((header.get("SIZE").unwrap().value, header.as_bytes().len()), (Value::Integer(12), 160));
     // What is left of a card at the end is cut off.
     assert_eq!(Header::parse_file(&file[..160 + 79]), Ok(header));
-    assert_eq!(Header::parse_file(&file[..159]).unwrap_err(), Refusal { number: 10, card: Some(1) });
-    assert_eq!(Header::parse_file(b"SIMPLE").unwrap_err(), Refusal { number: 9, card: Some(0) });
+    assert_eq!(Header::parse_file(&file[..159]).map_err(told), Err(at(10, 1)));
+    assert_eq!(Header::parse_file(b"SIMPLE").map_err(told), Err(at(9, 0)));
     // END may be the last of 720 cards, and not the one behind them.
     for (before, read) in [(719, true), (720, false)] {
         let mut file = [card(""); 720][..before.min(720)].concat();
         file.extend(card("END"));
         assert_eq!(Header::parse_file(&file).is_ok(), read);
     }
+}
+
+#[test]
+fn where_the_end_stands_and_the_data_begin() {
+    // END may have blanks before it and anything behind it, and bytes that are no END may look like one.
+    for end in ["END", "  END", "END\t", "\r\n END", "  END  \u{c}", "END     = 5", "END      of it"] {
+        for before in [0, 1, 34, 35, 36, 70, 71, 72, 719] {
+            let mut fronts = vec![""; before];
+            if before > 2 {
+                fronts[1] = "ENDING  = 1";
+                fronts[2] = "HIERARCH END = 2";
+            }
+            fronts.push(end);
+            let bytes = cards(&fronts);
+            let header = Header::parse(&bytes).unwrap();
+            assert_eq!((header.end(), header.as_bytes()), (before, &bytes[..]), "{end:?} behind {before}");
+            // Whole blocks of 36 cards.
+            assert_eq!(header.data_start(), (before / 36 + 1) * 2880);
+            assert_eq!((header.cards().count(), header.cards().last()), (before + 1, Some(Card::End)));
+            // What stands behind END makes no difference, whatever it is.
+            for behind in [[b' '; 80], card("END"), card("ENDING  = 3"), [200; 80]] {
+                let mut longer = bytes.clone();
+                longer.extend(behind);
+                let Ok(other) = Header::parse(&longer) else {
+                    assert_eq!(before, 719, "one card more than 720");
+                    continue;
+                };
+                assert_eq!((&other, other.end(), other.as_bytes()), (&header, before, &bytes[..]));
+                let read = Header::read_on(&longer).unwrap();
+                assert_eq!((read.end(), read.data_start()), (header.end(), header.data_start()));
+            }
+        }
+    }
+    let read = Header::read_on(&cards(&["A       = (1", "B       = 2", "  END", "END"])).unwrap();
+    assert_eq!((read.end(), read.data_start()), (2, 2880));
+    // Headers with other cards, or with another END, are not equal.
+    let of = |fronts: &[&str]| Header::parse(&cards(fronts)).unwrap();
+    assert_ne!(of(&["END"]), of(&["  END"]));
+    assert_ne!(of(&["END"]), of(&["", "END"]));
+    assert_eq!(of(&["  END"]), of(&["  END", "A       = 1"]));
+}
+
+#[test]
+fn a_header_is_gone_through_by_a_loop() {
+    let header = header(&["B       = 1", "A       = 'x'", "B       = 3"]);
+    let mut lines = Vec::new();
+    for (name, entry) in &header {
+        lines.push(format!("{name} {}", entry.value));
+    }
+    assert_eq!(lines, ["B 3", "A x"]);
+    assert!(header.into_iter().eq(header.entries()));
+    let mut left = header.entries();
+    assert_eq!((left.size_hint().1, left.next().map(|(name, _)| name.as_str())), (Some(2), Some("B")));
+    let shown = format!("{left:?}");
+    assert!(shown.contains("\"A\": ") && !shown.contains("\"B\""), "{shown}");
+    assert_eq!((left.clone().count(), left.count()), (1, 1));
 }
 
 #[test]

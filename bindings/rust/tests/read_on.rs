@@ -3,10 +3,10 @@
 mod common;
 
 use common::random::Random;
-use common::{card, cards, header};
+use common::{at, card, cards, header, told, Told};
 use std::collections::BTreeSet;
 use std::time::{Duration, Instant};
-use widrekas::{Card, Header, ReadOn, Refusal, Value, LONGEST};
+use widrekas::{Card, Entry, Header, ReadOn, Value, LONGEST};
 
 /// A header of cards and END, read on.
 fn read_on(fronts: &[&str]) -> ReadOn {
@@ -15,8 +15,14 @@ fn read_on(fronts: &[&str]) -> ReadOn {
     Header::read_on(&bytes).unwrap()
 }
 
-fn at(number: u8, card: usize) -> Refusal {
-    Refusal { number, card: Some(card) }
+/// What a name answers.
+fn get(read: &ReadOn, name: &str) -> Result<Option<Entry>, Told> {
+    read.get(name).map_err(told)
+}
+
+/// What the refusals tell.
+fn refusals(read: &ReadOn) -> Vec<Told> {
+    read.refusals().iter().copied().map(told).collect()
 }
 
 /// The text of a string, where the name answers.
@@ -30,18 +36,18 @@ fn integer(read: &ReadOn, name: &str) -> i64 {
 }
 
 /// The names with what they answer, in the list's order.
-fn listed(read: &ReadOn) -> Vec<(String, Result<String, Refusal>)> {
+fn listed(read: &ReadOn) -> Vec<(String, Result<String, Told>)> {
     let entries = read.entries().unwrap();
-    entries.map(|(name, entry)| (name.to_string(), entry.map(|entry| entry.value.to_string()))).collect()
+    entries.map(|(name, entry)| (name.to_string(), entry.map(|entry| entry.value.to_string()).map_err(told))).collect()
 }
 
 #[test]
 fn a_kit_with_a_damaged_card_inside_is_an_error_and_no_other_kit() {
     let fronts = ["SIZE    = 12", "KIT     = 'FKM-&'", "CONTINUE  '75-&", "CONTINUE  'A2'", "RING    = 'NBR'"];
     let read = read_on(&fronts);
-    assert_eq!(read.get("KIT"), Err(at(3, 2)));
+    assert_eq!(get(&read, "KIT"), Err(at(3, 2)));
     assert_eq!((integer(&read, "SIZE"), string(&read, "RING")), (12, "NBR".to_string()));
-    assert_eq!((read.get("NONE"), read.refusals()), (Ok(None), &[at(3, 2)][..]));
+    assert_eq!((get(&read, "NONE"), refusals(&read)), (Ok(None), vec![at(3, 2)]));
     // The header that is not damaged has the kit.
     let good = header(&["KIT     = 'FKM-&'", "CONTINUE  '75-&'", "CONTINUE  'A2'"]);
     assert_eq!(good.get("KIT").unwrap().value.as_str(), Some("FKM-75-A2"));
@@ -63,18 +69,18 @@ fn names_before_between_and_behind_answer() {
     ]);
     assert_eq!(string(&read, "A"), "before!");
     assert_eq!(read.get("A").unwrap().unwrap().comment.unwrap(), " joined");
-    assert_eq!((read.get("B"), read.get("C")), (Err(at(5, 4)), Err(at(5, 4))));
-    assert_eq!((string(&read, "D"), read.get("C2")), ("behind".to_string(), Err(at(2, 8))));
+    assert_eq!((get(&read, "B"), get(&read, "C")), (Err(at(5, 4)), Err(at(5, 4))));
+    assert_eq!((string(&read, "D"), get(&read, "C2")), ("behind".to_string(), Err(at(2, 8))));
     assert_eq!(integer(&read, "E.F"), 7);
-    assert_eq!(read.refusals(), [at(5, 4), at(2, 8)]);
+    assert_eq!(refusals(&read), [at(5, 4), at(2, 8)]);
 }
 
 #[test]
 fn a_damaged_card_while_nothing_is_open_touches_its_own_name_alone() {
     let read = read_on(&["A       = 'a'", "B       = 'b", "CONTINUE  'c", "D       = 4"]);
     assert_eq!((string(&read, "A"), integer(&read, "D")), ("a".to_string(), 4));
-    assert_eq!(read.get("B"), Err(at(3, 1)));
-    assert_eq!(read.refusals(), [at(3, 1), at(3, 2)]);
+    assert_eq!(get(&read, "B"), Err(at(3, 1)));
+    assert_eq!(refusals(&read), [at(3, 1), at(3, 2)]);
     // A string that was closed, that another entry ended, or that is no string, is not open.
     let fronts = ["A       = 'a&'", "CONTINUE  'b'", "COMMENT", "CONTINUE  c'"];
     assert_eq!(string(&read_on(&fronts), "A"), "ab");
@@ -88,7 +94,7 @@ fn a_damaged_card_while_nothing_is_open_touches_its_own_name_alone() {
 fn the_keyword_alone_says_which_name_a_refused_card_bears() {
     let errors = |front: &str| -> Vec<String> {
         let read = read_on(&["A       = 'a&'", front, "Z       = 1"]);
-        assert_eq!((read.get("A").unwrap_err().card, integer(&read, "Z")), (Some(1), 1), "{front}");
+        assert_eq!((read.get("A").unwrap_err().card(), integer(&read, "Z")), (Some(1), 1), "{front}");
         let names = read.keywords().unwrap().filter(|name| read.get(name).is_err());
         names.map(|name| name.to_string()).collect()
     };
@@ -112,7 +118,7 @@ fn the_keyword_alone_says_which_name_a_refused_card_bears() {
     let mut bytes = cards(&["HIERARCH ESO DET = 1", "Z       = 1", "END"]);
     bytes[8] = 200;
     let read = Header::read_on(&bytes).unwrap();
-    assert_eq!((read.get("ESO.DET"), integer(&read, "Z")), (Err(at(1, 0)), 1));
+    assert_eq!((get(&read, "ESO.DET"), integer(&read, "Z")), (Err(at(1, 0)), 1));
 }
 
 #[test]
@@ -128,36 +134,36 @@ fn a_name_that_cannot_be_read_touches_every_name() {
     ] {
         let read = read_on(&["A       = 1", front, "B       = 2"]);
         for name in ["A", "B", "KIT", "ESO.DET", "END", "NONE", ""] {
-            assert_eq!(read.get(name), Err(at(number, 1)), "{front}: {name}");
+            assert_eq!(get(&read, name), Err(at(number, 1)), "{front}: {name}");
         }
-        assert_eq!(read.keywords().err(), Some(at(number, 1)));
-        assert_eq!(read.entries().err(), Some(at(number, 1)));
-        assert_eq!(read.refusals(), [at(number, 1)]);
+        assert_eq!(read.keywords().err().map(told), Some(at(number, 1)));
+        assert_eq!(read.entries().err().map(told), Some(at(number, 1)));
+        assert_eq!(refusals(&read), [at(number, 1)]);
     }
     // The first card that touches a name counts.
     let read = read_on(&["A       = (1", "K\u{b0}      = 5", "B       = (1", "A       = (1"]);
-    assert_eq!((read.get("A"), read.get("B"), read.get("C")), (Err(at(5, 0)), Err(at(1, 1)), Err(at(1, 1))));
-    assert_eq!(read.refusals(), [at(5, 0), at(1, 1), at(5, 2), at(5, 3)]);
-    assert_eq!(read_on(&["HIERARCH", "K\u{b0}      = 5"]).get("A"), Err(at(6, 0)));
+    assert_eq!((get(&read, "A"), get(&read, "B"), get(&read, "C")), (Err(at(5, 0)), Err(at(1, 1)), Err(at(1, 1))));
+    assert_eq!(refusals(&read), [at(5, 0), at(1, 1), at(5, 2), at(5, 3)]);
+    assert_eq!(get(&read_on(&["HIERARCH", "K\u{b0}      = 5"]), "A"), Err(at(6, 0)));
 }
 
 #[test]
 fn a_touched_name_stays_an_error_whatever_good_cards_say() {
     let read = read_on(&["A       = 1", "A       = (2", "A       = 3", "B       = 'b&'", "CONTINUE  (", "B       = 4"]);
-    assert_eq!((read.get("A"), integer(&read, "B")), (Err(at(5, 1)), 4));
+    assert_eq!((get(&read, "A"), integer(&read, "B")), (Err(at(5, 1)), 4));
     let read =
         read_on(&["B       = 'b&'", "CONTINUE  '", "B       = 4", "A       = (1", "B       = 'c&'", "A       = ("]);
-    assert_eq!((read.get("A"), read.get("B")), (Err(at(5, 3)), Err(at(3, 1))));
+    assert_eq!((get(&read, "A"), get(&read, "B")), (Err(at(5, 3)), Err(at(3, 1))));
 }
 
 #[test]
 fn two_damaged_cards_in_one_string_or_in_two() {
     let read = read_on(&["A       = 'a&'", "CONTINUE  'b", "CONTINUE  c'", "CONTINUE  'd'", "B       = 2"]);
-    assert_eq!((read.get("A"), integer(&read, "B")), (Err(at(3, 1)), 2));
-    assert_eq!(read.refusals(), [at(3, 1), at(4, 2)]);
+    assert_eq!((get(&read, "A"), integer(&read, "B")), (Err(at(3, 1)), 2));
+    assert_eq!(refusals(&read), [at(3, 1), at(4, 2)]);
     let read =
         read_on(&["A       = 'a&'", "CONTINUE  'b", "B       = 'c&'", "COMMENT", "C       = (1", "CONTINUE  'd'"]);
-    assert_eq!((read.get("A"), read.get("B"), read.get("C")), (Err(at(3, 1)), Err(at(5, 4)), Err(at(5, 4))));
+    assert_eq!((get(&read, "A"), get(&read, "B"), get(&read, "C")), (Err(at(3, 1)), Err(at(5, 4)), Err(at(5, 4))));
 }
 
 #[test]
@@ -185,17 +191,23 @@ fn a_header_without_refused_cards_answers_as_ever() {
 
 #[test]
 fn length_and_missing_end_refuse_it_all() {
-    assert_eq!(Header::read_on(b"").err(), Some(at(9, 0)));
-    assert_eq!(Header::read_on(&[b' '; 79]).err(), Some(at(9, 0)));
-    assert_eq!(Header::read_on(&cards(&["A       = 1"])).err(), Some(at(10, 1)));
-    assert_eq!(Header::read_on(&cards(&["A       = (1", "B       = 2", "END     \u{b0}"])).err(), Some(at(10, 3)));
-    assert_eq!(Header::read_on(&[cards(&["A       = (1"]), vec![200; 2 * LONGEST]].concat()).err(), Some(at(10, 720)));
+    assert_eq!(Header::read_on(b"").err().map(told), Some(at(9, 0)));
+    assert_eq!(Header::read_on(&[b' '; 79]).err().map(told), Some(at(9, 0)));
+    assert_eq!(Header::read_on(&cards(&["A       = 1"])).err().map(told), Some(at(10, 1)));
+    assert_eq!(
+        Header::read_on(&cards(&["A       = (1", "B       = 2", "END     \u{b0}"])).err().map(told),
+        Some(at(10, 3))
+    );
+    assert_eq!(
+        Header::read_on(&[cards(&["A       = (1"]), vec![200; 2 * LONGEST]].concat()).err().map(told),
+        Some(at(10, 720))
+    );
     // Nothing behind END is looked at, and what is left of a card is cut off.
     let mut file = cards(&["A       = (1", "B       = 2", "END"]);
     file.extend(vec![200; LONGEST + 17]);
     for file in [&file[..], &file[..3 * 80 + 79]] {
         let read = Header::read_on(file).unwrap();
-        assert_eq!((integer(&read, "B"), read.refusals()), (2, &[at(5, 0)][..]));
+        assert_eq!((integer(&read, "B"), refusals(&read)), (2, vec![at(5, 0)]));
     }
 }
 
@@ -223,7 +235,7 @@ fn the_longest_headers_are_read_on_quickly() {
     for (fronts, refused, answers) in headers {
         let read = read_on(&fronts.iter().map(String::as_str).collect::<Vec<_>>());
         assert_eq!(read.refusals().len(), refused);
-        assert!(read.refusals().windows(2).all(|pair| pair[0].card < pair[1].card));
+        assert!(read.refusals().windows(2).all(|pair| pair[0].card() < pair[1].card()));
         let answering = read.entries().map_or(0, |entries| entries.filter(|(_, entry)| entry.is_ok()).count());
         assert_eq!(answering, answers);
     }
@@ -346,7 +358,7 @@ fn a_name_that_answers_answers_as_without_the_damage() {
         let good = Header::parse(&[good.concat(), card("END").to_vec()].concat()).unwrap();
         let bytes = [bad.concat(), card("END").to_vec()].concat();
         let read = Header::read_on(&bytes).unwrap();
-        let numbers: BTreeSet<usize> = read.refusals().iter().filter_map(|refusal| refusal.card).collect();
+        let numbers: BTreeSet<usize> = read.refusals().iter().filter_map(|refusal| refusal.card()).collect();
         assert_eq!(numbers, refused);
         let touched = touched(&made, &refused);
         for name in NAMES.into_iter().chain(["NONE", "CONTINUE"]) {
@@ -357,7 +369,7 @@ fn a_name_that_answers_answers_as_without_the_damage() {
                     assert_eq!(answer, good.get(name), "{name}: {}", bytes.escape_ascii());
                     right += usize::from(answer.is_some());
                     absent += usize::from(answer.is_none());
-                    let joined = |entry: &widrekas::Entry| matches!(&entry.value, Value::String(_));
+                    let joined = |entry: &Entry| matches!(&entry.value, Value::String(_));
                     spared += usize::from(!refused.is_empty() && answer.is_some_and(|entry| joined(&entry)));
                 }
                 Err(refusal) => {
@@ -391,7 +403,7 @@ fn bytes_at_random_are_read_on_or_refused() {
                 read_whole += 1;
             }
             (Err(refusal), Ok(read)) => {
-                assert_eq!((read.refusals().first(), refusal.number <= 8), (Some(&refusal), true));
+                assert_eq!((read.refusals().first(), refusal.number() <= 8), (Some(&refusal), true));
                 let names: Vec<String> = read.keywords().map_or(vec![], |names| names.map(|n| n.to_string()).collect());
                 every += usize::from(read.keywords().is_err());
                 for name in names.iter().map(String::as_str).chain(NAMES) {
@@ -400,8 +412,8 @@ fn bytes_at_random_are_read_on_or_refused() {
                 read_past += 1;
             }
             (first, read) => {
-                let number = read.unwrap_err().number;
-                assert!(first.is_err_and(|refusal| number == 10 || refusal.number == number));
+                let number = read.unwrap_err().number();
+                assert!(first.is_err_and(|refusal| number == 10 || refusal.number() == number));
                 refused += 1;
             }
         }

@@ -2,7 +2,8 @@
 
 mod common;
 
-use common::value;
+use common::{header, value};
+use std::collections::{BTreeMap, HashMap};
 use widrekas::{Decimal, Text, Value};
 
 fn text(string: &str) -> Text {
@@ -23,11 +24,57 @@ fn decimal(number: &str) -> Decimal {
 fn a_text_shows_its_bytes() {
     let kit = text("FKM-75");
     assert_eq!((kit.as_bytes(), kit.as_ref()), (&b"FKM-75"[..], &b"FKM-75"[..]));
-    assert_eq!((kit.to_str(), &kit), (Some("FKM-75"), &text("FKM-75")));
+    assert_eq!((kit.as_str(), &kit), ("FKM-75", &text("FKM-75")));
     assert!(kit == "FKM-75" && kit == *"FKM-75" && kit != "FKM" && kit < text("FKM-76"));
     assert_eq!((kit.to_string(), format!("{kit:>8}|{kit:?}")), ("FKM-75".into(), "  FKM-75|\"FKM-75\"".into()));
     assert_eq!(kit.into_bytes(), b"FKM-75");
     assert_eq!(Text::default(), "");
+}
+
+#[test]
+fn a_text_is_a_str() {
+    fn taken(text: impl AsRef<str> + Into<String>) -> (String, String) {
+        (text.as_ref().to_string(), text.into())
+    }
+    let kit = text("FKM-75");
+    assert_eq!(taken(kit.clone()), ("FKM-75".into(), "FKM-75".into()));
+    assert_eq!((kit.strip_prefix("FKM-"), kit.len(), &*kit), (Some("75"), 6, "FKM-75"));
+    assert!("FKM-75" == kit && *"FKM-75" == kit && "FKM" != kit);
+    assert_eq!((String::from(kit.clone()), kit.clone().into_string()), ("FKM-75".into(), "FKM-75".into()));
+    assert_eq!(
+        (HashMap::from([(kit.clone(), 1)]).get("FKM-75"), BTreeMap::from([(kit, 2)]).get("FKM-75")),
+        (Some(&1), Some(&2))
+    );
+    let entry = header(&["KIT     = 'a' /[mm] ring"]).get("KIT").unwrap();
+    assert_eq!((entry.comment.as_deref(), entry.unit().as_deref()), (Some("[mm] ring"), Some("mm")));
+}
+
+#[test]
+fn control_characters_are_kept_and_escaped_where_asked() {
+    let header = header(&["A\nKIT S = 'FAKE'", "B       = what / \u{1b}[2J"]);
+    let names: Vec<&str> = header.keywords().map(|name| name.as_str()).collect();
+    assert_eq!(names, ["A\nKIT S", "B"]);
+    assert_eq!(format!("{:?}", header.keywords().next().unwrap()), r#""A\nKIT S""#);
+    let Value::Invalid(text) = header.get("B").unwrap().value else { panic!("invalid") };
+    assert!(text.starts_with("what / \u{1b}[2J ") && format!("{text:?}").starts_with(r#""what / \x1b[2J "#));
+}
+
+#[test]
+fn every_accepted_byte_reaches_a_text_as_it_stands() {
+    // An undefined card is kept whole, an invalid value with its whole raw text: any byte below 128.
+    for byte in 0..128_u8 {
+        let front = format!("NO VALUE.{}", char::from(byte));
+        match widrekas::Card::read(&common::card(&front)) {
+            Ok(widrekas::Card::Undefined(text)) => assert_eq!(text.as_bytes(), common::card(&front)),
+            other => panic!("{byte}: {other:?}"),
+        }
+    }
+    // From 128 on a card is refused, wherever the byte stands.
+    for (byte, place) in (128..=255).flat_map(|byte| (0..80).map(move |place| (byte, place))) {
+        let mut card = common::card("NO VALUE");
+        card[place] = byte;
+        assert_eq!(widrekas::Card::read(&card).unwrap_err().reason(), widrekas::Reason::HighByte);
+    }
 }
 
 #[test]

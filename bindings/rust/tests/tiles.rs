@@ -1,7 +1,7 @@
-//! Tiles, by document 01's edge table and its rules.
+//! Tiles, by the edge table of docs/SPECIFICATION.md and by its rules.
 
 use widrekas::tile::{decode, Cursor, Fault, Shape, Tile};
-use widrekas::Refusal;
+use widrekas::{Reason, Refusal};
 
 /// A pixel of no tile of 8 bits.
 const UNTOUCHED: i32 = -77;
@@ -10,12 +10,15 @@ fn shape(nx: usize, bits: usize) -> Shape {
     Shape { nx, nblock: 32, bits }
 }
 
-fn refusal(number: u8) -> Refusal {
-    Refusal { number, card: None }
+/// What a refusal tells, which names no card.
+fn told(refusal: Refusal) -> u8 {
+    assert_eq!(refusal.card(), None);
+    refusal.number()
 }
 
-fn fault(number: u8, written: usize) -> Fault {
-    Fault { refusal: refusal(number), written }
+/// What a fault tells: its refusal's number, and the pixels written.
+fn fault(fault: Fault) -> (u8, usize) {
+    (told(fault.refusal()), fault.written())
 }
 
 /// A tile that is read, with its pixels and the bits used.
@@ -43,10 +46,10 @@ fn tiles_at_the_edges() {
         assert_eq!(pixels, edge.pixels);
     }
     let mut pixels = [UNTOUCHED; 2];
-    assert_eq!(decode(&[0x0a, 0x30], shape(2, 8), &mut pixels), Err(fault(16, 1)));
+    assert_eq!(decode(&[0x0a, 0x30], shape(2, 8), &mut pixels).map_err(fault), Err((16, 1)));
     assert_eq!(pixels, [10, UNTOUCHED]);
     let mut pixels = [UNTOUCHED];
-    assert_eq!(decode(&[0, 0, 0, 0, 0xd8], shape(1, 32), &mut pixels), Err(fault(17, 0)));
+    assert_eq!(decode(&[0, 0, 0, 0, 0xd8], shape(1, 32), &mut pixels).map_err(fault), Err((17, 0)));
     assert_eq!(pixels, [UNTOUCHED]);
 }
 
@@ -114,14 +117,14 @@ fn refusals_of_tiles() {
         Shape { nx: 2, nblock: 32, bits: 9 },
         Shape { nx: 2, nblock: 32, bits: usize::MAX },
     ] {
-        assert_eq!(decode(&[0x0a, 0x00], shape, &mut pixels), Err(fault(14, 0)));
-        assert_eq!(Tile::open(&[0x0a, 0x00], shape), Err(refusal(14)));
+        assert_eq!(decode(&[0x0a, 0x00], shape, &mut pixels).map_err(fault), Err((14, 0)));
+        assert_eq!(Tile::open(&[0x0a, 0x00], shape).map_err(told), Err(14));
     }
-    assert_eq!(decode(&vec![0; 8_388_609], shape(2, 8), &mut pixels), Err(fault(14, 0)));
-    assert_eq!(decode(&[0x0a, 0x00], shape(3, 8), &mut pixels), Err(fault(15, 0)));
-    assert_eq!(decode(&[0x0a, 0x00], shape(2, 8), &mut []), Err(fault(15, 0)));
-    assert_eq!(Tile::open(&[], shape(2, 8)), Err(refusal(16)));
-    assert_eq!(Tile::open(&[0, 0, 0], shape(2, 32)), Err(refusal(16)));
+    assert_eq!(decode(&vec![0; 8_388_609], shape(2, 8), &mut pixels).map_err(fault), Err((14, 0)));
+    assert_eq!(decode(&[0x0a, 0x00], shape(3, 8), &mut pixels).map_err(fault), Err((15, 0)));
+    assert_eq!(decode(&[0x0a, 0x00], shape(2, 8), &mut []).map_err(fault), Err((15, 0)));
+    assert_eq!(Tile::open(&[], shape(2, 8)).map_err(told), Err(16));
+    assert_eq!(Tile::open(&[0, 0, 0], shape(2, 32)).map_err(told), Err(16));
     for cursor in [
         Cursor { bit: 7, done: 0, last: 0 },
         Cursor { bit: 17, done: 0, last: 0 },
@@ -131,18 +134,16 @@ fn refusals_of_tiles() {
         Cursor { bit: 8, done: 0, last: -1 },
     ] {
         let mut tile = Tile::resume(&[0x0a, 0x00], shape(2, 8), cursor);
-        assert_eq!(tile.step(&mut pixels), Err(fault(18, 0)));
+        assert_eq!(tile.step(&mut pixels).map_err(fault), Err((18, 0)));
         assert_eq!(tile.cursor(), cursor, "the cursor stays");
     }
     assert_eq!(pixels, [UNTOUCHED; 2]);
     let mut tile = Tile::open(&[0x0a, 0x30], shape(2, 8)).unwrap();
     let cursor = tile.cursor();
-    assert_eq!(tile.step(&mut pixels), Err(fault(16, 1)));
+    assert_eq!(tile.step(&mut pixels).map_err(fault), Err((16, 1)));
     assert_eq!((tile.cursor(), pixels), (cursor, [10, UNTOUCHED]));
-    let said = fault(16, 1).to_string();
-    assert_eq!(said, "refused 16: the tile ends before the bits asked for; 1 pixels were written");
-    let error: &dyn std::error::Error = &fault(16, 1);
-    assert_eq!(error.source().unwrap().to_string(), refusal(16).to_string());
+    let reason = tile.step(&mut pixels).unwrap_err().refusal().reason();
+    assert_eq!(reason, Reason::TileEnds);
 }
 
 #[test]
@@ -156,19 +157,18 @@ fn bytes_at_random_give_pixels_or_a_refusal() {
         let tile: Vec<u8> = (0..below(40)).map(|_| below(256) as u8 & below(256) as u8).collect();
         let shape = Shape { nx: below(70), nblock: below(40), bits: [8, 16, 32, 0][below(4)] };
         let mut pixels = vec![UNTOUCHED; shape.nx + usize::from(below(20) == 0)];
-        let whole = decode(&tile, shape, &mut pixels);
+        let whole = decode(&tile, shape, &mut pixels).map_err(fault);
         let mut other = vec![UNTOUCHED; pixels.len()];
-        let stepped = Tile::open(&tile, shape).map_err(|refusal| Fault { refusal, written: 0 }).and_then(|mut tile| {
-            while tile.step(&mut other).map_err(|f| Fault { written: f.written + tile.cursor().done, ..f })?.is_some() {
-            }
+        let stepped = Tile::open(&tile, shape).map_err(|refusal| (told(refusal), 0)).and_then(|mut tile| {
+            while tile.step(&mut other).map_err(|f| (told(f.refusal()), f.written() + tile.cursor().done))?.is_some() {}
             Ok(tile.cursor().bit)
         });
         // The start value is looked at before the pixels in the one, and behind them in the other.
-        let order = whole == Err(fault(15, 0)) && stepped == Err(fault(16, 0));
+        let order = whole == Err((15, 0)) && stepped == Err((16, 0));
         assert!(order || (whole == stepped && pixels == other), "{whole:?} {stepped:?}");
         let cursor = Cursor { bit: below(400), done: below(80), last: below(70_000) as i32 - 35_000 };
         if let Err(fault) = Tile::resume(&tile, shape, cursor).step(&mut other) {
-            assert!((14..=18).contains(&fault.refusal.number) && fault.written <= shape.nblock);
+            assert!((14..=18).contains(&fault.refusal().number()) && fault.written() <= shape.nblock);
         }
     }
 }

@@ -1,20 +1,13 @@
 //! A header that is read on past its refused cards.
 
-use super::Header;
-use crate::boundary::{self, Told, CARD};
+use super::{Header, KEYWORD};
 use crate::card::{self, Card};
-use crate::refusal::Refusal;
+use crate::refusal::{Reason, Refusal};
 use crate::text::Text;
 use crate::value::Entry;
 use std::collections::{BTreeMap, BTreeSet};
 use std::fmt;
-
-/// The bytes of the keyword field. A HIERARCH card's name begins one byte further on.
-const KEYWORD: usize = 8;
-
-/// The refusals that a HIERARCH card without = and an XTENSION card without quotes get.
-const NO_EQUALS: u8 = 6;
-const NOT_QUOTED: u8 = 8;
+use widrekas_sys::{self as boundary, Told, CARD};
 
 /// A header that is read on past its refused cards: every name that one of them could touch is an error, all others answer.
 ///
@@ -23,7 +16,7 @@ const NOT_QUOTED: u8 = 8;
 /// - the name of a string that is open before it;
 /// - the name in its keyword field, a HIERARCH card's dotted name, whatever stands in its value;
 /// - every name where its own cannot be read: a byte of 128 or more stands in the keyword field or in a HIERARCH name, a HIERARCH
-///   card has no name (refusals 6 and 7), or the keyword is END.
+///   card has no name ([`NoEquals`](Reason::NoEquals), [`NoName`](Reason::NoName)), or the keyword is END.
 ///
 /// COMMENT, HISTORY, CONTINUE and an empty keyword are no names. A touched name stays an error even if a good card bears it too.
 ///
@@ -32,13 +25,14 @@ const NOT_QUOTED: u8 = 8;
 ///
 /// ```
 /// # fn main() -> Result<(), widrekas::Refusal> {
-/// use widrekas::{Header, Refusal};
+/// use widrekas::{Header, Reason};
 /// let mut file = Vec::new();
 /// for card in ["SIZE    = 12", "KIT     = 'FKM-&'", "CONTINUE  '75-&", "CONTINUE  'A2'", "END"] {
 ///     file.extend(format!("{card:80}").bytes());
 /// }
 /// let read = Header::read_on(&file)?;
-/// assert_eq!(read.get("KIT"), Err(Refusal { number: 3, card: Some(2) }));
+/// let refusal = read.get("KIT").unwrap_err();
+/// assert_eq!((refusal.reason(), refusal.card()), (Reason::StringNotClosed, Some(2)));
 /// assert_eq!(read.get("SIZE")?.unwrap().value.as_i64(), Some(12));
 /// assert_eq!(read.get("NONE")?, None);
 /// # Ok(())
@@ -80,11 +74,11 @@ fn front(card: &[u8; CARD], len: usize, behind: &[u8]) -> [u8; CARD] {
 
 /// The keyword of a card: what it is read as with an empty value, or with the string that an XTENSION card must have.
 fn keyword(card: &[u8; CARD]) -> Keyword {
-    match Card::read(&front(card, KEYWORD, b"= ")) {
+    match Card::read(&front(card, KEYWORD, b"= ")).map_err(|refusal| refusal.reason()) {
         Ok(Card::Value { name, .. }) => Keyword::Name(name),
         Ok(Card::Comment(_) | Card::History(_) | Card::Continuation { .. }) => Keyword::NoName,
-        Err(Refusal { number: NO_EQUALS, .. }) => dotted(card),
-        Err(Refusal { number: NOT_QUOTED, .. }) => Keyword::Name(card::name(&front(card, KEYWORD, b"= ''"))),
+        Err(Reason::NoEquals) => dotted(card),
+        Err(Reason::ExtensionNotQuoted) => Keyword::Name(card::name(&front(card, KEYWORD, b"= ''"))),
         _ => Keyword::Unreadable,
     }
 }
@@ -112,7 +106,7 @@ impl Touched {
         self.refusals.push(refusal);
         match keyword(card) {
             Keyword::Name(name) => {
-                self.borne.extend(refusal.card.map(|number| (number, name.clone())));
+                self.borne.extend(refusal.card().map(|number| (number, name.clone())));
                 self.add_name(name, refusal);
             }
             Keyword::NoName => (),
@@ -127,7 +121,8 @@ impl Touched {
 
     /// The refusal of the first card that touches a name.
     fn first(&self, name: &[u8]) -> Option<Refusal> {
-        [self.every, self.names.get(name).copied()].into_iter().flatten().min_by_key(|refusal| refusal.card)
+        let own = std::str::from_utf8(name).ok().and_then(|name| self.names.get(name).copied());
+        [self.every, own].into_iter().flatten().min_by_key(Refusal::card)
     }
 }
 
@@ -138,7 +133,7 @@ impl ReadOn {
     /// before it is joined, and in the list of names.
     pub(super) fn of(cards: &[u8]) -> Result<ReadOn, Refusal> {
         match Header::parse(cards) {
-            Err(Refusal { number: 1..=8, .. }) => (),
+            Err(refusal) if !matches!(refusal.reason(), Reason::HeaderLength | Reason::NoEnd) => (),
             read => return read.map(|blanked| ReadOn { blanked, touched: Touched::default() }),
         }
         let mut touched = Touched::default();
@@ -153,7 +148,7 @@ impl ReadOn {
                 Ok(Card::Xtension(_)) => last = Some((number, card::name(card))),
                 Ok(_) => (),
                 Err(refusal) => {
-                    let refusal = Refusal { card: Some(number), ..refusal };
+                    let refusal = refusal.at(number);
                     let before = |entry: usize| cards.get(entry * CARD..(number + 1) * CARD).unwrap_or_default();
                     if let Some((_, name)) = last.take().filter(|(entry, _)| meets_refused(before(*entry))) {
                         touched.add_name(name, refusal);
@@ -193,6 +188,16 @@ impl ReadOn {
     /// The names with their entries or errors, in the same order; an error as for [`ReadOn::keywords`].
     pub fn entries(&self) -> Result<impl Iterator<Item = (&Text, Result<Entry, Refusal>)>, Refusal> {
         Ok(self.keywords()?.filter_map(|name| Some((name, self.get(name).transpose()?))))
+    }
+
+    /// The number of the END card, as [`Header::end`].
+    pub fn end(&self) -> usize {
+        self.blanked.end()
+    }
+
+    /// Where the data begin, as [`Header::data_start`].
+    pub fn data_start(&self) -> usize {
+        self.blanked.data_start()
     }
 
     /// The refusals of all refused cards, in the order of the cards; none where [`Header::parse`] accepts the header.

@@ -78,10 +78,10 @@ fn the_list_finds_what_a_lookup_finds() {
 
 #[test]
 fn nothing_behind_the_end_is_kept_or_looked_at() {
-    for (end, kept) in [(&b"END     "[..], 2), (b"END     of it", 2), (b"  END", 4), (b"END\t", 4)] {
+    for end in [&b"END     "[..], b"END     of it", b"  END", b"END\t"] {
         let bytes = [padded(b"A       = 1"), padded(end), padded(b"A       = 2"), padded(b"END")].concat();
         let header = Header::parse(&bytes).unwrap();
-        assert_eq!(header.as_bytes().len(), kept * CARD);
+        assert_eq!(header.as_bytes().len(), 2 * CARD);
         assert_eq!(header.cards().count(), 2);
         assert_eq!(header.get("A").unwrap().value, Value::Integer(1));
         assert_eq!(header.entries().count(), 1);
@@ -121,17 +121,17 @@ fn bytes_at_random_give_a_reading_or_a_refusal() {
             Ok(header) => {
                 assert!(header.cards().last() == Some(Card::End));
                 for (name, entry) in header.entries() {
-                    assert!(name.to_str().is_some() && entry.value.to_string().is_ascii());
-                    assert!(entry.comment.as_ref().map_or(true, |c| c.as_bytes().is_ascii()));
+                    assert!(name.is_ascii() && entry.value.to_string().is_ascii());
+                    assert!(entry.comment.as_deref().unwrap_or_default().is_ascii());
                     assert_eq!(looked_up(&bytes, name.as_bytes()).as_ref(), Ok(&entry));
                 }
             }
             Err(refusal) => {
-                assert!((1..=10).contains(&refusal.number), "{refusal}");
-                assert_eq!(looked_up(&bytes, b"KIT"), Err(refusal.number));
+                assert!((1..=10).contains(&refusal.number()), "{refusal}");
+                assert_eq!(looked_up(&bytes, b"KIT"), Err(refusal.number()));
                 let mut count = 0;
                 let listed = boundary::list(&bytes, &mut [0; PLACES], &mut [0; PLACES], &mut count);
-                assert_eq!(refusal, Refusal { number: listed, card: Some(count) });
+                assert_eq!((refusal.number(), refusal.card()), (listed, Some(count)));
             }
         }
     }

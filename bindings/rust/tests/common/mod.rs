@@ -3,7 +3,7 @@
 
 pub mod random;
 
-use widrekas::{Entry, Header, Value};
+use widrekas::{Entry, Header, Refusal, Value};
 
 /// A card, padded with spaces.
 pub fn card(front: &str) -> [u8; 80] {
@@ -38,5 +38,18 @@ pub fn value(text: &str) -> Value {
 pub fn refused(text: &str) -> u8 {
     let mut bytes = cards(&[&format!("K       = {text}")]);
     bytes.extend(card("END"));
-    Header::parse(&bytes).unwrap_err().number
+    Header::parse(&bytes).unwrap_err().number()
+}
+
+/// A refusal's number, and that of its card.
+pub type Told = (u8, Option<usize>);
+
+/// What a refusal tells.
+pub fn told(refusal: Refusal) -> Told {
+    (refusal.number(), refusal.card())
+}
+
+/// What a refusal tells that was met at a card.
+pub fn at(number: u8, card: usize) -> Told {
+    (number, Some(card))
 }

@@ -1,26 +1,41 @@
-//! The C boundary, as safe functions over slices.
+//! The C boundary of Widrekas: its declarations ([`raw`]), and safe functions over slices. The crate `widrekas` is made of these.
+//!
+//! Each function answers 0, the number of a refusal, [`NOTHING_LEFT`] or [`WRONG_LENGTH`]. The project's bindings/c/widrekas.h says
+//! of each what it reads and leaves, and docs/PROMISES.md what is proved of it.
 //!
 //! Why the calls are sound, all of them: every pointer with its length is that of a live slice, and every number lent is a live
 //! one. What is lent by `&mut` is lent to nobody else, so nothing that is written aliases anything. The archive's functions take
 //! any bytes and any numbers, read and write within the lengths alone, return, and keep no pointer (each is proved to). The
 //! pointer of an empty slice dangles, yet is aligned and not null, and no byte is read or written through it. A number of the
 //! machine's word is `usize` on both sides, and no function unwinds.
+#![no_std]
+#![warn(missing_docs)]
+#![deny(unsafe_op_in_unsafe_fn)]
 
-/// The bytes of a card and of its record.
+/// The bytes of a card.
 pub const CARD: usize = 80;
+
+/// The bytes of a card's record.
 pub const RECORD: usize = 248;
 
 /// The places of a list.
 pub const PLACES: usize = 720;
 
-/// The numbers of an entry, and the bytes of its digits.
+/// The numbers of an entry.
 pub const NUMBERS: usize = 7;
+
+/// The bytes of an entry's digits.
 pub const DIGITS: usize = 80;
 
 /// The answer to a step where nothing is left.
 pub const NOTHING_LEFT: u8 = 254;
 
-mod raw {
+/// The answer where a slice has another length than the one asked for.
+pub const WRONG_LENGTH: u8 = 255;
+
+/// The functions as C has them. No pointer may be null; what is written may overlap nothing else that is lent.
+#[allow(missing_docs)]
+pub mod raw {
     extern "C" {
         pub fn widrekas_version() -> u32;
         pub fn widrekas_card(card: *const u8, len: usize, out: *mut u8, room: usize, number: *mut i64) -> u8;
@@ -101,8 +116,11 @@ mod raw {
 
 /// What an entry's numbers and digits are laid into.
 pub struct Told {
+    /// The digits of a decimal.
     pub digits: [u8; DIGITS],
+    /// The card of a refused header, the kind, the flag, whether there is a comment, and the lengths of text, comment and digits.
     pub out: [usize; NUMBERS],
+    /// The integer, or a decimal's power of ten.
     pub number: i64,
 }
 
@@ -198,9 +216,13 @@ pub fn open(
 
 /// What a step moves on: the cursor in three numbers, and the pixels written where it is refused.
 pub struct Stepping<'a> {
+    /// The next bit of the tile.
     pub bit: &'a mut usize,
+    /// The pixels done.
     pub done: &'a mut usize,
+    /// The last of them, or the start value.
     pub last: &'a mut i32,
+    /// The pixels that a refused step wrote.
     pub written: &'a mut usize,
 }
 

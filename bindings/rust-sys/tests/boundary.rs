@@ -1,0 +1,62 @@
+//! Every function of the boundary answers, and leaves what it says it leaves.
+
+use widrekas_sys::{self as boundary, Stepping, Told, CARD, NOTHING_LEFT, PLACES, RECORD, WRONG_LENGTH};
+
+/// Cards, padded with spaces.
+fn cards(fronts: &[&str]) -> Vec<u8> {
+    fronts.iter().flat_map(|front| format!("{front:80}").into_bytes()).collect()
+}
+
+#[test]
+fn the_version_is_1() {
+    assert_eq!(boundary::version(), 1);
+}
+
+#[test]
+fn a_card_of_80_bytes_alone_is_read() {
+    for (length, room) in [(79, RECORD), (81, RECORD), (CARD, RECORD - 1), (CARD, RECORD + 1), (0, 0)] {
+        let (mut record, mut number) = (vec![7; room], -1);
+        assert_eq!(boundary::card(&vec![b' '; length], &mut record, &mut number), WRONG_LENGTH);
+        assert!(number == -1 && record.iter().all(|&byte| byte == 7));
+    }
+    let (mut record, mut number) = ([7; RECORD], -1);
+    assert_eq!(boundary::card(&cards(&["KIT     = 12"]), &mut record, &mut number), 0);
+    assert_eq!((record[0], record[1], number, &record[8..12]), (1, 1, 12, &b"KIT\0"[..]));
+}
+
+#[test]
+fn a_unit_ends_at_its_bracket() {
+    assert_eq!((boundary::unit(b"[mm] ring"), boundary::unit(b"ring"), boundary::unit(b"")), (3, 0, 0));
+}
+
+#[test]
+fn a_list_a_lookup_and_an_entry() {
+    let header = cards(&["SIZE    = 12", "KIT     = 'FKM-&'", "CONTINUE  '75' /r", "SIZE    = 13", "END"]);
+    let (mut first, mut last, mut count) = ([0; PLACES], [0; PLACES], 0);
+    assert_eq!(boundary::list(&header, &mut first, &mut last, &mut count), 0);
+    assert_eq!((count, &first[..3], &last[..3]), (2, &[0, 1, 720][..], &[3, 1, 720][..]));
+    let (mut text, mut comment, mut told) = ([b'.'; 8], [b'.'; 8], Told::default());
+    assert_eq!(boundary::lookup(&header, b"KIT", &mut text, &mut comment, &mut told), 0);
+    assert_eq!((&text, &comment, told.out), (b"FKM-75..", b"r.......", [0, 6, 0, 1, 6, 1, 0]));
+    assert_eq!(boundary::entry(&header, 3, &mut text, &mut comment, &mut told), 0);
+    assert_eq!((told.out, told.number), ([0, 1, 0, 0, 0, 0, 0], 13));
+    assert_eq!(boundary::entry(&header, 2, &mut text, &mut comment, &mut told), 12);
+    assert_eq!(boundary::lookup(&header, b"KIT", &mut text[..5], &mut comment, &mut told), 13);
+    assert_eq!(boundary::list(&header[..80], &mut first, &mut last, &mut count), 10);
+    assert_eq!(count, 1);
+}
+
+#[test]
+fn a_tile_whole_and_by_steps() {
+    let (tile, mut pixels, mut count) = ([0x0a, 0x32], [0; 2], 0);
+    assert_eq!(boundary::decode(&tile, 2, 32, 8, &mut pixels, &mut count), 0);
+    assert_eq!((pixels, count), ([10, 11], 15));
+    let (mut bit, mut done, mut last, mut written, mut pixels) = (0, 0, 0, 0, [0; 2]);
+    assert_eq!(boundary::open(&tile, 2, 32, 8, &mut bit, &mut done, &mut last), 0);
+    assert_eq!((bit, done, last), (8, 0, 10));
+    for answer in [0, NOTHING_LEFT] {
+        let at = Stepping { bit: &mut bit, done: &mut done, last: &mut last, written: &mut written };
+        assert_eq!(boundary::step(&tile, 2, 32, 8, at, &mut pixels), answer);
+        assert_eq!((bit, done, last, pixels), (15, 2, 11, [10, 11]));
+    }
+}
