@@ -10,7 +10,8 @@
 //! - [`Card`]: one card of 80 bytes.
 //! - [`tile`]: a Rice tile, decoded whole or block by block.
 //!
-//! Nothing here panics, whatever the input. Reading an open string takes some 120 KiB of the caller's stack.
+//! Nothing here panics, whatever the input. A thread that parses a header wants a stack of 100 kB in a release build and of 130 kB in
+//! a debug build; these are the smallest threads, rounded up, in which 702 cards were parsed and a string joined over 700 of them.
 #![warn(missing_docs)]
 #![forbid(unsafe_code)]
 #![doc(test(attr(deny(warnings))))]
