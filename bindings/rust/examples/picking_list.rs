@@ -26,7 +26,7 @@ fn entry(file: &Path, name: &str) -> Result<Entry, Box<dyn std::error::Error>> {
 
 /// A text on one line, with control characters as \xNN.
 fn shown(text: impl Display) -> String {
-    let shown = |c: char| if c.is_control() { format!("\\x{:02x}", u32::from(c)) } else { c.to_string() };
+    let shown = |c: char| if c.is_control() { format!("\\x{:02X}", u32::from(c)) } else { c.to_string() };
     text.to_string().chars().map(shown).collect()
 }
 
