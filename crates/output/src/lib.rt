@@ -14,14 +14,20 @@ pub enum Printed {
 // The longest text that is made visible. No line of a header is longer.
 const LONGEST: usize = 65536;
 
-// Writes a text as it stands.
+// Writes a text as it stands. A write that takes nothing has failed.
 pub fn write(fd: i32, s: &[u8]) -> Printed
     ensures { λ r. ⌜ IsWhole r (now (s .entry)) ⌝ }
 {
-    if io::write_all(fd, s) {
-        return Printed::Whole(s.len());
+    let mut done = 0;
+    while done < s.len() {
+        let rest = text::rest_of(s, done);
+        let n = io::count(libc::write(fd, rest), rest);
+        if n == 0 {
+            return Printed::Cut;
+        }
+        done += n;
     }
-    Printed::Cut
+    Printed::Whole(done)
 }
 
 // Writes a text made visible, piece by piece. One that is longer than 65,536 bytes is not written.
@@ -36,9 +42,9 @@ pub fn write_visibly(fd: i32, s: &[u8]) -> Printed
     let mut at = 0;
     while at < s.len() {
         let made = escaping::escape(text::rest_of(s, at), &mut piece);
-        if !io::write_all(fd, text::first_of(&piece, made.put)) {
+        let Printed::Whole(_) = write(fd, text::first_of(&piece, made.put)) else {
             return Printed::Cut;
-        }
+        };
         written += made.put;
         at += made.taken;
     }
@@ -58,11 +64,11 @@ pub fn write_line(fd: i32, line: &[u8], escaped: bool) -> Printed
     let Printed::Whole(n) = write_visibly(fd, text::first_of(line, one_less(line.len()))) else {
         return Printed::Cut;
     };
-    if io::write_all(fd, b"\n") {
-        let written = n + 1;
-        return Printed::Whole(written);
-    }
-    Printed::Cut
+    let Printed::Whole(_) = write(fd, b"\n") else {
+        return Printed::Cut;
+    };
+    let written = n + 1;
+    Printed::Whole(written)
 }
 
 // A number less 1; 0 stays.

@@ -15,7 +15,6 @@ use finding::Header;
 use finding::Stop;
 use libc::STDOUT_FILENO;
 use lines::Line;
-use listing::Listing;
 use output::Printed;
 
 // What became of a header: whether it is accepted, and whether its lines were written.
@@ -33,7 +32,13 @@ pub fn print_header(header: &[u8], escaped: bool) -> Report
     match answer {
         Header::Accepted(_) => Report {
             header: answer,
-            printed: print_names(header, listing, escaped),
+            printed: print_names(
+                header,
+                &listing.first,
+                &listing.last,
+                listing.count,
+                escaped,
+            ),
         },
         Header::Refused(stop) => Report {
             header: answer,
@@ -52,20 +57,23 @@ fn print_refusal(stop: Stop, escaped: bool) -> Printed
 }
 
 // The lines of the names in their order, then that of their count. The first write that fails ends it.
-fn print_names(header: &[u8], listing: Listing, escaped: bool) -> Printed
-    requires { ⌜ IsListed (now header) (listing .first) (listing .last) × (listing .count ≡ listOf (now header) .count) ⌝ }
-    ensures { λ r. ⌜ IsWhole r (inOrder (map (lineShown escaped) (nameLines (now (header .entry)))) ++ lineShown escaped (countLine (listing .count))) ⌝ }
+fn print_names<'a>(
+    header: &[u8],
+    first: &'a [usize],
+    last: &'a [usize],
+    count: usize,
+    escaped: bool,
+) -> Printed
+    requires { ⌜ IsListed (now header) (now first) (now last) × (count ≡ listOf (now header) .count) ⌝ }
+    ensures { λ r. ⌜ IsWhole r (inOrder (map (lineShown escaped) (nameLines (now (header .entry)))) ++ lineShown escaped (countLine count)) ⌝ }
 {
-    let first = listing.first;
-    let last = listing.last;
-    let count = listing.count;
     let mut text = [0u8; 51200];
     // For an entry's comment, which is not printed, and then for its line.
     let mut line = [0u8; 52640];
     let mut printed = 0;
     let mut k = 0;
     while k < count {
-        let n = name_part(header, &first, &last, k, &mut text, &mut line);
+        let n = name_part(header, first, last, k, &mut text, &mut line);
         let Printed::Whole(written) = output::write_line(
             STDOUT_FILENO,
             text::first_of(&line, n),

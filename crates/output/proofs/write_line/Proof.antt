@@ -43,11 +43,20 @@ enum-told c = search needs
 returns-3 : tie.Need-returns-3
 returns-3 c = search needs
 
-slice-aggregate-write-all : tie.Need-slice-aggregate-write-all
-slice-aggregate-write-all c = search needs
+slice-aggregate-write : tie.Need-slice-aggregate-write
+slice-aggregate-write c = search needs
 
-write-all-requires : tie.Need-write-all-requires
-write-all-requires c κs = search needs
+write-requires-2 : tie.Need-write-requires-2
+write-requires-2 c κs = search needs
+
+enum-told-2 : tie.Need-enum-told-2
+enum-told-2 c = search needs
+
+enum-told-3 : tie.Need-enum-told-3
+enum-told-3 c = search needs
+
+returns-4 : tie.Need-returns-4
+returns-4 c = search needs
 
 abbrev else1 : tie.After-n → tie.Else1
 else1 c = c .before .before .before .before .before .before
@@ -66,19 +75,16 @@ before c =
 
 add-written : tie.Need-add-written
 add-written c =
-    let at = c .before .before .before .before in
+    let at = c .before .before .before .before .before in
     let line = else1 at .before .before .args .line .now in
     let short = at .before .before .before .before .before .if2 .left in
     record { fits = omega (arith, before at, escaped-few (take (length line - 1) line), length-take (length line - 1) line, short) }
 
-returns-4 : tie.Need-returns-4
-returns-4 c =
-    let at = c .before .before .before .before in
+returns-5 : tie.Need-returns-5
+returns-5 c =
+    let at = c .before .before .before .before .before in
     let a = else1 at .before .before .args in
     visible-line (a .escaped) (a .line .now) (not-false (a .escaped) (else1 at .if1 .left)) (before at)
-
-returns-5 : tie.Need-returns-5
-returns-5 c = search needs
 
 pub write-line-spec : {M : Type 1} → statement M
 write-line-spec =
@@ -93,8 +99,10 @@ write-line-spec =
     enum-known-n
     enum-told
     returns-3
-    slice-aggregate-write-all
-    write-all-requires
-    add-written
+    slice-aggregate-write
+    write-requires-2
+    enum-told-2
+    enum-told-3
     returns-4
+    add-written
     returns-5)

@@ -39,27 +39,33 @@ slice-aggregate-first-of c = search needs
 first-of-requires : tie.Need-first-of-requires Inv-loop μ-loop
 first-of-requires c κs = search needs
 
-write-all-requires : tie.Need-write-all-requires Inv-loop μ-loop
-write-all-requires c κs = search needs
+write-requires : tie.Need-write-requires Inv-loop μ-loop
+write-requires c κs = search needs
+
+enum-told : tie.Need-enum-told Inv-loop μ-loop
+enum-told c = search needs
+
+enum-told-2 : tie.Need-enum-told-2 Inv-loop μ-loop
+enum-told-2 c = search needs
 
 returns-2 : tie.Need-returns-2 Inv-loop μ-loop
 returns-2 c = tt
 
 -- where a piece was made
-abbrev made : tie.After-write-all Inv-loop μ-loop → tie.After-escape Inv-loop μ-loop
+abbrev made : tie.After-write Inv-loop μ-loop → tie.After-escape Inv-loop μ-loop
 made c = c .before .before .before .before
 
-abbrev inside : tie.After-write-all Inv-loop μ-loop → tie.In-loop Inv-loop μ-loop
+abbrev inside : tie.After-write Inv-loop μ-loop → tie.In-loop Inv-loop μ-loop
 inside c = made c .before .before .before
 
-abbrev whole : tie.After-write-all Inv-loop μ-loop → List ℕ
+abbrev whole : tie.After-write Inv-loop μ-loop → List ℕ
 whole c = inside c .before .before .before .before .args .s .now
 
 -- the piece that was made
-abbrev part : tie.After-write-all Inv-loop μ-loop → List ℕ
+abbrev part : tie.After-write Inv-loop μ-loop → List ℕ
 part c = take 256 (drop (inside c .before .loop .at) (whole c))
 
-told : (c : tie.After-write-all Inv-loop μ-loop)
+told : (c : tie.After-write Inv-loop μ-loop)
     → (made c .escape .result .taken ≡ length (part c)) × (made c .escape .result .put ≡ length (escaped (part c)))
 told c =
     let l = inside c .before in
@@ -72,7 +78,7 @@ told c =
     )
 
 -- the piece has a byte, and no more than are left
-some : (c : tie.After-write-all Inv-loop μ-loop)
+some : (c : tie.After-write Inv-loop μ-loop)
     → (0 < length (part c)) × (inside c .before .loop .at + length (part c) ≤ length (whole c))
 some c =
     let l = inside c .before in
@@ -85,23 +91,23 @@ some c =
 
 add-written : tie.Need-add-written Inv-loop μ-loop
 add-written c =
-    let at = c .before .before in
+    let at = c .before .before .before in
     let short = inside at .before .before .if1 .left in
     record { fits = omega (arith, told at .1, escaped-few (part at), some at .1, inside at .before .loop .inv .1, short) }
 
 add-at : tie.Need-add-at Inv-loop μ-loop
 add-at c =
-    let at = c .before .before .before in
+    let at = c .before .before .before .before in
     record { fits = omega (arith, told at .0, some at .1, inside at .before .before .if1 .left) }
 
 loop-less : tie.Need-loop-less Inv-loop μ-loop
 loop-less c =
-    let at = c .before .before .before in
+    let at = c .before .before .before .before in
     omega (arith, told at .0, some at .0, some at .1)
 
 loop-again : tie.Need-loop-again Inv-loop μ-loop
 loop-again c =
-    let at = c .before .before .before in
+    let at = c .before .before .before .before in
     let l = inside at .before in
     let v = l .loop .inv in
     let next : l .loop .at + made at .escape .result .taken ≡ l .loop .at + length (part at) =
@@ -135,7 +141,9 @@ write-visibly-spec =
     escape-requires
     slice-aggregate-first-of
     first-of-requires
-    write-all-requires
+    write-requires
+    enum-told
+    enum-told-2
     returns-2
     add-written
     add-at

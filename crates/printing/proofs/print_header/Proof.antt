@@ -36,13 +36,14 @@ enum-told c = search needs
 
 print-names-requires : tie.Need-print-names-requires
 print-names-requires c κs =
-    let made = c .before .before in
+    let told = c .before .before .before .before .before in
+    let made = told .before .before in
     let h = made .before .before .args .header .now in
     let is = made .list .ensures in
-    let end = c .enum-told .given .0 .0 in (
+    let end = told .enum-told .given .0 .0 in (
       record {
         end = end;
-        accepted = known-header h is (c .enum-told .given .1);
+        accepted = known-header h is (told .enum-told .given .1);
         first-cards = ap (λ (x : Listing). x .first) is;
         last-entries = ap (λ (x : Listing). x .last) is;
       },
@@ -62,7 +63,7 @@ by-header t h x e = sym (ap (λ (y : Header). shownBy t y h) e)
 
 returns : tie.Need-returns
 returns c =
-    let told = c .before in
+    let told = c .before .before .before .before .before .before in
     let made = told .before .before in
     let h = made .before .before .args .header .now in
     let is = made .list .ensures in

@@ -31,11 +31,11 @@ pub record Printing (h : List ℕ) (t : Bool) (count : ℕ) (text line : List �
   pub small : printed ≤ 210561 * k
 
 abbrev Inv-loop : tie.InvT-loop
-Inv-loop header escaped first last count text₀ line₀ printed₀ k₀ text line printed k =
+Inv-loop header first last count escaped text₀ line₀ printed₀ k₀ text line printed k =
     Printing header escaped count text line printed k
 
 abbrev μ-loop : tie.MeasureT-loop
-μ-loop header escaped first last count text₀ line₀ printed₀ k₀ text line printed k = count - k
+μ-loop header first last count escaped text₀ line₀ printed₀ k₀ text line printed k = count - k
 
 loop-holds : tie.Need-loop-holds Inv-loop μ-loop
 unfolding inOrder
@@ -52,10 +52,10 @@ abbrev start : tie.At-loop Inv-loop μ-loop → tie.Start Inv-loop μ-loop
 start c = c .before .before .before .before
 
 -- the lines of all names are as many as the count says
-as-many : (s : tie.Start Inv-loop μ-loop) → length (nameLines (s .args .header .now)) ≡ s .args .listing .count
+as-many : (s : tie.Start Inv-loop μ-loop) → length (nameLines (s .args .header .now)) ≡ s .args .count
 as-many s = naming.as-many (s .args .header .now) (s .pre .0 .end) (s .pre .0 .accepted) ∙ sym (s .pre .1)
 
-few : (s : tie.Start Inv-loop μ-loop) → s .args .listing .count ≤ 720
+few : (s : tie.Start Inv-loop μ-loop) → s .args .count ≤ 720
 few s = omega (arith, s .pre .1, naming.few-names (s .args .header .now) (s .pre .0 .end) (s .pre .0 .accepted))
 
 slice-aggregate-name-part : tie.Need-slice-aggregate-name-part Inv-loop μ-loop
@@ -64,15 +64,9 @@ slice-aggregate-name-part c = search needs
 slice-aggregate-name-part-2 : tie.Need-slice-aggregate-name-part-2 Inv-loop μ-loop
 slice-aggregate-name-part-2 c = search needs
 
-slice-aggregate-name-part-3 : tie.Need-slice-aggregate-name-part-3 Inv-loop μ-loop
-slice-aggregate-name-part-3 c = search needs
-
-slice-aggregate-name-part-4 : tie.Need-slice-aggregate-name-part-4 Inv-loop μ-loop
-slice-aggregate-name-part-4 c = search needs
-
 name-part-requires : tie.Need-name-part-requires Inv-loop μ-loop
 name-part-requires c κs =
-    let inside = c .before .before .before .before in
+    let inside = c .before .before in
     let at = inside .before in
     let s = start at in (
       s .pre .0,
@@ -106,7 +100,7 @@ abbrev made : tie.After-known-told Inv-loop μ-loop → tie.After-name-part Inv-
 made c = c .before .before .before .before .before .before .before .before
 
 abbrev inside : tie.After-known-told Inv-loop μ-loop → tie.In-loop Inv-loop μ-loop
-inside c = made c .before .before .before .before .before
+inside c = made c .before .before .before
 
 abbrev at : tie.After-known-told Inv-loop μ-loop → tie.At-loop Inv-loop μ-loop
 at c = inside c .before
@@ -194,7 +188,7 @@ abbrev end : tie.After-known-told2 Inv-loop μ-loop → tie.After-loop Inv-loop 
 end c = counted-part c .before .before
 
 abbrev last-line : tie.After-known-told2 Inv-loop μ-loop → List ℕ
-last-line c = countLine (start (end c .before) .args .listing .count)
+last-line c = countLine (start (end c .before) .args .count)
 
 last-bytes : (c : tie.After-known-told2 Inv-loop μ-loop)
     → c .before .written2 .given .0 .0 ≡ length (lineShown (start (end c .before) .args .escaped) (last-line c))
@@ -244,8 +238,6 @@ print-names-spec =
     loop-holds
     slice-aggregate-name-part
     slice-aggregate-name-part-2
-    slice-aggregate-name-part-3
-    slice-aggregate-name-part-4
     name-part-requires
     slice-aggregate-first-of
     first-of-requires
