@@ -14,10 +14,12 @@ const STAMP: &str = "libwidrekas.sources";
 const VERSION: &str = "1";
 
 /// What the archive must have beside `widrekas_version`.
-const FUNCTIONS: [&str; 8] = [
+const FUNCTIONS: [&str; 10] = [
     "widrekas_card",
     "widrekas_unit",
+    "widrekas_header",
     "widrekas_list",
+    "widrekas_name",
     "widrekas_entry",
     "widrekas_lookup",
     "widrekas_open",

@@ -40,6 +40,7 @@ pub mod raw {
         pub fn widrekas_version() -> u32;
         pub fn widrekas_card(card: *const u8, len: usize, out: *mut u8, room: usize, number: *mut i64) -> u8;
         pub fn widrekas_unit(comment: *const u8, len: usize) -> usize;
+        pub fn widrekas_header(header: *const u8, len: usize, card: *mut usize) -> u8;
         pub fn widrekas_list(
             header: *const u8,
             len: usize,
@@ -48,6 +49,14 @@ pub mod raw {
             last: *mut usize,
             last_room: usize,
             count: *mut usize,
+        ) -> u8;
+        pub fn widrekas_name(
+            header: *const u8,
+            len: usize,
+            card: usize,
+            name: *mut u8,
+            room: usize,
+            length: *mut usize,
         ) -> u8;
         pub fn widrekas_entry(
             header: *const u8,
@@ -148,12 +157,24 @@ pub fn unit(comment: &[u8]) -> usize {
     unsafe { raw::widrekas_unit(comment.as_ptr(), comment.len()) }
 }
 
+/// Says where END stands: its card's number, or that of a refusal's card.
+pub fn header(header: &[u8], card: &mut usize) -> u8 {
+    // SAFETY: a live slice with its length, which is only read, and a live number, lent alone.
+    unsafe { raw::widrekas_header(header.as_ptr(), header.len(), card) }
+}
+
 /// Lists a header's names.
 pub fn list(header: &[u8], first: &mut [usize; PLACES], last: &mut [usize; PLACES], count: &mut usize) -> u8 {
     // SAFETY: a live slice and two live arrays with their lengths and a live number, all but the first lent alone.
     unsafe {
         raw::widrekas_list(header.as_ptr(), header.len(), first.as_mut_ptr(), PLACES, last.as_mut_ptr(), PLACES, count)
     }
+}
+
+/// Reads the name that the entry at a card's number bears.
+pub fn name(header: &[u8], card: usize, name: &mut [u8], length: &mut usize) -> u8 {
+    // SAFETY: two live slices with their lengths, the first only read, and a live number; all that is written is lent alone.
+    unsafe { raw::widrekas_name(header.as_ptr(), header.len(), card, name.as_mut_ptr(), name.len(), length) }
 }
 
 /// Reads the entry at a card's number.

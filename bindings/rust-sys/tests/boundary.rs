@@ -47,6 +47,23 @@ fn a_list_a_lookup_and_an_entry() {
 }
 
 #[test]
+fn where_the_end_stands_and_the_name_at_a_card() {
+    let header = cards(&["SIZE    = 12", "HIERARCH A B = 1", "", "  END", "KIT     = '"]);
+    let mut card = 7;
+    assert_eq!((boundary::header(&header, &mut card), card), (0, 3));
+    assert_eq!((boundary::header(&header[..160], &mut card), card), (10, 2));
+    assert_eq!((boundary::header(&header[1..], &mut card), card), (9, 0));
+    assert_eq!((boundary::header(&header[320..], &mut card), card), (3, 0));
+    let (mut name, mut length) = ([b'.'; 4], 7);
+    assert_eq!(boundary::name(&header, 1, &mut name, &mut length), 0);
+    assert_eq!((&name, length), (b"A.B.", 3));
+    assert_eq!(boundary::name(&header, 1, &mut name[..2], &mut length), 13);
+    assert_eq!([2, 3, 5].map(|card| boundary::name(&header, card, &mut name, &mut length)), [12; 3]);
+    assert_eq!(boundary::name(&header, 4, &mut name, &mut length), 3);
+    assert_eq!((&name, length), (b"A.B.", 3));
+}
+
+#[test]
 fn a_tile_whole_and_by_steps() {
     let (tile, mut pixels, mut count) = ([0x0a, 0x32], [0; 2], 0);
     assert_eq!(boundary::decode(&tile, 2, 32, 8, &mut pixels, &mut count), 0);

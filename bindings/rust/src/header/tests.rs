@@ -61,6 +61,13 @@ fn the_list_finds_what_a_lookup_finds() {
         bytes.extend(padded(b"\xff"));
         let header = Header::parse(&bytes).unwrap();
         assert_eq!(header.as_bytes().len(), bytes.len() - CARD, "the cards up to END are kept");
+        let mut end = 0;
+        assert_eq!((boundary::header(&bytes, &mut end), header.end()), (0, end));
+        for (name, place) in header.keywords().zip(&header.places) {
+            let (mut room, mut length) = ([0; CARD], 0);
+            assert_eq!(boundary::name(&bytes, place.first, &mut room, &mut length), 0);
+            assert_eq!(name.as_bytes(), &room[..length]);
+        }
         let names: Vec<Text> = header.keywords().cloned().collect();
         assert_eq!(header.entries().count(), names.len());
         for ((name, entry), listed) in header.entries().zip(&names) {
@@ -132,6 +139,7 @@ fn bytes_at_random_give_a_reading_or_a_refusal() {
                 let mut count = 0;
                 let listed = boundary::list(&bytes, &mut [0; PLACES], &mut [0; PLACES], &mut count);
                 assert_eq!((refusal.number(), refusal.card()), (listed, Some(count)));
+                assert_eq!((boundary::header(&bytes, &mut count), refusal.card()), (listed, Some(count)));
             }
         }
     }
