@@ -19,19 +19,40 @@ static uint8_t digits[WIDREKAS_DIGITS];
 static size_t out[WIDREKAS_NUMBERS];
 static int64_t number;
 
+/* Bytes of a header or of a file's name on one line: control characters as \xNN. */
+static void print_shown(FILE *to, const uint8_t *bytes, size_t length)
+{
+    for (size_t i = 0; i < length; i++) {
+        if (bytes[i] < 32 || bytes[i] == 127) {
+            fprintf(to, "\\x%02X", bytes[i]);
+        } else {
+            putc(bytes[i], to);
+        }
+    }
+}
+
+/* The name of a file. */
+static void print_file(FILE *to, const char *file)
+{
+    print_shown(to, (const uint8_t *)file, strlen(file));
+}
+
 /* The front of a file, cut to whole cards. Answers whether it could be read. */
 static int read_front(const char *file, size_t *length)
 {
     FILE *in = fopen(file, "rb");
     if (in == NULL) {
-        fprintf(stderr, "%s: %s\n", file, strerror(errno));
+        int why = errno;
+        print_file(stderr, file);
+        fprintf(stderr, ": %s\n", strerror(why));
         return 0;
     }
     *length = fread(header, 1, sizeof header, in);
     int failed = ferror(in);
     fclose(in);
     if (failed) {
-        fprintf(stderr, "%s: cannot be read\n", file);
+        print_file(stderr, file);
+        fprintf(stderr, ": cannot be read\n");
         return 0;
     }
     *length -= *length % WIDREKAS_CARD;
@@ -61,33 +82,29 @@ static void print_value(void)
         putchar(out[WIDREKAS_ENTRY_FLAG] ? 'T' : 'F');
         break;
     case WIDREKAS_STRING:
-        fwrite(text, 1, out[WIDREKAS_ENTRY_TEXT_LENGTH], stdout);
+        print_shown(stdout, text, out[WIDREKAS_ENTRY_TEXT_LENGTH]);
         break;
     default:
         break;
     }
 }
 
-/* A byte of the comment on one line: the seams between cards become spaces. */
-static int on_one_line(size_t i)
-{
-    return comment[i] == '\n' ? ' ' : comment[i];
-}
-
-/* The comment, without spaces at its ends. */
+/* The comment, without spaces at its ends: the seams between cards become spaces. */
 static void print_comment(void)
 {
+    static uint8_t shown[WIDREKAS_ROOM];
     size_t start = 0;
     size_t end = out[WIDREKAS_ENTRY_COMMENT_LENGTH];
-    while (start < end && on_one_line(start) == ' ') {
+    for (size_t i = 0; i < end; i++) {
+        shown[i] = comment[i] == '\n' ? ' ' : comment[i];
+    }
+    while (start < end && shown[start] == ' ') {
         start++;
     }
-    while (start < end && on_one_line(end - 1) == ' ') {
+    while (start < end && shown[end - 1] == ' ') {
         end--;
     }
-    for (; start < end; start++) {
-        putchar(on_one_line(start));
-    }
+    print_shown(stdout, shown + start, end - start);
 }
 
 /* The unit that the comment names, if any. */
@@ -95,7 +112,7 @@ static void print_unit(void)
 {
     size_t end = widrekas_unit(comment, out[WIDREKAS_ENTRY_COMMENT_LENGTH]);
     if (end > 1) {
-        fwrite(comment + 1, 1, end - 1, stdout);
+        print_shown(stdout, comment + 1, end - 1);
     }
 }
 
@@ -109,19 +126,32 @@ static int print_line(const char *file, const char *name)
     uint8_t answer = widrekas_lookup(header, length, (const uint8_t *)name, strlen(name), text, sizeof text, comment,
                                      sizeof comment, digits, sizeof digits, out, WIDREKAS_NUMBERS, &number);
     if (answer > WIDREKAS_NO_END) {
-        fprintf(stderr, "%s: refused %d: %s\n", file, answer, widrekas_meaning(answer));
+        print_file(stderr, file);
+        fprintf(stderr, ": refused %d: %s\n", answer, widrekas_meaning(answer));
         return 0;
     }
     if (answer != 0) {
-        fprintf(stderr, "%s: refused %d at %zu: %s\n", file, answer, out[WIDREKAS_ENTRY_CARD], widrekas_meaning(answer));
+        print_file(stderr, file);
+        fprintf(stderr, ": refused %d at %zu: %s\n", answer, out[WIDREKAS_ENTRY_CARD], widrekas_meaning(answer));
         return 0;
     }
     size_t kind = out[WIDREKAS_ENTRY_KIND];
     if (kind == WIDREKAS_UNDEFINED || kind == WIDREKAS_INVALID) {
-        fprintf(stderr, "%s: %s has %s value\n", file, name, kind == WIDREKAS_UNDEFINED ? "no" : "an invalid");
+        print_file(stderr, file);
+        fprintf(stderr, ": %s has %s value", name, kind == WIDREKAS_UNDEFINED ? "no" : "an invalid");
+        if (kind == WIDREKAS_INVALID) {
+            size_t end = out[WIDREKAS_ENTRY_TEXT_LENGTH];
+            while (end > 0 && text[end - 1] == ' ') {
+                end--;
+            }
+            fputs(": ", stderr);
+            print_shown(stderr, text, end);
+        }
+        putc('\n', stderr);
         return 0;
     }
-    printf("%s\t", file);
+    print_file(stdout, file);
+    putchar('\t');
     print_value();
     putchar('\t');
     print_comment();
