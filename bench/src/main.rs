@@ -4,14 +4,17 @@
 //! bench jobs [short]              the jobs whose instructions are counted
 //! bench once GROUP NAME SIDE      runs one job once by one side, for callgrind
 //! bench header CARDS              a header, on standard output
-//! bench report LINES FOLDER       writes SPEED.md and speed.svg of the printed lines
+//! bench report LINES FOLDER       writes SPEED.md and its three pictures of the printed lines
+//! bench draw PAGE FOLDER          draws the two small pictures by the figures of a written SPEED.md
 
+mod bars;
 mod cfitsio;
 mod headers;
 mod job;
 mod measure;
 mod migrating;
 mod ours;
+mod page;
 mod picture;
 mod random;
 mod report;
@@ -87,8 +90,15 @@ fn done(words: &[&str]) -> Option<()> {
             let written = report::write(Path::new(lines), Path::new(folder));
             written.map_err(|why| eprintln!("bench: {why}")).ok()?;
         }
+        ["draw", page, folder] => {
+            let drawn =
+                std::fs::read_to_string(page).and_then(|text| report::draw(&page::figures(&text), Path::new(folder)));
+            drawn.map_err(|why| eprintln!("bench: {page}: {why}")).ok()?;
+        }
         _ => {
-            eprintln!("usage: bench measure|jobs [short], once GROUP NAME SIDE, header CARDS, report LINES FOLDER");
+            eprintln!(
+                "usage: bench measure|jobs [short], once GROUP NAME SIDE, header CARDS, report LINES FOLDER, draw PAGE FOLDER"
+            );
             return None;
         }
     }

@@ -12,7 +12,7 @@ const GROUPS: [(&str, &str); 4] = [
 ];
 
 /// The others, with the colours of their marks and how far these stand from a line's middle.
-const OTHERS: [(&str, &str, &str, f64); 2] =
+pub const OTHERS: [(&str, &str, &str, f64); 2] =
     [("fitsrs", "ours / fitsrs", "#b3561d", -3.5), ("cfitsio", "ours / CFITSIO", "#2f6d9e", 3.5)];
 
 /// The measures of the picture.
@@ -22,34 +22,42 @@ const WIDTH: f64 = 560.0;
 const TOP: f64 = 60.0;
 
 /// From a ratio to its place.
-struct Scale {
+pub struct Scale {
     low: f64,
     high: f64,
+    left: f64,
+    width: f64,
 }
 
 impl Scale {
-    /// A scale from a power of two to another, around all ratios and 1.
-    fn around(ratios: impl Iterator<Item = f64>) -> Self {
+    /// A scale from a power of two to another, around all ratios and 1, on a stretch of the picture.
+    pub fn around(ratios: impl Iterator<Item = f64>, left: f64, width: f64) -> Self {
         let (mut low, mut high) = (-1.0_f64, 1.0_f64);
         for ratio in ratios.filter(|ratio| ratio.is_finite() && *ratio > 0.0) {
             low = low.min(ratio.log2().floor());
             high = high.max(ratio.log2().ceil());
         }
-        Scale { low, high }
+        Scale { low, high, left, width }
     }
 
-    fn place(&self, ratio: f64) -> f64 {
+    pub fn place(&self, ratio: f64) -> f64 {
         let power = ratio.max(f64::MIN_POSITIVE).log2().clamp(self.low, self.high);
-        LEFT + WIDTH * (power - self.low) / (self.high - self.low)
+        self.left + self.width * (power - self.low) / (self.high - self.low)
+    }
+
+    /// The powers of two that are marked, with their labels; every second one where they are many.
+    pub fn marks(&self) -> impl Iterator<Item = (i32, String)> {
+        let step = if self.high - self.low > 10.0 { 2 } else { 1 };
+        (self.low as i32..=self.high as i32)
+            .filter(move |power| power % step == 0)
+            .map(|power| (power, if power < 0 { format!("1/{}", 1 << -power) } else { format!("{}", 1 << power) }))
     }
 }
 
 fn axis(svg: &mut String, scale: &Scale, bottom: f64) -> std::fmt::Result {
-    let step = if scale.high - scale.low > 10.0 { 2 } else { 1 };
-    for power in (scale.low as i32..=scale.high as i32).filter(|power| power % step == 0) {
+    for (power, label) in scale.marks() {
         let (x, one) = (scale.place(f64::from(power).exp2()), power == 0);
         let (colour, width) = if one { ("#333", 1.5) } else { ("#ddd", 1.0) };
-        let label = if power < 0 { format!("1/{}", 1 << -power) } else { format!("{}", 1 << power) };
         writeln!(svg, r#"<path d="M{x:.1} {TOP}V{bottom}" stroke="{colour}" stroke-width="{width}"/>"#)?;
         writeln!(svg, r#"<text x="{x:.1}" y="{:.1}" text-anchor="middle">{label}</text>"#, TOP - 8.0)?;
     }
@@ -70,7 +78,7 @@ fn marks(svg: &mut String, scale: &Scale, row: &Row, y: f64) -> std::fmt::Result
 
 fn draw(figures: &Figures) -> Result<String, std::fmt::Error> {
     let rows = || GROUPS.iter().flat_map(|(group, _)| figures.of(group));
-    let scale = Scale::around(rows().flat_map(|row| row.ratios.values().flatten().copied()));
+    let scale = Scale::around(rows().flat_map(|row| row.ratios.values().flatten().copied()), LEFT, WIDTH);
     let lines = rows().count() + GROUPS.len();
     let bottom = TOP + LINE * (lines as f64 + 0.5);
     let (width, height) = (LEFT + WIDTH + 30.0, bottom + 20.0);

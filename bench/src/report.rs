@@ -1,6 +1,6 @@
 //! The text of the figures.
 
-use crate::{picture, worst};
+use crate::{bars, picture, worst};
 use std::collections::HashMap;
 use std::fmt::Write;
 use std::path::Path;
@@ -20,6 +20,21 @@ pub struct Row {
     counts: HashMap<String, f64>,
 }
 
+impl Row {
+    /// A job of which nothing is measured.
+    pub fn named(group: &str, name: &str) -> Self {
+        Row {
+            group: group.into(),
+            name: name.into(),
+            unit: String::new(),
+            units: 0.0,
+            times: HashMap::new(),
+            ratios: HashMap::new(),
+            counts: HashMap::new(),
+        }
+    }
+}
+
 /// All that was printed.
 #[derive(Default)]
 pub struct Figures {
@@ -37,15 +52,9 @@ impl Figures {
         let words: Vec<&str> = line.split('\t').collect();
         let number = |word: &str| word.parse::<f64>().ok();
         match words[..] {
-            ["job", group, name, unit, units] => self.rows.push(Row {
-                group: group.into(),
-                name: name.into(),
-                unit: unit.into(),
-                units: number(units)?,
-                times: HashMap::new(),
-                ratios: HashMap::new(),
-                counts: HashMap::new(),
-            }),
+            ["job", group, name, unit, units] => {
+                self.rows.push(Row { unit: unit.into(), units: number(units)?, ..Row::named(group, name) });
+            }
             ["time", group, name, side, time] => {
                 self.row(group, name)?.times.insert(side.into(), number(time)?);
             }
@@ -282,7 +291,12 @@ fn text(figures: &Figures) -> Result<String, std::fmt::Error> {
     Ok(text)
 }
 
-/// Writes the text and the picture of what was printed.
+/// Writes the small pictures.
+pub fn draw(figures: &Figures, folder: &Path) -> io::Result<()> {
+    bars::of(figures).try_for_each(|(file, picture)| fs::write(folder.join(file), picture))
+}
+
+/// Writes the text and the pictures of what was printed.
 pub fn write(lines: &Path, folder: &Path) -> io::Result<()> {
     let mut figures = Figures::default();
     for line in fs::read_to_string(lines)?.lines() {
@@ -291,5 +305,6 @@ pub fn write(lines: &Path, folder: &Path) -> io::Result<()> {
     }
     let text = text(&figures).map_err(io::Error::other)?;
     fs::write(folder.join("SPEED.md"), text)?;
-    fs::write(folder.join("speed.svg"), picture::of(&figures))
+    fs::write(folder.join("speed.svg"), picture::of(&figures))?;
+    draw(&figures, folder)
 }
