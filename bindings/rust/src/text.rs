@@ -18,7 +18,10 @@ pub struct Text(String);
 impl Text {
     /// The text of bytes below 128. They are tested as UTF-8 once, here; any other byte would become U+FFFD.
     pub(crate) fn new(bytes: &[u8]) -> Self {
-        Text(String::from_utf8_lossy(bytes).into_owned())
+        match std::str::from_utf8(bytes) {
+            Ok(text) => Text(text.to_owned()),
+            Err(_) => Text(String::from_utf8_lossy(bytes).into_owned()),
+        }
     }
 
     /// The text as a `str`.
