@@ -1,6 +1,7 @@
--- One answer: refusals, bytes, numbers, one card.
+-- One answer: refusals and their words, bytes, bytes made visible, numbers, one card.
 use mathlib.Core.Path.{_≡_, sym, _∙_}
 use denote.Ref.{now}
+use Rattle.escaping.specs.Escaping.{escapeOutcome}
 use Rattle.one_answer.specs.OneAnswer.{OneAnswer}
 use Rattle.refusal.proofs.Refusal.number.Reads as refusal-number-reads
 use Rattle.refusal.proofs.Fault.number.Reads as fault-number-reads
@@ -27,6 +28,8 @@ use Rattle.numbers.proofs.parse_number.Reads as parse-number-reads
 use Rattle.numerals.proofs.natural_text.Reads as natural-text-reads
 use Rattle.numerals.proofs.integer_text.Reads as integer-text-reads
 use Rattle.numerals.proofs.power_text.Reads as power-text-reads
+use Rattle.escaping.proofs.escape.Reads as escape-reads
+use Rattle.meanings.proofs.meaning.Reads as meaning-reads
 use Rattle.splitting.proofs.split.Reads as split-reads
 use Rattle.splitting.proofs.parse_string.Reads as parse-string-reads
 use Rattle.value.proofs.read_value.Reads as read-value-reads
@@ -132,6 +135,14 @@ integer-text κs a r q s t x y = x ∙ sym y
 -- `numerals::power_text`
 pub power-text : OneAnswer power-text-reads.Post (λ r s. r)
 power-text κs a r q s t x y = x ∙ sym y
+
+-- `escaping::escape`
+pub escape : OneAnswer escape-reads.Post (λ r s. escapeOutcome r (now (s .1 .0)))
+escape κs a r q s t x y = x ∙ sym y
+
+-- `meanings::meaning`
+pub meaning : OneAnswer meaning-reads.Post (λ r s. r)
+meaning κs a r q s t x y = x ∙ sym y
 
 -- `splitting::split`
 pub split : OneAnswer split-reads.Post (λ r s. r)
