@@ -1,4 +1,4 @@
--- The lines of document 01's words, in one table.
+-- The lines that the words of SPECIFICATION 13 give, in one table.
 use Prim.Native.Nat.{ℕ}
 use Prim.Native.String.{String as Quoted}
 use mathlib.Core.Path.{_≡_, refl}

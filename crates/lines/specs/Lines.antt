@@ -1,4 +1,4 @@
--- The lines that the program `cards` prints (document 01, "Readings at the edges").
+-- The lines that the program `cards` prints (SPECIFICATION 13).
 use Prim.Native.Char.{code}
 use Prim.Native.Nat.{ℕ}
 use mathlib.Core.Bool.{Bool, cond}

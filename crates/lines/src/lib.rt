@@ -1,4 +1,4 @@
-// The lines that the program `cards` prints (document 01, "Readings at the edges"), each put into a lent buffer.
+// The lines that the program `cards` prints (SPECIFICATION 13), each put into a lent buffer.
 ghost use mathlib.Core.Path.{_≡_};
 ghost use mathlib.Core.Bool.{cond};
 ghost use mathlib.Core.List.{[], _∷_, _++_};

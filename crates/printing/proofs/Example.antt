@@ -3,6 +3,7 @@ use Prim.Native.Nat.{ℕ}
 use Prim.Native.Char.{code}
 use Prim.Native.String.{String}
 use mathlib.Core.Path.{_≡_, refl}
+use mathlib.Core.Bool.{true, false}
 use mathlib.Core.List.{List, [], _∷_, _++_, map}
 use Rattle.text.specs.Bytes.{ascii, lineFeed, isSpace, isBlank, isPrintable, isDigit, isZero, shown, dToE}
 use Rattle.text.specs.Trim.{trimStart, leading, consTrimmed, trimEnd, trim}
@@ -26,7 +27,9 @@ use Rattle.finding.specs.Finding.{headerFrom, headerOf}
 use Rattle.listing.specs.Listing.{placeIn, listFrom, listOf}
 use Rattle.numerals.specs.Numerals.{digitsBefore, decimalDigits}
 use Rattle.lines.specs.Lines.{entryLine, countLine, refusedLine}
-use Rattle.printing.specs.Output.{inOrder, outputOf}
+use Rattle.escaping.specs.Escaping.{escapedByte, escaped}
+use Rattle.output.specs.Shown.{lineShown}
+use Rattle.printing.specs.Output.{inOrder, outputOf, shownOf}
 
 -- cards by their texts
 unfoldable pub cards : List String → List ℕ
@@ -63,3 +66,17 @@ unfolding cards lines isSpace isBlank isPrintable isDigit isZero shown dToE trim
     endsOpen addsNothing joinText joinComment opens joinWords joinOn lookup cardsIn isBadLength headerFrom headerOf
     placeIn listFrom listOf digitsBefore decimalDigits entryLine countLine refusedLine inOrder outputOf
 examples = refl
+
+-- a line feed in the keyword
+abbrev pub fed : List ℕ
+fed = filled (code " ") 80 (code "A" ∷ lineFeed ∷ ascii "KIT S = 'FAKE'") ++ cards ("END" ∷ [])
+
+-- as it stands, the name makes two lines; made visible, it stands on one
+pub example-fed : shownOf false fed ∷ shownOf true fed ∷ []
+    ≡ map lines (("A" ∷ "KIT S S FAKE" ∷ "1 keywords" ∷ []) ∷ ("A\\x0AKIT S S FAKE" ∷ "1 keywords" ∷ []) ∷ [])
+unfolding cards lines isSpace isBlank isPrintable isDigit isZero shown dToE trimStart leading consTrimmed trimEnd trim same stem endsWith
+    filled after scanFrom byteClass splitOf settledOf opened unopened stringOf isSign isNegative unsigned isDigits digitsValueFrom integerOf
+    readNumber startsNumber startOf ofString ofNumber valueWith valueOf hasHigh classOf otherOf continuationOf cardOf
+    endsOpen addsNothing joinText joinComment opens joinWords joinOn lookup cardsIn isBadLength headerFrom headerOf
+    placeIn listFrom listOf digitsBefore decimalDigits entryLine countLine refusedLine inOrder escapedByte escaped lineShown shownOf
+example-fed = refl
