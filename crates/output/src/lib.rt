@@ -42,10 +42,10 @@ pub fn write_visibly(fd: i32, s: &[u8]) -> Printed
     let mut at = 0;
     while at < s.len() {
         let made = escaping::escape(text::rest_of(s, at), &mut piece);
-        let Printed::Whole(_) = write(fd, text::first_of(&piece, made.put)) else {
+        let Printed::Whole(n) = write(fd, text::first_of(&piece, made.put)) else {
             return Printed::Cut;
         };
-        written += made.put;
+        written += n;
         at += made.taken;
     }
     Printed::Whole(written)
@@ -64,10 +64,10 @@ pub fn write_line(fd: i32, line: &[u8], escaped: bool) -> Printed
     let Printed::Whole(n) = write_visibly(fd, text::first_of(line, one_less(line.len()))) else {
         return Printed::Cut;
     };
-    let Printed::Whole(_) = write(fd, b"\n") else {
+    let Printed::Whole(end) = write(fd, b"\n") else {
         return Printed::Cut;
     };
-    let written = n + 1;
+    let written = n + end;
     Printed::Whole(written)
 }
 

@@ -3,10 +3,11 @@ use Prim.Native.Nat.{ℕ, _+_, _-_, _*_, _≤_}
 use native.Mathlib.Omega.{arith}
 use mathlib.Core.Path.{_≡_, sym, ap, subst, _∙_}
 use mathlib.Core.Bool.{not}
-use mathlib.Core.List.{List}
+use mathlib.Core.List.{List, [], _∷_}
 use lib.ListN.{length, take, length-take}
 use borrow.Author.Needs.{needs}
 use borrow.Author.Tests.{not-true, not-false}
+use Rattle.text.specs.Bytes.{lineFeed}
 use Rattle.escaping.specs.Escaping.{escaped}
 use Rattle.output.specs.Shown.{lineShown, IsWhole}
 use Rattle.output.proofs.Pieces.{escaped-few, counted, plain-line, visible-line}
@@ -49,11 +50,11 @@ slice-aggregate-write c = search needs
 write-requires-2 : tie.Need-write-requires-2
 write-requires-2 c κs = search needs
 
+enum-known-end : tie.Need-enum-known-end
+enum-known-end c = search needs
+
 enum-told-2 : tie.Need-enum-told-2
 enum-told-2 c = search needs
-
-enum-told-3 : tie.Need-enum-told-3
-enum-told-3 c = search needs
 
 returns-4 : tie.Need-returns-4
 returns-4 c = search needs
@@ -73,18 +74,27 @@ before c =
     ∙ ap (λ (s : List ℕ). length (escaped s)) (part .first-of .ensures)
     ∙ ap (λ (k : ℕ). length (escaped (take k line))) (part .before .one-less .ensures)
 
+-- where the bytes before the line feed were written
+abbrev visibly : tie.After-known-told2 → tie.After-n
+visibly c = c .before .before .before .before .before .before
+
+-- the line feed is one byte
+fed : (c : tie.After-known-told2) → c .before .end .given .0 .0 ≡ 1
+fed c = counted (lineFeed ∷ []) (c .before .end .given .1) (c .before .before .before .write2 .ensures)
+
 add-written : tie.Need-add-written
 add-written c =
-    let at = c .before .before .before .before .before in
+    let at = visibly c in
     let line = else1 at .before .before .args .line .now in
     let short = at .before .before .before .before .before .if2 .left in
-    record { fits = omega (arith, before at, escaped-few (take (length line - 1) line), length-take (length line - 1) line, short) }
+    record { fits = omega (arith, before at, fed c, escaped-few (take (length line - 1) line), length-take (length line - 1) line, short) }
 
 returns-5 : tie.Need-returns-5
 returns-5 c =
-    let at = c .before .before .before .before .before in
+    let at = visibly c in
     let a = else1 at .before .before .args in
-    visible-line (a .escaped) (a .line .now) (not-false (a .escaped) (else1 at .if1 .left)) (before at)
+    ap (λ (k : ℕ). at .n .given .0 .0 + k) (fed c)
+    ∙ visible-line (a .escaped) (a .line .now) (not-false (a .escaped) (else1 at .if1 .left)) (before at)
 
 pub write-line-spec : {M : Type 1} → statement M
 write-line-spec =
@@ -101,8 +111,8 @@ write-line-spec =
     returns-3
     slice-aggregate-write
     write-requires-2
+    enum-known-end
     enum-told-2
-    enum-told-3
     returns-4
     add-written
     returns-5)

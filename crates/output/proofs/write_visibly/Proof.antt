@@ -7,7 +7,7 @@ use mathlib.Core.List.{List, []}
 use lib.ListN.{length, take, drop, length-take, length-drop, length-replicate, drop-of-length-le}
 use borrow.Author.Needs.{needs}
 use Rattle.escaping.specs.Escaping.{escaped, EscapeOutcome}
-use Rattle.output.proofs.Pieces.{escaped-few, piece-counted, nothing-left}
+use Rattle.output.proofs.Pieces.{escaped-few, piece-counted, nothing-left, counted}
 use Rattle.output.proofs.write_visibly.Statement.{statement}
 use Rattle.output.proofs.write_visibly.Tie as tie
 
@@ -42,11 +42,11 @@ first-of-requires c κs = search needs
 write-requires : tie.Need-write-requires Inv-loop μ-loop
 write-requires c κs = search needs
 
+enum-known-n : tie.Need-enum-known-n Inv-loop μ-loop
+enum-known-n c = search needs
+
 enum-told : tie.Need-enum-told Inv-loop μ-loop
 enum-told c = search needs
-
-enum-told-2 : tie.Need-enum-told-2 Inv-loop μ-loop
-enum-told-2 c = search needs
 
 returns-2 : tie.Need-returns-2 Inv-loop μ-loop
 returns-2 c = tt
@@ -89,11 +89,23 @@ some c =
       omega (arith, long, left, inside c .loop-test .taken),
     )
 
+-- all of the piece was written
+wrote : (c : tie.After-known-told Inv-loop μ-loop) → c .before .n .given .0 .0 ≡ length (escaped (part (c .before .before .before)))
+wrote c =
+    let at = c .before .before .before in
+    let l = inside at .before in
+    let made-in = made at .escape .last .1 .0 in
+    let same : length made-in ≡ length (l .loop .piece) = search needs in
+    let handed = counted (at .before .first-of .result .now) (c .before .n .given .1) (at .write .ensures) in
+    let long = ap length (at .before .first-of .ensures) ∙ length-take (made at .escape .result .put) made-in in
+    let few : length (part at) ≡ min 256 (length (drop (l .loop .at) (whole at))) = length-take 256 (drop (l .loop .at) (whole at)) in
+    omega (arith, handed, long, same, l .loop .inv .2, told at .1, escaped-few (part at), few)
+
 add-written : tie.Need-add-written Inv-loop μ-loop
 add-written c =
     let at = c .before .before .before in
     let short = inside at .before .before .if1 .left in
-    record { fits = omega (arith, told at .1, escaped-few (part at), some at .1, inside at .before .loop .inv .1, short) }
+    record { fits = omega (arith, wrote c, escaped-few (part at), some at .1, inside at .before .loop .inv .1, short) }
 
 add-at : tie.Need-add-at Inv-loop μ-loop
 add-at c =
@@ -116,9 +128,9 @@ loop-again c =
     ≡ length (escaped (drop (l .loop .at + length (part at)) (whole at))) =
     ap (λ (n : ℕ). length (escaped (drop n (whole at)))) next in (
       omega (arith, next, some at .1),
-      omega (arith, told at, escaped-few (part at), v .1),
+      omega (arith, told at, wrote (c .before), escaped-few (part at), v .1),
       search needs,
-      omega (arith, told at .1, left, piece-counted (whole at) (l .loop .at) 256, v .3),
+      omega (arith, wrote (c .before), left, piece-counted (whole at) (l .loop .at) 256, v .3),
     )
 
 returns-3 : tie.Need-returns-3 Inv-loop μ-loop
@@ -142,8 +154,8 @@ write-visibly-spec =
     slice-aggregate-first-of
     first-of-requires
     write-requires
+    enum-known-n
     enum-told
-    enum-told-2
     returns-2
     add-written
     add-at
