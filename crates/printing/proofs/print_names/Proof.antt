@@ -132,7 +132,7 @@ add-printed c =
     record { fits = omega (arith, written-few c, at c .loop .inv .small, few (start (at c)), inside c .loop-test .taken) }
 
 add-k : tie.Need-add-k Inv-loop μ-loop
-add-k c = search needs
+add-k c = record { fits = omega (arith, few (start (at c)), inside c .loop-test .taken) }
 
 loop-less : tie.Need-loop-less Inv-loop μ-loop
 loop-less c = search needs
