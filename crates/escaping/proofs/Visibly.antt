@@ -47,7 +47,8 @@ visible (b ∷ s) e =
     both (escapedByte b) (escaped s) (byte-shown b (ltb-true b 256 (p .0))) (visible s (p .1))
 
 -- a line feed, an escape and the bytes beside them
-pub rows : map escaped ((65 ∷ 10 ∷ 66 ∷ []) ∷ (27 ∷ 31 ∷ 32 ∷ 126 ∷ 127 ∷ []) ∷ (0 ∷ 159 ∷ 250 ∷ 255 ∷ []) ∷ [] ∷ [])
+pub rows : map escaped
+    ((65 ∷ 10 ∷ 66 ∷ []) ∷ (27 ∷ 31 ∷ 32 ∷ 126 ∷ 127 ∷ []) ∷ (0 ∷ 159 ∷ 250 ∷ 255 ∷ []) ∷ [] ∷ [])
     ≡ map ascii ("A\\x0AB" ∷ "\\x1B\\x1F ~\\x7F" ∷ "\\x00\\x9F\\xFA\\xFF" ∷ "" ∷ [])
 unfolding escaped escapedByte isPrintable
 rows = refl

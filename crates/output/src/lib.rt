@@ -51,7 +51,8 @@ pub fn write_visibly(fd: i32, s: &[u8]) -> Printed
     Printed::Whole(written)
 }
 
-// Writes a line, which ends in a line feed: as it stands, or made visible up to there. One that is longer than 65,536 bytes is not made visible.
+// Writes a line, which ends in a line feed: as it stands, or made visible up to there. One that is longer than 65,536 bytes is not
+// made visible.
 pub fn write_line(fd: i32, line: &[u8], escaped: bool) -> Printed
     ensures { λ r. ⌜ IsWhole r (lineShown escaped (now (line .entry))) ⌝ }
 {

@@ -125,7 +125,9 @@ module _ (h : List ℕ) (end : ℕ) (a : headerOf h ≡ Accepted end) where
       let firsts = take (listOf h .count) (listOf h .first) in
       let named : ℕ → List ℕ = λ i. nameOf (getD (rolesOf h) i neutral) in
       let lined : List ℕ → List ℕ = λ n. lineFor n (lookup n (rolesOf h)) in
-      length-map (namesListed h) lined ∙ length-map firsts named ∙ length-take-le (listOf h .count) (listOf h .first) (first-long h end a)
+      length-map (namesListed h) lined
+      ∙ length-map firsts named
+      ∙ length-take-le (listOf h .count) (listOf h .first) (first-long h end a)
 
   module _ (k : ℕ) (p : k < listOf h .count) where
     pub taken : PlaceTaken h k

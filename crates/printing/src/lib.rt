@@ -1,5 +1,5 @@
-// Prints a header's names, each with its kind and reading, and their count; or its refusal (SPECIFICATION 13). Each line is proved up to its
-// write, and none is left out: the buffers hold every line that a header can give, and a write that fails is answered.
+// Prints a header's names, each with its kind and reading, and their count; or its refusal (SPECIFICATION 13). Each line is proved up
+// to its write, and none is left out: the buffers hold every line that a header can give, and a write that fails is answered.
 ghost use mathlib.Core.Path.{_≡_};
 ghost use mathlib.Core.List.{[], _++_, map};
 ghost use Prim.Native.Nat.{_<_, _≤_};
@@ -65,7 +65,8 @@ fn print_names<'a>(
     escaped: bool,
 ) -> Printed
     requires { ⌜ IsListed (now header) (now first) (now last) × (count ≡ listOf (now header) .count) ⌝ }
-    ensures { λ r. ⌜ IsWhole r (inOrder (map (lineShown escaped) (nameLines (now (header .entry)))) ++ lineShown escaped (countLine count)) ⌝ }
+    ensures { λ r. ⌜ IsWhole r (inOrder (map (lineShown escaped) (nameLines (now (header .entry))))
+        ++ lineShown escaped (countLine count)) ⌝ }
 {
     let mut text = [0u8; 51200];
     // For an entry's comment, which is not printed, and then for its line.

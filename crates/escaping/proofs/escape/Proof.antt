@@ -26,11 +26,12 @@ first-of-requires c κs = search needs
 loop-holds : tie.Need-loop-holds Inv-loop μ-loop
 loop-holds c =
     let a = c .before .before .before .args in
-    let long : length (c .first-of .result .now) ≡ length (take (length (a .out .now) / 4) (a .s .now)) = ap length (c .first-of .ensures) in (
+    let quarter = length (a .out .now) / 4 in
+    let long : length (c .first-of .result .now) ≡ length (take quarter (a .s .now)) = ap length (c .first-of .ensures) in (
       omega arith,
       omega arith,
       refl,
-      omega (arith, long, length-take (length (a .out .now) / 4) (a .s .now)),
+      omega (arith, long, length-take quarter (a .s .now)),
       refl,
       omega arith,
     )

@@ -58,7 +58,8 @@ returns-2 c =
     let s = asked .before .before in
     let b = s .args .b in
     let is = by-number b (sym (asked .is-printable .ensures) ∙ high .before .if1 .left) in
-    let digits : _≡_ {A = List ℕ} (high .hex-digit .result ∷ low .hex-digit2 .result ∷ []) (hexDigit (b / 16) ∷ hexDigit (b % 16) ∷ []) =
+    let shown : List ℕ = hexDigit (b / 16) ∷ hexDigit (b % 16) ∷ [] in
+    let digits : _≡_ {A = List ℕ} (high .hex-digit .result ∷ low .hex-digit2 .result ∷ []) shown =
     ap₂ (λ (x y : ℕ). x ∷ y ∷ []) (high .hex-digit .ensures) (low .hex-digit2 .ensures) in (
       sym (ap length is),
       put .put-at2 .ensures

@@ -29,12 +29,16 @@ count-requires c κs = search needs
 returns : tie.Need-returns Inv-loop μ-loop
 returns c = tt
 
+-- the loop where a write took its bytes
+abbrev at : tie.After-count Inv-loop μ-loop → tie.At-loop Inv-loop μ-loop
+at c = c .before .before .before .before
+
 -- no more is taken than is left
 took : (c : tie.After-count Inv-loop μ-loop)
-    → c .before .before .before .before .loop .done + c .count .result ≤ length (c .before .before .before .before .before .before .args .s .now)
+    → at c .loop .done + c .count .result ≤ length (at c .before .before .args .s .now)
 took c =
     let rest = c .before .before in
-    let l = rest .before .before in
+    let l = at c in
     let s = l .before .before .args .s .now in
     let left : length (rest .rest-of .result .now) ≡ length s - l .loop .done =
     ap length (rest .rest-of .ensures) ∙ length-drop (l .loop .done) s in

@@ -20,8 +20,8 @@ write-requires c κs = search needs
 returns : tie.Need-returns
 returns c =
     let a = c .before .before .before .args in
-    subst (λ (s : List ℕ). IsWhole (c .write .result) s) (sym (plain-line (a .escaped) (a .line .now) (not-true (a .escaped) (c .before .if1 .taken))))
-    (c .write .ensures)
+    let plain = plain-line (a .escaped) (a .line .now) (not-true (a .escaped) (c .before .if1 .taken)) in
+    subst (λ (s : List ℕ). IsWhole (c .write .result) s) (sym plain) (c .write .ensures)
 
 returns-2 : tie.Need-returns-2
 returns-2 c = search needs

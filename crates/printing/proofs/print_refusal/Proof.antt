@@ -27,8 +27,8 @@ returns c =
     let part = c .before in
     let made = part .before .before .before in
     let t = made .before .before .args .escaped in
-    subst (λ (s : List ℕ). IsWhole (c .write-line .result) (lineShown t s)) (part .first-of .ensures ∙ made .refused-part .ensures .content)
-    (c .write-line .ensures)
+    let line = part .first-of .ensures ∙ made .refused-part .ensures .content in
+    subst (λ (s : List ℕ). IsWhole (c .write-line .result) (lineShown t s)) line (c .write-line .ensures)
 
 pub print-refusal-spec : {M : Type 1} → statement M
 print-refusal-spec =
