@@ -5,18 +5,18 @@ use Prim.Native.Nat.{ℕ, _<_, _≤_}
 use mathlib.Core.Path.{_≡_}
 use mathlib.Core.List.{List, [], map}
 use mathlib.Core.Option.{some}
-use lib.ListN.{getD, take, drop}
+use lib.ListN.{length, getD, take, drop}
 use Rattle.refusal.specs.declared.Refusal.the-variants as R
-use Rattle.refusal.specs.Numbers.{faultOf}
+use Rattle.refusal.specs.Numbers.{numberOf, faultOf}
 use Rattle.roles.specs.Roles.{Held, Role, entry, neutral}
-use Rattle.roles.specs.Cards.{rolesOf}
+use Rattle.roles.specs.Cards.{rolesOf, cardCount}
 use Rattle.joining.specs.Lookup.{lookup}
 use Rattle.finding.specs.declared.Stop.{Stop}
 use Rattle.finding.specs.declared.Header.the-variants.{Accepted, Refused}
 use Rattle.finding.specs.Finding.{headerOf, lastOf}
 use Rattle.entries.specs.declared.LookupAnswer.the-variants as L
 use Rattle.entries.specs.Answers.{untouched, given, lookupOf, entryHead, entryAt, entryOf}
-use Rattle.listing.specs.Listing.{free, nameOf, empty, tabled, listOf, placeOfEntry}
+use Rattle.listing.specs.Listing.{places, free, nameOf, empty, tabled, listOf, placeOfEntry}
 use Rattle.naming.specs.Naming.{nameWritten, nameAt}
 use Rattle.agreeing.specs.Firsts.{firstsOf, lastsOf}
 
@@ -26,6 +26,16 @@ abbrev pub Contents : Type 0
 Contents =
     (h : List ℕ) (end : ℕ) → headerOf h ≡ Accepted end
     → listOf h ≡ tabled (Accepted end) (record { first = firstsOf (rolesOf h); last = lastsOf (rolesOf h) })
+
+-- every name has a place: an accepted header has no more names than cards, and no more cards than places
+abbrev pub NamesFit : Type 0
+NamesFit =
+    (h : List ℕ) (end : ℕ) → headerOf h ≡ Accepted end
+    → (listOf h .count ≤ cardCount (length h)) × (cardCount (length h) ≤ places)
+
+-- the list refuses a header by a number up to 10, so none by 11
+abbrev pub UpToTen : Type 0
+UpToTen = (h : List ℕ) (s : Stop) → listOf h .header ≡ Refused s → numberOf (s .fault .why) ≤ 10
 
 -- what a name is answered is the entry at the last card that bears it: none where no card does
 abbrev pub ByLast : Type 0

@@ -3,7 +3,6 @@ use Prim.Native.Nat.{ℕ, zero, suc, _+_, _-_, _/_, _≤_, _<_}
 use native.Mathlib.Nat.{add-assoc}
 use native.Mathlib.Omega.{arith}
 use mathlib.Core.Path.{_≡_, refl, sym, ap, ap₂, subst, _∙_}
-use mathlib.Core.Bool.{Bool, true, false, cond, _&&_}
 use mathlib.Core.List.{List, [], _∷_, _++_, map}
 use mathlib.Core.Option.{Option, none, some}
 use borrow.Author.Tests.{le-leb}
@@ -16,10 +15,10 @@ use Rattle.card.specs.declared.CardRead.{CardRead}
 use Rattle.card.specs.Cards.{cardOf}
 use Rattle.roles.specs.declared.Role.{Role as Told}
 use Rattle.roles.specs.declared.Role.the-variants as T
-use Rattle.roles.specs.Roles.{Held, Role, entry, more, neutral, last, refused, roleBy, roleIn, roleRead, roleOf}
+use Rattle.roles.specs.Roles.{Held, Role, entry, neutral, last, roleBy, roleIn, roleRead, roleOf}
 use Rattle.roles.specs.Cards.{rolesOf, cardNo, roleNo, cardAt}
 use Rattle.roles.proofs.Cards.{role-count}
-use Rattle.roles.proofs.Counting.{good-cards, card-here}
+use Rattle.roles.proofs.Counting.{card-here}
 use Rattle.joining.specs.Lookup.{lookup}
 use Rattle.finding.specs.declared.Stop.{Stop}
 use Rattle.finding.specs.declared.Header.{Header}
@@ -33,9 +32,10 @@ use Rattle.listing.specs.declared.Listing.{Listing}
 use Rattle.listing.specs.Listing.{places, free, nameOf, listOf, placeOfEntry}
 use Rattle.listing.proofs.Bearing.{role-is}
 use Rattle.lines.specs.Lines.{entryLine}
-use Rattle.agreeing.specs.Firsts.{isAmong, firstsFrom, firstsOf, lastsOf}
+use Rattle.agreeing.specs.Firsts.{firstsOf, lastsOf}
 use Rattle.agreeing.specs.Agreeing.{StandsAt, PlaceTaken, FoundIn, namesListed}
 use Rattle.agreeing.proofs.Agreed.{agreement, each-taken, each-standing, contents}
+use Rattle.agreeing.proofs.Fitting.{names-fit}
 use Rattle.agreeing.proofs.Naming.{at-map, filled-long, first-long, name-kth}
 use Rattle.bounds.specs.Longest.{longestText, longestRemark, Short}
 use Rattle.bounds.proofs.Joined.{each-short}
@@ -66,21 +66,6 @@ in-order-next (l ∷ ls) (suc k) p =
 
 pub in-order-all : (ls : List (List ℕ)) (k : ℕ) → k ≡ length ls → inOrder (take k ls) ≡ inOrder ls
 in-order-all ls k e = ap (λ (n : ℕ). inOrder (take n ls)) e ∙ ap inOrder (take-length ls)
-
--- no more names than cards
-few-firsts : (seen : List (List ℕ)) (rs : List Role) (i : ℕ) → length (firstsFrom seen rs i) ≤ length rs
-unfolding firstsFrom
-few-firsts seen [] i = omega arith
-few-firsts seen (entry n v ∷ rs) i = go (isAmong n seen) (few-firsts seen rs (suc i)) (few-firsts (n ∷ seen) rs (suc i))
-  where
-    go : (b : Bool) → length (firstsFrom seen rs (suc i)) ≤ length rs → length (firstsFrom (n ∷ seen) rs (suc i)) ≤ length rs
-        → length (cond b (firstsFrom seen rs (suc i)) (i ∷ firstsFrom (n ∷ seen) rs (suc i))) ≤ suc (length rs)
-    go true a b = omega arith
-    go false a b = omega arith
-few-firsts seen (more t c ∷ rs) i = omega (arith, few-firsts seen rs (suc i))
-few-firsts seen (neutral ∷ rs) i = omega (arith, few-firsts seen rs (suc i))
-few-firsts seen (last ∷ rs) i = omega arith
-few-firsts seen (refused f ∷ rs) i = omega (arith, few-firsts seen rs (suc i))
 
 -- ---- a card that is an entry bears its name
 entry-named : (t : Told) (r : CardRead) (n : List ℕ) (v : Held) → roleIn t r ≡ entry n v → bytesOf (r .name) ≡ n
@@ -115,9 +100,7 @@ module _ (h : List ℕ) (end : ℕ) (a : headerOf h ≡ Accepted end) where
       omega (arith, count, last, same, filled-long free places (lastsOf (rolesOf h)))
 
   pub few-names : listOf h .count ≤ 720
-  few-names =
-      let count : listOf h .count ≡ length (firstsOf (rolesOf h)) = ap (λ (x : Listing). x .count) (contents h end a) in
-      omega (arith, count, few-firsts [] (rolesOf h) 0, role-count h, good-cards (length h) (accepted-good h end a))
+  few-names = let fit = names-fit h end a in omega (arith, fit .0, fit .1)
 
   -- a line for each name
   pub as-many : length (nameLines h) ≡ listOf h .count
