@@ -699,7 +699,7 @@ static void test_meanings(void)
     for (int answer = 0; answer <= 255; answer++) {
         const char *words = widrekas_meaning((uint8_t)answer);
         CHECK(strlen(words) > 0 && strlen(words) <= 80);
-        int known = answer <= WIDREKAS_BAD_CURSOR || answer >= WIDREKAS_NOTHING_LEFT;
+        int known = (answer <= WIDREKAS_BAD_CURSOR && answer != 11) || answer >= WIDREKAS_NOTHING_LEFT;
         CHECK((strcmp(words, "no such answer") == 0) == !known);
         for (int other = 0; known && other < answer; other++) {
             CHECK(strcmp(words, widrekas_meaning((uint8_t)other)) != 0);

@@ -71,7 +71,7 @@ enum widrekas_refusal {
     WIDREKAS_EXTENSION_NOT_QUOTED = 8, /* an XTENSION text is not within quotes */
     WIDREKAS_HEADER_LENGTH = 9,        /* the header's length is 0, not a multiple of 80, or above 57,600 */
     WIDREKAS_NO_END = 10,              /* there is no END card */
-    WIDREKAS_TABLE_FULL = 11,          /* the name table is full; no header meets it */
+    /* 11 is a gap: it would say that the name table is full, and no header can fill it */
     WIDREKAS_NAME_NOT_FOUND = 12,      /* no entry bears the name, or stands at the card */
     WIDREKAS_BUFFER_SHORT = 13,        /* a lent buffer is shorter than the text for it */
     WIDREKAS_LIMITS = 14,              /* nx, nblock, the width or the tile's length is outside its limits */
@@ -263,7 +263,6 @@ static inline const char *widrekas_meaning(uint8_t answer)
     case 8: return "the XTENSION value is not within quotes";
     case 9: return "the header's length is 0, no multiple of 80, or above 57,600";
     case 10: return "the header has no END card";
-    case 11: return "the name table is full";
     case 12: return "no entry bears the name or stands at the card";
     case 13: return "a lent buffer is shorter than the text for it";
     case 14: return "the tile's pixels, block, width or length is outside its limits";

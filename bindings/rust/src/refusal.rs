@@ -2,7 +2,8 @@
 
 use std::fmt;
 
-/// Why an input was not read: the refusals of the project's docs/REFUSALS.md, by their names and numbers.
+/// Why an input was not read: the refusals of the project's docs/REFUSALS.md, by their names and numbers. 11 is a gap: it would say
+/// that the name table is full, and no header can fill it.
 #[derive(Clone, Copy, Debug, PartialEq, Eq, PartialOrd, Ord, Hash)]
 #[non_exhaustive]
 pub enum Reason {
@@ -26,8 +27,6 @@ pub enum Reason {
     HeaderLength = 9,
     /// The header has no END card.
     NoEnd = 10,
-    /// The name table is full. No header meets it.
-    TableFull = 11,
     /// No entry bears the name.
     NameNotFound = 12,
     /// A lent buffer is shorter than the text for it. This crate lends enough.
@@ -45,8 +44,8 @@ pub enum Reason {
 }
 
 impl Reason {
-    /// All of them, in the order of their numbers, which begin at 1.
-    const ALL: [Reason; 18] = [
+    /// All of them, in the order of their numbers.
+    const ALL: [Reason; 17] = [
         Reason::HighByte,
         Reason::OddByte,
         Reason::StringNotClosed,
@@ -57,7 +56,6 @@ impl Reason {
         Reason::ExtensionNotQuoted,
         Reason::HeaderLength,
         Reason::NoEnd,
-        Reason::TableFull,
         Reason::NameNotFound,
         Reason::BufferShort,
         Reason::Limits,
@@ -67,12 +65,12 @@ impl Reason {
         Reason::BadCursor,
     ];
 
-    /// The reason with a number, 1 to 18; none for any other.
+    /// The reason with a number, 1 to 18 without 11; none for any other.
     pub fn from_number(number: u8) -> Option<Reason> {
-        Reason::ALL.get(usize::from(number).checked_sub(1)?).copied()
+        Reason::ALL.into_iter().find(|reason| reason.number() == number)
     }
 
-    /// The number, 1 to 18.
+    /// The number, 1 to 18 without 11.
     pub fn number(self) -> u8 {
         self as u8
     }
@@ -90,7 +88,6 @@ impl Reason {
             Reason::ExtensionNotQuoted => "the XTENSION value is not within quotes",
             Reason::HeaderLength => "the header's length is 0, no multiple of 80, or above 57,600",
             Reason::NoEnd => "the header has no END card",
-            Reason::TableFull => "the name table is full",
             Reason::NameNotFound => "no entry bears the name or stands at the card",
             Reason::BufferShort => "a lent buffer is shorter than the text for it",
             Reason::Limits => "the tile's pixels, block, width or length is outside its limits",
@@ -140,7 +137,7 @@ impl Refusal {
         self.reason
     }
 
-    /// The reason's number, 1 to 18.
+    /// The reason's number, 1 to 18 without 11.
     pub fn number(&self) -> u8 {
         self.reason.number()
     }

@@ -25,8 +25,8 @@ fn reasons_have_the_numbers_names_and_words_of_the_page() {
     let reasons: Vec<Reason> = (1..=18).filter_map(Reason::from_number).collect();
     let row = |reason: &Reason| (reason.number(), format!("{reason:?}"), reason.meaning().to_string());
     assert_eq!(reasons.iter().map(row).collect::<Vec<_>>(), rows());
-    assert_eq!([0, 19, 254, 255].map(Reason::from_number), [None; 4]);
-    assert_eq!(reasons.iter().map(|reason| reason.meaning()).collect::<HashSet<_>>().len(), 18);
+    assert_eq!([0, 11, 19, 254, 255].map(Reason::from_number), [None; 5]);
+    assert_eq!(reasons.iter().map(|reason| reason.meaning()).collect::<HashSet<_>>().len(), 17);
     for reason in reasons {
         assert!(!reason.meaning().is_empty() && reason.meaning().len() <= 80);
         assert_eq!(reason.to_string(), format!("refused {}: {}", reason.number(), reason.meaning()));

@@ -27,13 +27,13 @@ use Rattle.entries.specs.Answers.{LookupOutcome, leftBy, foundAs, untouched, wr
 use Rattle.entries.specs.Answers.{entryAt, entryFrom, entryOf}
 use Rattle.entries.proofs.Looking.{accepted-good, last-found, last-read}
 use Rattle.listing.specs.declared.Listing.{Listing}
-use Rattle.listing.specs.Listing.{places, free, Table, empty, nameOf, placeIn, tabled, byListed, byHeader, listOf, placeOfEntry}
+use Rattle.listing.specs.Listing.{places, free, Table, empty, nameOf, placeIn, tabled, byHeader, listOf, placeOfEntry}
 use Rattle.agreeing.specs.Firsts.{isAmong, firstsOf, numberAt, lastNumber, lastsOf}
 use Rattle.agreeing.specs.Agreeing.{Contents, ByLast, StandsAt, StandsIn, Agreement, EachTaken, Once, FoundIn}
 use Rattle.agreeing.specs.Agreeing.{EachStanding, EachFound, Missing, OnlyMissing, SameRefusal}
 use Rattle.agreeing.proofs.Places.{lastAt, nameNo, placeOfName, lastInTable, hit-under, hit-named}
 use Rattle.agreeing.proofs.Tables.{EntryNo, Sound, Seen, Comes, comes}
-use Rattle.agreeing.proofs.Ending.{until-end, end-under}
+use Rattle.agreeing.proofs.Ending.{until-end}
 
 sound-empty : (roles : List Role) → Sound roles empty
 sound-empty roles = record { alike = refl; own = λ k p. absurd (omega arith); entries = λ k p. absurd (omega arith) }
@@ -74,8 +74,7 @@ module _ (h : List ℕ) (end : ℕ) (a : headerOf h ≡ Accepted end) where
 
   built : Comes roles roles [] end 0 empty
   built =
-      comes roles (until-end h end a) [] 0 empty refl (sound-empty roles) (omega arith) (omega (arith, end-under h end a))
-      (seen-empty roles)
+      comes roles (until-end h end a) [] 0 empty refl (sound-empty roles) (seen-empty roles)
 
   abbrev table : Table
   table = built .u
@@ -89,7 +88,7 @@ module _ (h : List ℕ) (end : ℕ) (a : headerOf h ≡ Accepted end) where
 
   list-is : listOf h ≡ tabled (Accepted end) table
   unfolding listOf
-  list-is = ap (λ (x : Header). byHeader x roles) a ∙ ap (byListed end) (built .is)
+  list-is = ap (λ (x : Header). byHeader x roles) a ∙ ap (tabled (Accepted end)) (built .is)
 
   -- the last entry of a name, by its place in the table
   last-is : (name : List ℕ) → lastInTable roles table name ≡ lastOf name roles

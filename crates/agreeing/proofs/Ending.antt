@@ -1,21 +1,17 @@
 -- END of an accepted header, by the roles of its cards.
-use Prim.Native.Nat.{ℕ, suc, _+_, _≤_}
+use Prim.Native.Nat.{ℕ, suc, _+_}
 use native.Mathlib.Omega.{arith}
 use mathlib.Core.Path.{_≡_, sym, ap, subst, _∙_}
 use mathlib.Core.Bool.{Bool, cond}
 use mathlib.Core.List.{List, [], _∷_}
-use lib.ListN.{length}
 use Rattle.refusal.specs.declared.Refusal.the-variants as R
 use Rattle.refusal.specs.Numbers.{faultOf}
 use Rattle.roles.specs.Roles.{Role, entry, more, neutral, last, refused}
 use Rattle.roles.specs.Cards.{rolesOf}
-use Rattle.roles.proofs.Cards.{role-count}
-use Rattle.roles.proofs.Counting.{good-cards}
 use Rattle.finding.specs.declared.Header.the-variants.{Accepted, Refused}
 use Rattle.finding.specs.Finding.{stopAt, headerFrom, headerOf}
 use Rattle.entries.proofs.Looking.{accepted-good}
-use Rattle.listing.specs.Listing.{places}
-use Rattle.agreeing.proofs.Tables.{Until, here, past-entry, past-more, past-neutral, until-under}
+use Rattle.agreeing.proofs.Tables.{Until, here, past-entry, past-more, past-neutral}
 
 record Ends (rs : List Role) (i e : ℕ) : Type 0 where
   pub k : ℕ
@@ -50,6 +46,3 @@ module _ (h : List ℕ) (end : ℕ) (a : headerOf h ≡ Accepted end) where
       let r : Ends (rolesOf h) 0 end = ends (rolesOf h) 0 end from-roles in
       let z : r .k ≡ end = omega (arith, r .is) in
       subst (λ (k : ℕ). Until k (rolesOf h)) z (r .until)
-
-  pub end-under : end ≤ places
-  end-under = omega (arith, until-under until-end, role-count h, good-cards (length h) (accepted-good h end a))

@@ -6,7 +6,6 @@ use mathlib.Core.Path.{_≡_, refl, sym, ap, subst, _∙_}
 use mathlib.Core.Bool.{Bool, true, false, cond}
 use mathlib.Core.List.{List, [], _∷_, map}
 use lib.ListN.{length, take, drop}
-use Rattle.refusal.specs.declared.Fault.{Fault}
 use Rattle.refusal.specs.declared.Refusal.the-variants as R
 use Rattle.refusal.specs.Numbers.{numberOf, faultOf}
 use Rattle.text.specs.declared.Text.{Text}
@@ -32,7 +31,6 @@ use Rattle.splitting.specs.Split.{partsAt, splitOf}
 use Rattle.splitting.specs.Strings.{isQuote, reads, stringRefused, opened, unopened, stringOf}
 use Rattle.value.specs.declared.ValueAnswer.{ValueAnswer}
 use Rattle.value.specs.declared.ValueAnswer.the-variants as U
-use Rattle.value.specs.declared.ValueRead.{ValueRead}
 use Rattle.value.specs.declared.Start.{Start}
 use Rattle.value.specs.declared.Start.the-variants as B
 use Rattle.value.specs.Values.{startOf, byQuotes, ofString, ofNumber, byStart, byBytes, valueWith, byParts, valueOf}
@@ -44,13 +42,12 @@ use Rattle.card.specs.declared.Class.{Class}
 use Rattle.card.specs.declared.Class.the-variants as K
 use Rattle.card.specs.Keywords.{keywordOf, classOf, hasHigh, dottedName}
 use Rattle.card.specs.Cards.{cardRefused, cardAs, remarkOf, spaceOr, emptyOf, stringCard, continued, continuationOf}
-use Rattle.card.specs.Cards.{isWithinQuotes, inside, quotedCard, extended, extensionOf, ofAnswer, ofValue, named, byEquals, hierarchOf}
+use Rattle.card.specs.Cards.{isWithinQuotes, quotedCard, extended, extensionOf, ofAnswer, ofValue, named, byEquals, hierarchOf}
 use Rattle.card.specs.Cards.{otherOf, byClass, cardOf}
 use Rattle.roles.specs.Roles.{Role, entry, more, neutral, last, refused, roleBy, roleIn, roleOf}
 use Rattle.roles.specs.Cards.{cardsOf, rolesOf, isBadLength, cardCount}
 use Rattle.roles.proofs.Cards.{role-count}
 use Rattle.roles.proofs.Counting.{good-cards}
-use Rattle.finding.specs.declared.Stop.{Stop}
 use Rattle.finding.specs.declared.Header.{Header}
 use Rattle.finding.specs.declared.Header.the-variants.{Accepted, Refused}
 use Rattle.finding.specs.Finding.{stopAt, headerFrom, headerOf}
@@ -86,7 +83,7 @@ names-fit h end a =
     (omega (arith, cards, count, few-firsts [] (rolesOf h) 0, role-count h), omega (arith, cards, good-cards (length h) good))
 
 -- ---- the numbers of refusals
--- the number of an answer: 0 where it is none of a refusal
+-- the number of an answer's refusal; 0 where nothing is refused
 abbrev splitNumber : SplitAnswer → ℕ
 splitNumber H.Bare = 0
 splitNumber H.Commented = 0
@@ -153,11 +150,14 @@ module _ (v : Text) (raw : List ℕ) (commented : Bool) (comment : Text) where
 
 value-ten : (raw : List ℕ) → valueNumber (valueOf raw .answer) ≤ 10
 unfolding valueOf
-value-ten raw = go (splitOf raw .answer) (split-ten raw)
+value-ten raw = go (h .answer) (split-ten raw)
   where
-    go : (a : SplitAnswer) → splitNumber a ≤ 10 → valueNumber (byParts a (splitOf raw .value) raw (splitOf raw .comment) .answer) ≤ 10
-    go H.Bare p = with-ten (splitOf raw .value) raw false (splitOf raw .comment)
-    go H.Commented p = with-ten (splitOf raw .value) raw true (splitOf raw .comment)
+    h : Halves
+    h = splitOf raw
+
+    go : (a : SplitAnswer) → splitNumber a ≤ 10 → valueNumber (byParts a (h .value) raw (h .comment) .answer) ≤ 10
+    go H.Bare p = with-ten (h .value) raw false (h .comment)
+    go H.Commented p = with-ten (h .value) raw true (h .comment)
     go (H.Refused f) p = p
 
 -- ---- cards

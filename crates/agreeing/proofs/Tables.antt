@@ -4,7 +4,7 @@ use native.Mathlib.Omega.{arith}
 use mathlib.Core.Path.{_≡_, refl, sym, ap, ap₂, subst, _∙_}
 use mathlib.Core.Bool.{Bool, true, false, cond}
 use mathlib.Core.List.{List, [], _∷_, _++_, append-assoc, append-nil}
-use borrow.Author.Tests.{lt-ltb, ltb-true, ltb-false}
+use borrow.Author.Tests.{ltb-true, ltb-false}
 use lib.Dec.{ltb}
 use lib.ListN.{length, getD, take, drop, length-append, length-set, List·getD-append}
 use lib.Seq.{getD-at}
@@ -12,10 +12,10 @@ use Rattle.text.specs.declared.Place.{Place}
 use Rattle.text.specs.declared.Place.the-variants.{At, Nowhere}
 use Rattle.text.specs.Same.{same}
 use Rattle.roles.specs.Roles.{Comment, Held, Role, entry, more, neutral, last}
+use Rattle.roles.proofs.Cards.{role-first}
 use Rattle.finding.specs.Finding.{lastFrom}
 use Rattle.entries.proofs.Looking.{drop-next}
-use Rattle.listing.specs.Listing.{places, free, Table, nameOf, listed, full, putAgain, putNew, put, listFrom}
-use Rattle.listing.proofs.Bearing.{role-first}
+use Rattle.listing.specs.Listing.{free, Table, nameOf, putAgain, putNew, put, listFrom}
 use Rattle.agreeing.specs.Firsts.{isAmong, firstsFrom}
 use Rattle.agreeing.proofs.Places.{same-self, isPlace, orPlace, ifNamed, nameNo, placeOfName, lastInTable, place-put}
 use Rattle.agreeing.proofs.Places.{last-known, last-new}
@@ -49,7 +49,7 @@ pub record Seen (roles : List Role) (seen : List (List ℕ)) (t : Table) : Type 
 -- the cards rs, END among them at k, put into a table t
 pub record Comes (roles rs : List Role) (seen : List (List ℕ)) (k i : ℕ) (t : Table) : Type 0 where
   pub u : Table
-  pub is : listFrom roles (take k rs) i t ≡ listed u
+  pub is : listFrom roles (take k rs) i t ≡ u
   pub sound : Sound roles u
   pub lasts : (name : List ℕ) → lastInTable roles u name ≡ lastFrom name rs i (lastInTable roles t name)
   pub firsts : u .first ≡ t .first ++ firstsFrom seen rs i
@@ -146,23 +146,19 @@ module _ (roles : List Role) (t : Table) (S : Sound roles t) where
     on-known j e r =
         record {
           u = r .u;
-          is = ap (λ (p : Place). put p i t (listFrom roles (take k rs) (suc i))) e ∙ r .is;
+          is = ap (λ (p : Place). listFrom roles (take k rs) (suc i) (put p i t)) e ∙ r .is;
           sound = r .sound;
           lasts = λ name. r .lasts name ∙ ap (lastFrom name rs (suc i)) (last-known roles t (S .alike) n i j e name);
           firsts = r .firsts ∙ firsts-by (At j) e;
         }
 
-    on-new : nameNo roles i ≡ n → length (t .first) < places → placeOfName roles (t .first) n ≡ Nowhere
+    on-new : nameNo roles i ≡ n → placeOfName roles (t .first) n ≡ Nowhere
         → Comes roles rs (n ∷ seen) k (suc i) (putNew t i) → Comes roles (entry n v ∷ rs) seen (suc k) i t
     unfolding listFrom lastFrom
-    on-new is room e r =
-        let then = listFrom roles (take k rs) (suc i) in
+    on-new is e r =
         record {
           u = r .u;
-          is =
-              ap (λ (p : Place). put p i t then) e
-              ∙ ap (λ (b : Bool). cond b (then (putNew t i)) (full i)) (lt-ltb (length (t .first)) places room)
-              ∙ r .is;
+          is = ap (λ (p : Place). listFrom roles (take k rs) (suc i) (put p i t)) e ∙ r .is;
           sound = r .sound;
           lasts = λ name. r .lasts name ∙ ap (lastFrom name rs (suc i)) (last-new roles t (S .alike) n i is e name);
           firsts = r .firsts ∙ append-assoc (t .first) (i ∷ []) (firstsFrom (n ∷ seen) rs (suc i)) ∙ firsts-by Nowhere e;
@@ -183,9 +179,9 @@ module _ (roles : List Role) (t : Table) (S : Sound roles t) where
   on-end rs seen i = record { u = t; is = refl; sound = S; lasts = λ name. refl; firsts = sym (append-nil (t .first)) }
 
 pub comes : (roles : List Role) {k : ℕ} {rs : List Role} → Until k rs → (seen : List (List ℕ)) (i : ℕ) (t : Table) → drop i roles ≡ rs
-    → Sound roles t → length (t .first) ≤ i → i + k ≤ places → Seen roles seen t → Comes roles rs seen k i t
-comes roles (here {rs}) seen i t at S small few s = on-end roles t S rs seen i
-comes roles (past-entry n v {k} {rs} until) seen i t at S small few s =
+    → Sound roles t → Seen roles seen t → Comes roles rs seen k i t
+comes roles (here {rs}) seen i t at S s = on-end roles t S rs seen i
+comes roles (past-entry n v {k} {rs} until) seen i t at S s =
     go (placeOfName roles (t .first) n) refl
     (λ (x : List (List ℕ)) (u : Table). comes roles until x (suc i) u (drop-next roles i rs (entry n v) at))
   where
@@ -193,27 +189,19 @@ comes roles (past-entry n v {k} {rs} until) seen i t at S small few s =
     role = role-first roles i (entry n v) rs at
 
     go : (p : Place) → placeOfName roles (t .first) n ≡ p
-        → ((x : List (List ℕ)) (u : Table) → Sound roles u → length (u .first) ≤ suc i → suc i + k ≤ places → Seen roles x u
-        → Comes roles rs x k (suc i) u)
+        → ((x : List (List ℕ)) (u : Table) → Sound roles u → Seen roles x u → Comes roles rs x k (suc i) u)
         → Comes roles (entry n v ∷ rs) seen (suc k) i t
     go (At j) e then =
         let sound = sound-known roles t S j i in
         on-known roles t S n v rs seen k i s j e
-        (then seen (putAgain t j i) sound (omega arith) (omega arith) (record { names = s .names }))
+        (then seen (putAgain t j i) sound (record { names = s .names }))
     go Nowhere e then =
         let sound = sound-new roles t S n v i role e in
-        let long : length (t .first ++ i ∷ []) ≤ suc i = omega (arith, length-append (t .first) (i ∷ [])) in
-        on-new roles t S n v rs seen k i s (ap nameOf role) (omega arith) e
-        (then (n ∷ seen) (putNew t i) sound long (omega arith) (seen-new roles t S n v i role e seen s))
-comes roles (past-more x c {k} {rs} until) seen i t at S small few s =
-    let next = comes roles until seen (suc i) t (drop-next roles i rs (more x c) at) S (omega arith) (omega arith) s in
+        on-new roles t S n v rs seen k i s (ap nameOf role) e
+        (then (n ∷ seen) (putNew t i) sound (seen-new roles t S n v i role e seen s))
+comes roles (past-more x c {k} {rs} until) seen i t at S s =
+    let next = comes roles until seen (suc i) t (drop-next roles i rs (more x c) at) S s in
     on-more roles t S rs seen k i next x c
-comes roles (past-neutral {k} {rs} until) seen i t at S small few s =
-    let next = comes roles until seen (suc i) t (drop-next roles i rs neutral at) S (omega arith) (omega arith) s in
+comes roles (past-neutral {k} {rs} until) seen i t at S s =
+    let next = comes roles until seen (suc i) t (drop-next roles i rs neutral at) S s in
     on-neutral roles t S rs seen k i next
-
-pub until-under : {k : ℕ} {rs : List Role} → Until k rs → k < length rs
-until-under (here {rs}) = omega arith
-until-under (past-entry n v {k} {rs} until) = let p : k < length rs = until-under until in omega arith
-until-under (past-more t c {k} {rs} until) = let p : k < length rs = until-under until in omega arith
-until-under (past-neutral {k} {rs} until) = let p : k < length rs = until-under until in omega arith

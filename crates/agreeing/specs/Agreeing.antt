@@ -20,8 +20,7 @@ use Rattle.listing.specs.Listing.{places, free, nameOf, empty, tabled, listOf, 
 use Rattle.naming.specs.Naming.{nameWritten, nameAt}
 use Rattle.agreeing.specs.Firsts.{firstsOf, lastsOf}
 
--- the arrays of an accepted header hold its first cards and, for the name of each, its last entry; then free marks.
--- So 11, that no place is free, never comes of an accepted header
+-- the arrays of an accepted header hold its first cards and, for the name of each, its last entry; then free marks
 abbrev pub Contents : Type 0
 Contents =
     (h : List ℕ) (end : ℕ) → headerOf h ≡ Accepted end
@@ -33,7 +32,7 @@ NamesFit =
     (h : List ℕ) (end : ℕ) → headerOf h ≡ Accepted end
     → (listOf h .count ≤ cardCount (length h)) × (cardCount (length h) ≤ places)
 
--- the list refuses a header by a number up to 10, so none by 11
+-- a header is refused by a number up to 10: the list has no refusal of its own
 abbrev pub UpToTen : Type 0
 UpToTen = (h : List ℕ) (s : Stop) → listOf h .header ≡ Refused s → numberOf (s .fault .why) ≤ 10
 

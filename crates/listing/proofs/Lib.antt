@@ -1,6 +1,5 @@
--- Laws of names where they stand, of keys and their order, and of tables.
+-- Laws of keys and their order, and of tables.
 pub mod Keyed
-pub mod Bearing
 pub mod Lows
 pub mod Keying
 pub mod Ordering

@@ -6,7 +6,6 @@ use native.Mathlib.Omega.{arith}
 use mathlib.Core.Path.{_≡_, refl, sym, ap, ap₂, subst, _∙_}
 use mathlib.Core.Bool.{Bool, true, false, cond}
 use mathlib.Core.List.{List, [], _∷_, _++_}
-use borrow.Author.Tests.{lt-ltb}
 use lib.ListN.{length, take, drop, getD, set, replicate, length-append, length-replicate, length-set}
 use lib.Seq.{set-append-left}
 use Rattle.refusal.specs.declared.Fault.{Fault}
@@ -20,16 +19,15 @@ use Rattle.text.proofs.Finding.{Under}
 use Rattle.text.proofs.Texts.{filled-none, filled-put}
 use Rattle.roles.specs.Roles.{Comment, Held, Role, entry, more, neutral, last as end-card, refused}
 use Rattle.roles.specs.Cards.{cardNo, roleNo, rolesOf, isBadLength}
-use Rattle.roles.proofs.Cards.{roles-from, roles-past}
+use Rattle.roles.proofs.Cards.{roles-from, role-is, roles-past}
 use Rattle.roles.proofs.Counting.{good-cards}
 use Rattle.finding.specs.declared.Header.{Header}
 use Rattle.finding.specs.declared.Header.the-variants.{Accepted, Refused}
 use Rattle.finding.specs.Finding.{stopAt, headerFrom, headerOf}
 use Rattle.listing.specs.declared.Listing.{Listing}
-use Rattle.listing.specs.Listing.{places, free, Table, empty, nameOf, placeIn, Listed, full, putAgain, putNew, put, putRole}
-use Rattle.listing.specs.Listing.{listFrom, tabled, byListed, byHeader, listOf}
+use Rattle.listing.specs.Listing.{places, free, Table, empty, nameOf, placeIn, putAgain, putNew, put, putRole}
+use Rattle.listing.specs.Listing.{listFrom, tabled, byHeader, listOf}
 use Rattle.listing.specs.Keys.{keyOf, rowAt, keyPlace, Ordered, Ready, Arrays, arraysBy, arraysAt, Entered}
-use Rattle.listing.proofs.Bearing.{role-is}
 use Rattle.listing.proofs.Lows.{Low, low-entry}
 use Rattle.listing.proofs.Keying.{length-key, same-key}
 use Rattle.listing.proofs.Rows.{row-other, row-own}
@@ -50,7 +48,7 @@ set-filled mark n l k v h =
 
 -- ---- what is left of the cards, and the table so far, give the listing
 abbrev restBy : Header → List Role → List Role → ℕ → Table → Listing
-restBy (Accepted end) all rs i t = byListed end (listFrom all (take (end - i) rs) i t)
+restBy (Accepted end) all rs i t = tabled (Accepted end) (listFrom all (take (end - i) rs) i t)
 restBy (Refused s) all rs i t = tabled (Refused s) empty
 
 abbrev rest : List Role → List Role → ℕ → Table → Listing
@@ -63,7 +61,7 @@ rest-start h good =
     go (headerFrom (rolesOf h) 0) ∙ ap (λ (x : Header). byHeader x (rolesOf h)) (sym all)
   where
     go : (x : Header) → restBy x (rolesOf h) (rolesOf h) 0 empty ≡ byHeader x (rolesOf h)
-    go (Accepted end) = ap (λ (n : ℕ). byListed end (listFrom (rolesOf h) (take n (rolesOf h)) 0 empty)) (sub-zero end)
+    go (Accepted end) = ap (λ (n : ℕ). tabled (Accepted end) (listFrom (rolesOf h) (take n (rolesOf h)) 0 empty)) (sub-zero end)
     go (Refused s) = refl
 
 pub refused-length : (h : List ℕ) → isBadLength (length h) ≡ true
@@ -83,35 +81,35 @@ end-over (refused f ∷ rs) i e d = absurd (let z : _≡_ {A = ℕ} 0 1 = cc in 
 
 module _ (all rs : List Role) (i : ℕ) (t : Table) where
   -- a card that the reading passes, and by whose role the table becomes another
-  next-by : (r : Role) (u : Table) → ((then : Table → Listed) → putRole all r i t then ≡ then u)
+  next-by : (r : Role) (u : Table) → putRole all r i t ≡ u
       → (x : Header) → headerFrom rs (suc i) ≡ x → restBy x all rs (suc i) u ≡ restBy x all (r ∷ rs) i t
   unfolding listFrom
   next-by r u becomes (Accepted end) e =
       let one : end - i ≡ suc (end - suc i) = omega (arith, end-over rs (suc i) end e) in
-      ap (byListed end)
-      (sym (becomes (listFrom all (take (end - suc i) rs) (suc i))) ∙ ap (λ (n : ℕ). listFrom all (take n (r ∷ rs)) i t) (sym one))
+      ap (tabled (Accepted end))
+      (ap (listFrom all (take (end - suc i) rs) (suc i)) (sym becomes) ∙ ap (λ (n : ℕ). listFrom all (take n (r ∷ rs)) i t) (sym one))
   next-by r u becomes (Refused s) e = refl
 
   next-entry : (n : List ℕ) (v : Held) (u : Table)
-      → ((then : Table → Listed) → put (placeIn all n (t .first) 0) i t then ≡ then u)
+      → put (placeIn all n (t .first) 0) i t ≡ u
       → rest all rs (suc i) u ≡ rest all (entry n v ∷ rs) i t
   unfolding headerFrom
   next-entry n v u becomes = next-by (entry n v) u becomes (headerFrom rs (suc i)) refl
 
   next-more : (s : List ℕ) (c : Comment) → rest all rs (suc i) t ≡ rest all (more s c ∷ rs) i t
   unfolding headerFrom
-  next-more s c = next-by (more s c) t (λ then. refl) (headerFrom rs (suc i)) refl
+  next-more s c = next-by (more s c) t refl (headerFrom rs (suc i)) refl
 
   next-neutral : rest all rs (suc i) t ≡ rest all (neutral ∷ rs) i t
   unfolding headerFrom
-  next-neutral = next-by neutral t (λ then. refl) (headerFrom rs (suc i)) refl
+  next-neutral = next-by neutral t refl (headerFrom rs (suc i)) refl
 
   -- at END the table is the header's
   at-last : tabled (Accepted i) t ≡ rest all (end-card ∷ rs) i t
   unfolding headerFrom listFrom
   at-last =
       let none : i - i ≡ 0 = omega arith in
-      ap (λ (n : ℕ). byListed i (listFrom all (take n (end-card ∷ rs)) i t)) (sym none)
+      ap (λ (n : ℕ). tabled (Accepted i) (listFrom all (take n (end-card ∷ rs)) i t)) (sym none)
 
   at-refused : (f : Fault) → tabled (Refused (stopAt f i)) empty ≡ rest all (refused f ∷ rs) i t
   unfolding headerFrom
@@ -295,12 +293,12 @@ module _ {h first last keys order : List ℕ} {count i : ℕ} (S : Standing h fi
       place-so = ap (λ (n : ℕ). keyPlace (keyOf (own .name)) keys n 0) (S .count-is) ∙ place-is own (S .rowed)
 
       -- the table then, by the place
-      left-so : (p : Place) → own-place ≡ p → (u : Table) → ((then : Table → Listed) → put p i (S .t) then ≡ then u)
+      left-so : (p : Place) → own-place ≡ p → (u : Table) → put p i (S .t) ≡ u
           → rest roles (drop (i + 1) roles) (i + 1) u ≡ listOf h
       left-so p e u becomes =
           left-next u
           (next-entry roles (drop (i + 1) roles) i (S .t) (own .name) (own .held) u
-          (λ then. ap (λ (q : Place). put q i (S .t) then) e ∙ becomes then)
+          (ap (λ (q : Place). put q i (S .t)) e ∙ becomes)
           ∙ left-by (entry (own .name) (own .held)) (sym (own .is)))
 
       module _ {n : ℕ} {first₁ last₁ keys₁ order₁ : List ℕ}
@@ -340,7 +338,7 @@ module _ {h first last keys order : List ℕ} {count i : ℕ} (S : Standing h fi
               small = omega (arith, S .small);
               rowed = rowed-so;
               ordered = E .ordered;
-              left = left-so (At k) e (putAgain (S .t) k i) (λ then. refl);
+              left = left-so (At k) e (putAgain (S .t) k i) refl;
             }
 
         -- the arrays with one place more
@@ -354,7 +352,6 @@ module _ {h first last keys order : List ℕ} {count i : ℕ} (S : Standing h fi
             let so = by-place Nowhere e in
             let more-first : length (S .t .first ++ i ∷ []) ≡ length (S .t .first) + 1 = length-append (S .t .first) (i ∷ []) in
             let more-last : length (S .t .last ++ i ∷ []) ≡ length (S .t .last) + 1 = length-append (S .t .last) (i ∷ []) in
-            let under = lt-ltb (length (S .t .first)) places (omega (arith, S .count-is, room)) in
             let names : n ≡ count + 1 = ap (λ (x : Arrays). x .names) so in
             let behind : 0 + length (S .t .first) ≡ count = omega (arith, S .count-is) in
             record {
@@ -368,11 +365,8 @@ module _ {h first last keys order : List ℕ} {count i : ℕ} (S : Standing h fi
               small = omega (arith, S .small);
               rowed = rowed-put rowed-so own (ap (rowAt keys₁) behind ∙ own-row);
               ordered = E .ordered;
-              left = left-so Nowhere e (putNew (S .t) i) (λ then. free-so (then (putNew (S .t) i)) _ under);
+              left = left-so Nowhere e (putNew (S .t) i) refl;
             }
-          where
-            free-so : (x : Listed) (b : Bool) → b ≡ true → cond b x (full i) ≡ x
-            free-so x b d = rw d
 
         pub on-entry : Standing h first₁ last₁ keys₁ order₁ n (i + 1)
         on-entry = go own-place refl

@@ -1,5 +1,4 @@
 -- What public promises cite.
 pub mod Listing
-pub mod Inserting
 -- What private contracts cite alone.
 pub mod Keys

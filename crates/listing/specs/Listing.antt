@@ -2,10 +2,7 @@
 use Prim.Native.Nat.{ℕ, suc}
 use mathlib.Core.Bool.{cond}
 use mathlib.Core.List.{List, [], _∷_, _++_}
-use lib.Dec.{ltb}
 use lib.ListN.{length, getD, set, take}
-use Rattle.refusal.specs.declared.Refusal.the-variants as R
-use Rattle.refusal.specs.Numbers.{faultOf}
 use Rattle.text.specs.declared.Place.{Place}
 use Rattle.text.specs.declared.Place.the-variants.{At, Nowhere}
 use Rattle.text.specs.Same.{same}
@@ -14,7 +11,7 @@ use Rattle.roles.specs.Roles.{Role, entry, more, neutral, last, refused}
 use Rattle.roles.specs.Cards.{rolesOf}
 use Rattle.finding.specs.declared.Header.{Header}
 use Rattle.finding.specs.declared.Header.the-variants.{Accepted, Refused}
-use Rattle.finding.specs.Finding.{stopAt, headerOf}
+use Rattle.finding.specs.Finding.{headerOf}
 use Rattle.entries.specs.Answers.{LookupOutcome, entryOf}
 use Rattle.listing.specs.declared.Listing.{Listing}
 
@@ -46,11 +43,6 @@ unfoldable pub placeIn : List Role → List ℕ → List ℕ → ℕ → Place
 placeIn roles name [] k = Nowhere
 placeIn roles name (i ∷ is) k = cond (same (nameOf (getD roles i neutral)) name) (At k) (placeIn roles name is (suc k))
 
--- what listing comes to: a table, or no place is free for the entry of a card
-pub data Listed : Type 0 where
-  listed : Table → Listed
-  full : ℕ → Listed
-
 -- card i as the last entry of the name at place k, and as the first and last of a new name
 abbrev pub putAgain : Table → ℕ → ℕ → Table
 putAgain t k i = record { first = t .first; last = set (t .last) k i }
@@ -58,34 +50,30 @@ putAgain t k i = record { first = t .first; last = set (t .last) k i }
 abbrev pub putNew : Table → ℕ → Table
 putNew t i = record { first = t .first ++ i ∷ []; last = t .last ++ i ∷ [] }
 
--- of equal names the last entry counts, at the first one's place; a new name takes the next free place
-abbrev pub put : Place → ℕ → Table → (Table → Listed) → Listed
-put (At k) i t rest = rest (putAgain t k i)
-put Nowhere i t rest = cond (ltb (length (t .first)) places) (rest (putNew t i)) (full i)
+-- of equal names the last entry counts, at the first one's place; a new name takes the next place: there is one for each card
+abbrev pub put : Place → ℕ → Table → Table
+put (At k) i t = putAgain t k i
+put Nowhere i t = putNew t i
 
-abbrev pub putRole : List Role → Role → ℕ → Table → (Table → Listed) → Listed
-putRole roles (entry n v) i t rest = put (placeIn roles n (t .first) 0) i t rest
-putRole roles (more s c) i t rest = rest t
-putRole roles neutral i t rest = rest t
-putRole roles last i t rest = rest t
-putRole roles (refused f) i t rest = rest t
+abbrev pub putRole : List Role → Role → ℕ → Table → Table
+putRole roles (entry n v) i t = put (placeIn roles n (t .first) 0) i t
+putRole roles (more s c) i t = t
+putRole roles neutral i t = t
+putRole roles last i t = t
+putRole roles (refused f) i t = t
 
 -- cards, the first of which has number i, put into a table
-unfoldable pub listFrom : List Role → List Role → ℕ → Table → Listed
-listFrom roles [] i t = listed t
-listFrom roles (r ∷ rs) i t = putRole roles r i t (listFrom roles rs (suc i))
+unfoldable pub listFrom : List Role → List Role → ℕ → Table → Table
+listFrom roles [] i t = t
+listFrom roles (r ∷ rs) i t = listFrom roles rs (suc i) (putRole roles r i t)
 
 -- the arrays: the table, then free marks
 abbrev pub tabled : Header → Table → Listing
 tabled x t =
     record { header = x; first = filled free places (t .first); last = filled free places (t .last); count = length (t .first) }
 
-abbrev pub byListed : ℕ → Listed → Listing
-byListed end (listed t) = tabled (Accepted end) t
-byListed end (full i) = tabled (Refused (stopAt (faultOf R.TableFull) i)) empty
-
 abbrev pub byHeader : Header → List Role → Listing
-byHeader (Accepted end) roles = byListed end (listFrom roles (take end roles) 0 empty)
+byHeader (Accepted end) roles = tabled (Accepted end) (listFrom roles (take end roles) 0 empty)
 byHeader (Refused s) roles = tabled (Refused s) empty
 
 -- the names of a header; where it is refused all places are free

@@ -1,24 +1,19 @@
 // The names of a header in the order of their first cards, each with its last entry.
 ghost use mathlib.Core.Path.{_≡_};
 ghost use Prim.Native.Nat.{_+_, _*_, _<_, _≤_};
-ghost use lib.ListN.{length, take};
+ghost use lib.ListN.{length};
 ghost use lib.Seq.{sets};
 ghost use Rattle.text.specs.Text.{bytesOf};
 ghost use Rattle.entries.specs.Answers.{leftBy};
 ghost use Rattle.listing.specs.Listing.{places, empty, tabled, listOf, placeOfEntry};
-ghost use Rattle.listing.specs.Inserting.{bearsOf, placeBy, insertionBy, insertAt, insertOf};
 ghost use Rattle.listing.specs.Keys.{courseOf, bytesOfWord, wordsOfKey, wordOf, keyOf, isBefore, rowAt};
 ghost use Rattle.listing.specs.Keys.{Ordered, Parted, Slid, Ready, arraysBy, Entered};
-use card::CARD;
-use card::KEYWORD;
 use entries::Looked;
 use finding::Header;
 use finding::Stop;
 use refusal::Refusal;
 use roles::MOST_CARDS;
 use roles::Role;
-use text::Cut;
-use text::Place;
 use text::Text;
 
 // A header's answer, and its names: for each place the number of the first card that bears the name, and of the last. The places
@@ -28,12 +23,6 @@ pub struct Listing {
     pub first: [usize; 720],
     pub last: [usize; 720],
     pub count: usize,
-}
-
-// What inserting an entry answers: the number of names then, or that no place is free.
-pub enum Inserted {
-    Names(usize),
-    Full,
 }
 
 // The places of the table: one for each card that a header may have.
@@ -113,22 +102,6 @@ pub fn entry(
     entries::read_entry(header, FREE, text, comment)
 }
 
-// The entry of card i put at its name's place among the first count, or behind them where a place is free.
-pub fn insert(
-    header: &[u8],
-    name: &[u8],
-    i: usize,
-    count: usize,
-    first: &mut [usize],
-    last: &mut [usize],
-) -> Inserted
-    ensures { λ r. ⌜ insertionBy r (now (first .exit)) (now (last .exit))
-        ≡ insertOf (now (header .entry)) (now (name .entry)) i count (now (first .entry)) (now (last .entry)) ⌝ }
-{
-    let place = find_place(header, name, first, count);
-    insert_at(place, i, count, first, last)
-}
-
 // The listing of a refused header: all places are free.
 fn refused(stop: Stop) -> Listing
     ensures { λ r. ⌜ r ≡ tabled (Header.Refused stop) empty ⌝ }
@@ -138,69 +111,6 @@ fn refused(stop: Stop) -> Listing
         first: [FREE; 720],
         last: [FREE; 720],
         count: 0,
-    }
-}
-
-// Whether the card with a number bears a name, where it stands.
-fn bears(header: &[u8], i: usize, name: &[u8]) -> bool
-    ensures { λ r. ⌜ r ≡ bearsOf (now (header .entry)) i (now (name .entry)) ⌝ }
-{
-    if i < header.len() / CARD {
-        let at = i * CARD;
-        let word = text::trimmed(text::first_of(&header[at..], KEYWORD), Cut::Blanks);
-        if text::same_bytes(word, b"HIERARCH") {
-            let own = roles::card_at(header, i);
-            let dotted = own.name;
-            let bytes = dotted.bytes;
-            return text::same_bytes(text::first_of(&bytes, dotted.len), name);
-        }
-        return text::same_bytes(word, name);
-    }
-    false
-}
-
-// The place among the first count whose card bears the name.
-fn find_place(header: &[u8], name: &[u8], first: &[usize], count: usize) -> Place
-    ensures { λ r. ⌜ r ≡ placeBy (now (header .entry)) (now (name .entry)) (take count (now (first .entry))) 0 ⌝ }
-{
-    let mut k: usize = 0;
-    while k < first.len() && k < count {
-        if bears(header, first[k], name) {
-            return Place::At(k);
-        }
-        k += 1;
-    }
-    Place::Nowhere
-}
-
-// The entry of card i put at a place among the first count, or behind them where a place is free.
-fn insert_at(
-    place: Place,
-    i: usize,
-    count: usize,
-    first: &mut [usize],
-    last: &mut [usize],
-) -> Inserted
-    ensures { λ r. ⌜ insertionBy r (now (first .exit)) (now (last .exit))
-        ≡ insertAt place i count (now (first .entry)) (now (last .entry)) ⌝ }
-{
-    match place {
-        Place::At(k) => {
-            if k < last.len() {
-                last[k] = i;
-            }
-            Inserted::Names(count)
-        }
-        Place::Nowhere => {
-            if count < first.len() {
-                if count < last.len() {
-                    first[count] = i;
-                    last[count] = i;
-                    return Inserted::Names(count + 1);
-                }
-            }
-            Inserted::Full
-        }
     }
 }
 

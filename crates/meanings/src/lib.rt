@@ -32,7 +32,6 @@ pub fn meaning(fault: Fault) -> Text
             b"the header's length is 0, no multiple of 80, or above 57,600",
         ),
         Refusal::NoEnd => text::text_of(b"the header has no END card"),
-        Refusal::TableFull => text::text_of(b"the name table is full"),
         Refusal::NameNotFound => text::text_of(b"no entry bears the name or stands at the card"),
         Refusal::BufferShort => text::text_of(b"a lent buffer is shorter than the text for it"),
         Refusal::Limits => text::text_of(

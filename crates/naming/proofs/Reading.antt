@@ -11,8 +11,7 @@ use Rattle.refusal.specs.declared.Refusal.the-variants as R
 use Rattle.refusal.specs.Numbers.{faultOf}
 use Rattle.roles.specs.Roles.{Role, neutral}
 use Rattle.roles.specs.Cards.{roleNo, rolesOf, isBadLength}
-use Rattle.roles.proofs.Cards.{role-count}
-use Rattle.listing.proofs.Bearing.{role-is}
+use Rattle.roles.proofs.Cards.{role-count, role-is}
 use Rattle.naming.specs.declared.Named.the-variants.{Bears}
 use Rattle.naming.specs.Naming.{namingBy, unnamed, nameWritten, nameBy, nameAt}
 

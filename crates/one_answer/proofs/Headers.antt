@@ -2,7 +2,6 @@
 use mathlib.Core.Path.{_≡_, sym, _∙_}
 use denote.Ref.{now}
 use Rattle.entries.specs.Answers.{leftBy}
-use Rattle.listing.specs.Inserting.{insertionBy}
 use Rattle.naming.specs.Naming.{namingBy}
 use Rattle.one_answer.specs.OneAnswer.{OneAnswer}
 use Rattle.roles.proofs.is_bad_length.Reads as is-bad-length-reads
@@ -16,7 +15,6 @@ use Rattle.entries.proofs.lookup.Reads as lookup-reads
 use Rattle.entries.proofs.read_entry.Reads as read-entry-reads
 use Rattle.listing.proofs.list.Reads as list-reads
 use Rattle.listing.proofs.entry.Reads as entry-reads
-use Rattle.listing.proofs.insert.Reads as insert-reads
 use Rattle.naming.proofs.read_name.Reads as read-name-reads
 
 -- `roles::is_bad_length`
@@ -62,10 +60,6 @@ list κs a r q s t x y = x ∙ sym y
 -- `listing::entry`
 pub entry : OneAnswer entry-reads.Post (λ r s. leftBy r (now (s .1 .1 .1 .0)) (now (s .1 .1 .1 .1 .0)))
 entry κs a r q s t x y = x ∙ sym y
-
--- `listing::insert`
-pub insert : OneAnswer insert-reads.Post (λ r s. insertionBy r (now (s .1 .1 .1 .1 .0)) (now (s .1 .1 .1 .1 .1 .0)))
-insert κs a r q s t x y = x ∙ sym y
 
 -- `naming::read_name`
 pub read-name : OneAnswer read-name-reads.Post (λ r s. namingBy r (now (s .1 .1 .0)))

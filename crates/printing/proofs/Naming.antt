@@ -17,7 +17,7 @@ use Rattle.roles.specs.declared.Role.{Role as Told}
 use Rattle.roles.specs.declared.Role.the-variants as T
 use Rattle.roles.specs.Roles.{Held, Role, entry, neutral, last, roleBy, roleIn, roleRead, roleOf}
 use Rattle.roles.specs.Cards.{rolesOf, cardNo, roleNo, cardAt}
-use Rattle.roles.proofs.Cards.{role-count}
+use Rattle.roles.proofs.Cards.{role-count, role-is}
 use Rattle.roles.proofs.Counting.{card-here}
 use Rattle.joining.specs.Lookup.{lookup}
 use Rattle.finding.specs.declared.Stop.{Stop}
@@ -30,7 +30,6 @@ use Rattle.entries.specs.Answers.{LookupOutcome, leftBy, bytesIn, foundAs, unto
 use Rattle.entries.proofs.Looking.{accepted-good}
 use Rattle.listing.specs.declared.Listing.{Listing}
 use Rattle.listing.specs.Listing.{places, free, nameOf, listOf, placeOfEntry}
-use Rattle.listing.proofs.Bearing.{role-is}
 use Rattle.lines.specs.Lines.{entryLine}
 use Rattle.agreeing.specs.Firsts.{firstsOf, lastsOf}
 use Rattle.agreeing.specs.Agreeing.{StandsAt, PlaceTaken, FoundIn, namesListed}

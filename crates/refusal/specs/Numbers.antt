@@ -2,11 +2,11 @@
 use Prim.Native.Nat.{ℕ}
 use Rattle.refusal.specs.declared.Refusal.{Refusal}
 use Rattle.refusal.specs.declared.Refusal.the-variants.{HighByte, OddByte, StringNotClosed, StringNotOpened, Complex, NoEquals}
-use Rattle.refusal.specs.declared.Refusal.the-variants.{NoName, ExtensionNotQuoted, HeaderLength, NoEnd, TableFull, NameNotFound}
+use Rattle.refusal.specs.declared.Refusal.the-variants.{NoName, ExtensionNotQuoted, HeaderLength, NoEnd, NameNotFound}
 use Rattle.refusal.specs.declared.Refusal.the-variants.{BufferShort, Limits, PixelCount, TileEnds, FsAboveTop, BadCursor}
 use Rattle.refusal.specs.declared.Fault.{Fault}
 
--- the number of each case
+-- the number of each case; none has 11
 abbrev pub numberOf : Refusal → ℕ
 numberOf HighByte = 1
 numberOf OddByte = 2
@@ -18,7 +18,6 @@ numberOf NoName = 7
 numberOf ExtensionNotQuoted = 8
 numberOf HeaderLength = 9
 numberOf NoEnd = 10
-numberOf TableFull = 11
 numberOf NameNotFound = 12
 numberOf BufferShort = 13
 numberOf Limits = 14

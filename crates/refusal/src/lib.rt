@@ -24,8 +24,6 @@ pub enum Refusal {
     HeaderLength,
     // No END card.
     NoEnd,
-    // The name table is full.
-    TableFull,
     // The name is not found.
     NameNotFound,
     // A lent text buffer is shorter than the text for it.
@@ -80,7 +78,6 @@ impl Refusal {
             Refusal::ExtensionNotQuoted => 8,
             Refusal::HeaderLength => 9,
             Refusal::NoEnd => 10,
-            Refusal::TableFull => 11,
             Refusal::NameNotFound => 12,
             Refusal::BufferShort => 13,
             Refusal::Limits => 14,

@@ -3,9 +3,9 @@ use Prim.Native.Nat.{ℕ, zero, suc, _+_, _*_, _-_, _/_, _<_, _≤_}
 use native.Mathlib.Omega.{arith}
 use mathlib.Core.Path.{_≡_, refl, sym, ap, ap₂, _∙_}
 use mathlib.Core.List.{List, [], _∷_, map}
-use lib.ListN.{length, take, drop, drop-of-length-le, length-map}
-use lib.Seq.{drop-drop}
-use Rattle.roles.specs.Roles.{Role, roleOf}
+use lib.ListN.{length, take, drop, getD, drop-of-length-le, length-map}
+use lib.Seq.{drop-drop, getD-drop}
+use Rattle.roles.specs.Roles.{Role, neutral, roleOf}
 use Rattle.roles.specs.Cards.{cardsIn, cardsOf, cardNo, roleNo, rolesOf}
 
 -- a part of a list that is mapped
@@ -46,6 +46,12 @@ module _ (h : List ℕ) where
       drop-of-length-le (cardsOf h) long
 
 -- ---- the roles of a header's cards, by number
+-- card i is the first of the cards from number i on
+pub role-first : (roles : List Role) (i : ℕ) (r : Role) (rs : List Role) → drop i roles ≡ r ∷ rs → getD roles i neutral ≡ r
+role-first roles i r rs e =
+    let z : i ≡ i + 0 = omega arith in
+    ap (λ (k : ℕ). getD roles k neutral) z ∙ sym (getD-drop i roles 0 neutral) ∙ ap (λ (l : List Role). getD l 0 neutral) e
+
 module _ (h : List ℕ) where
   pub role-count : length (rolesOf h) ≡ length h / 80
   role-count = length-map (cardsOf h) roleOf ∙ card-count h
@@ -56,6 +62,10 @@ module _ (h : List ℕ) where
       drop-map roleOf (cardsOf h) i
       ∙ ap (map roleOf) (cards-from h i within)
       ∙ ap (λ (l : List Role). roleNo h i ∷ l) (sym (drop-map roleOf (cardsOf h) (i + 1)))
+
+  -- the role of card i
+  pub role-is : (i : ℕ) → i < length h / 80 → getD (rolesOf h) i neutral ≡ roleNo h i
+  role-is i within = role-first (rolesOf h) i (roleNo h i) (drop (i + 1) (rolesOf h)) (roles-from i within)
 
   -- behind the last there is none
   pub roles-past : (i : ℕ) → length h / 80 ≤ i → drop i (rolesOf h) ≡ []

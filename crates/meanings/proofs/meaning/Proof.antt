@@ -25,7 +25,6 @@ short R.NoName = refl
 short R.ExtensionNotQuoted = refl
 short R.HeaderLength = refl
 short R.NoEnd = refl
-short R.TableFull = refl
 short R.NameNotFound = refl
 short R.BufferShort = refl
 short R.Limits = refl
@@ -191,15 +190,6 @@ slice-aggregate-text-of-17 c = search needs
 text-of-requires-17 : tie.Need-text-of-requires-17
 text-of-requires-17 c κs = search needs
 
-enum-told-18 : tie.Need-enum-told-18
-enum-told-18 c = search needs
-
-slice-aggregate-text-of-18 : tie.Need-slice-aggregate-text-of-18
-slice-aggregate-text-of-18 c = search needs
-
-text-of-requires-18 : tie.Need-text-of-requires-18
-text-of-requires-18 c κs = search needs
-
 returns : tie.Need-returns
 unfolding meaningOf
 returns c = by R.HighByte (c .before .before .enum-told .given .1) (c .text-of .ensures)
@@ -242,35 +232,31 @@ returns-10 c = by R.NoEnd (c .before .before .enum-told10 .given .1) (c .text-of
 
 returns-11 : tie.Need-returns-11
 unfolding meaningOf
-returns-11 c = by R.TableFull (c .before .before .enum-told11 .given .1) (c .text-of11 .ensures)
+returns-11 c = by R.NameNotFound (c .before .before .enum-told11 .given .1) (c .text-of11 .ensures)
 
 returns-12 : tie.Need-returns-12
 unfolding meaningOf
-returns-12 c = by R.NameNotFound (c .before .before .enum-told12 .given .1) (c .text-of12 .ensures)
+returns-12 c = by R.BufferShort (c .before .before .enum-told12 .given .1) (c .text-of12 .ensures)
 
 returns-13 : tie.Need-returns-13
 unfolding meaningOf
-returns-13 c = by R.BufferShort (c .before .before .enum-told13 .given .1) (c .text-of13 .ensures)
+returns-13 c = by R.Limits (c .before .before .enum-told13 .given .1) (c .text-of13 .ensures)
 
 returns-14 : tie.Need-returns-14
 unfolding meaningOf
-returns-14 c = by R.Limits (c .before .before .enum-told14 .given .1) (c .text-of14 .ensures)
+returns-14 c = by R.PixelCount (c .before .before .enum-told14 .given .1) (c .text-of14 .ensures)
 
 returns-15 : tie.Need-returns-15
 unfolding meaningOf
-returns-15 c = by R.PixelCount (c .before .before .enum-told15 .given .1) (c .text-of15 .ensures)
+returns-15 c = by R.TileEnds (c .before .before .enum-told15 .given .1) (c .text-of15 .ensures)
 
 returns-16 : tie.Need-returns-16
 unfolding meaningOf
-returns-16 c = by R.TileEnds (c .before .before .enum-told16 .given .1) (c .text-of16 .ensures)
+returns-16 c = by R.FsAboveTop (c .before .before .enum-told16 .given .1) (c .text-of16 .ensures)
 
 returns-17 : tie.Need-returns-17
 unfolding meaningOf
-returns-17 c = by R.FsAboveTop (c .before .before .enum-told17 .given .1) (c .text-of17 .ensures)
-
-returns-18 : tie.Need-returns-18
-unfolding meaningOf
-returns-18 c = by R.BadCursor (c .before .before .enum-told18 .given .1) (c .text-of18 .ensures)
+returns-17 c = by R.BadCursor (c .before .before .enum-told17 .given .1) (c .text-of17 .ensures)
 
 pub meaning-spec : {M : Type 1} → statement M
 meaning-spec =
@@ -327,9 +313,6 @@ meaning-spec =
     enum-told-17
     slice-aggregate-text-of-17
     text-of-requires-17
-    enum-told-18
-    slice-aggregate-text-of-18
-    text-of-requires-18
     returns
     returns-2
     returns-3
@@ -346,5 +329,4 @@ meaning-spec =
     returns-14
     returns-15
     returns-16
-    returns-17
-    returns-18)
+    returns-17)
