@@ -87,7 +87,8 @@ module _ (all rs : List Role) (i : ℕ) (t : Table) where
   next-by r u becomes (Accepted end) e =
       let one : end - i ≡ suc (end - suc i) = omega (arith, end-over rs (suc i) end e) in
       ap (tabled (Accepted end))
-      (ap (listFrom all (take (end - suc i) rs) (suc i)) (sym becomes) ∙ ap (λ (n : ℕ). listFrom all (take n (r ∷ rs)) i t) (sym one))
+      (ap (listFrom all (take (end - suc i) rs) (suc i)) (sym becomes)
+      ∙ ap (λ (n : ℕ). listFrom all (take n (r ∷ rs)) i t) (sym one))
   next-by r u becomes (Refused s) e = refl
 
   next-entry : (n : List ℕ) (v : Held) (u : Table)
