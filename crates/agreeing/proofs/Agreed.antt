@@ -20,7 +20,7 @@ use Rattle.roles.specs.Roles.{Held, Role, entry, more, neutral, last, refused}
 use Rattle.roles.specs.Cards.{rolesOf}
 use Rattle.joining.specs.Lookup.{lookup, whole, orElse}
 use Rattle.finding.specs.declared.Header.{Header}
-use Rattle.finding.specs.declared.Header.the-variants.{Accepted}
+use Rattle.finding.specs.declared.Header.the-variants.{Accepted, Refused}
 use Rattle.finding.specs.Finding.{headerOf, lastFrom, lastOf}
 use Rattle.entries.specs.declared.LookupAnswer.the-variants as L
 use Rattle.entries.specs.Answers.{LookupOutcome, leftBy, foundAs, untouched, written, bytesIn, given, lookedUp, lookupOf}
@@ -268,3 +268,11 @@ same-refusal h s e =
       ap (λ (x : Header). byHeader x roles) e,
       λ name text comment. ap (λ (x : Header). lookedUp x roles name text comment) e,
     )
+
+-- the list answers a header as it is read
+pub same-header : (h : List ℕ) → listOf h .header ≡ headerOf h
+same-header h = go (headerOf h) refl
+  where
+    go : (x : Header) → headerOf h ≡ x → listOf h .header ≡ x
+    go (Accepted end) e = ap (λ (l : Listing). l .header) (contents h end e)
+    go (Refused s) e = ap (λ (l : Listing). l .header) (same-refusal h s e .0)

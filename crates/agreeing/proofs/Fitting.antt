@@ -56,7 +56,7 @@ use Rattle.listing.specs.declared.Listing.{Listing}
 use Rattle.listing.specs.Listing.{listOf}
 use Rattle.agreeing.specs.Firsts.{isAmong, firstsFrom, firstsOf}
 use Rattle.agreeing.specs.Agreeing.{NamesFit, UpToTen}
-use Rattle.agreeing.proofs.Agreed.{contents, same-refusal}
+use Rattle.agreeing.proofs.Agreed.{contents, same-header}
 
 -- ---- names and places
 -- no more names than cards
@@ -274,14 +274,6 @@ header-ten h = go (isBadLength (length h))
     go : (b : Bool) → headerNumber (cond b (Refused (stopAt (faultOf R.HeaderLength) 0)) (headerFrom (rolesOf h) 0)) ≤ 10
     go true = omega arith
     go false = from-ten (cardsOf h) 0
-
--- the list answers a header as it is read
-same-header : (h : List ℕ) → listOf h .header ≡ headerOf h
-same-header h = go (headerOf h) refl
-  where
-    go : (x : Header) → headerOf h ≡ x → listOf h .header ≡ x
-    go (Accepted end) e = ap (λ (l : Listing). l .header) (contents h end e)
-    go (Refused s) e = ap (λ (l : Listing). l .header) (same-refusal h s e .0)
 
 pub up-to-ten : UpToTen
 up-to-ten h s e = subst (λ (x : Header). headerNumber x ≤ 10) (sym (same-header h) ∙ e) (header-ten h)

@@ -151,6 +151,9 @@ fn is_escaped() -> bool {
 fn read_input(i: usize, bare: bool, buffer: &mut [u8]) -> Got {
     let mut path = [0u8; 4096];
     let n = os::arg(i, &mut path);
+    if !bare && os::errno() != 0 {
+        return unread(&path[..n]);
+    }
     let fd = open_path(&path[..n], bare);
     if fd < 0 {
         return unread(&path[..n]);

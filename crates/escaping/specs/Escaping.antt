@@ -33,12 +33,12 @@ abbrev pub escapeOutcome : Escaped → List ℕ → EscapeOutcome
 escapeOutcome r content = record { taken = r .taken; put = r .put; content = content }
 
 -- the first bytes of a text, shown at the front of a buffer
-abbrev pub shownIn : List ℕ → List ℕ → EscapeOutcome
-shownIn part out = record { taken = length part; put = length (escaped part); content = sets out 0 (escaped part) }
+abbrev pub escapedIn : List ℕ → List ℕ → EscapeOutcome
+escapedIn part out = record { taken = length part; put = length (escaped part); content = sets out 0 (escaped part) }
 
 -- as many bytes are taken as the buffer has four places for
 abbrev pub escapeOf : List ℕ → List ℕ → EscapeOutcome
-escapeOf s out = shownIn (take (length out / 4) s) out
+escapeOf s out = escapedIn (take (length out / 4) s) out
 
 -- ---- what is shown forges no line
 
@@ -52,6 +52,6 @@ unfoldable pub arePrintable : List ℕ → Bool
 arePrintable [] = true
 arePrintable (b ∷ s) = isPrintable b && arePrintable s
 
--- a text that is made visible holds printable bytes alone, so no line feed and no escape
+-- a text that is made visible holds printable bytes alone, so no line feed and no ESC
 abbrev pub Visible : Type 0
 Visible = (s : List ℕ) → areBytes s ≡ true → arePrintable (escaped s) ≡ true

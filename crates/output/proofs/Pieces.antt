@@ -12,7 +12,7 @@ use Rattle.escaping.specs.Escaping.{escapedByte, escaped, EscapeOutcome, escape
 use Rattle.escaping.proofs.Showing.{byte-few}
 use Rattle.output.specs.declared.Printed.{Printed}
 use Rattle.output.specs.declared.Printed.the-variants.{Whole, Cut}
-use Rattle.output.specs.Shown.{lineShown, IsWhole}
+use Rattle.output.specs.Shown.{printedLine, IsWhole}
 
 -- the front of a list, and what follows as many elements
 pub parted : (n : ℕ) (l : List ℕ) → take n l ++ drop (length (take n l)) l ≡ l
@@ -55,8 +55,8 @@ pub counted : {r : Printed} {n : ℕ} (s : List ℕ) → r ≡ Whole n → IsWho
 counted s e w = subst (λ (x : Printed). IsWhole x s) e w
 
 -- a line that is shown is at most four times as long and a byte
-pub line-few : (t : Bool) (line : List ℕ) → length (lineShown t line) ≤ 4 * length line + 1
-unfolding lineShown stem
+pub line-few : (t : Bool) (line : List ℕ) → length (printedLine t line) ≤ 4 * length line + 1
+unfolding printedLine stem
 line-few false line = omega arith
 line-few true line =
     omega (
@@ -67,12 +67,12 @@ line-few true line =
     )
 
 -- a line as it stands
-pub plain-line : (t : Bool) (line : List ℕ) → t ≡ false → lineShown t line ≡ line
-unfolding lineShown
+pub plain-line : (t : Bool) (line : List ℕ) → t ≡ false → printedLine t line ≡ line
+unfolding printedLine
 plain-line t line e = rw e
 
 -- a line made visible, and its line feed
 pub visible-line : (t : Bool) (line : List ℕ) {n : ℕ} → t ≡ true → n ≡ length (escaped (take (length line - 1) line))
-    → n + 1 ≡ length (lineShown t line)
-unfolding lineShown stem
+    → n + 1 ≡ length (printedLine t line)
+unfolding printedLine stem
 visible-line t line e is = rw e (omega (arith, is, length-append (escaped (take (length line - 1) line)) (lineFeed ∷ [])))

@@ -12,9 +12,9 @@ use Rattle.output.specs.declared.Printed.{Printed}
 use Rattle.output.specs.declared.Printed.the-variants.{Whole, Cut}
 
 -- a line as it stands; or made visible, but for the line feed at its end
-unfoldable pub lineShown : Bool → List ℕ → List ℕ
-lineShown false line = line
-lineShown true line = escaped (stem line) ++ lineFeed ∷ []
+unfoldable pub printedLine : Bool → List ℕ → List ℕ
+printedLine false line = line
+printedLine true line = escaped (stem line) ++ lineFeed ∷ []
 
 -- `Whole` says how many bytes a text has; what became of a text that was cut is not known
 abbrev pub IsWhole : Printed → List ℕ → Type 0

@@ -3,7 +3,7 @@
 ghost use mathlib.Core.Path.{_≡_};
 ghost use Prim.Native.Nat.{_-_};
 ghost use Rattle.escaping.specs.Escaping.{escaped};
-ghost use Rattle.output.specs.Shown.{lineShown, IsWhole};
+ghost use Rattle.output.specs.Shown.{printedLine, IsWhole};
 
 // All bytes were taken, so many; or a write failed, and some may be missing.
 pub enum Printed {
@@ -12,7 +12,7 @@ pub enum Printed {
 }
 
 // The longest text that is made visible. No line of a header is longer.
-const LONGEST: usize = 65536;
+const MOST_VISIBLE: usize = 65536;
 
 // Writes a text as it stands. A write that takes nothing has failed.
 pub fn write(fd: i32, s: &[u8]) -> Printed
@@ -34,7 +34,7 @@ pub fn write(fd: i32, s: &[u8]) -> Printed
 pub fn write_visibly(fd: i32, s: &[u8]) -> Printed
     ensures { λ r. ⌜ IsWhole r (escaped (now (s .entry))) ⌝ }
 {
-    if LONGEST < s.len() {
+    if MOST_VISIBLE < s.len() {
         return Printed::Cut;
     }
     let mut piece = [0u8; 1024];
@@ -54,12 +54,12 @@ pub fn write_visibly(fd: i32, s: &[u8]) -> Printed
 // Writes a line, which ends in a line feed: as it stands, or made visible up to there. One that is longer than 65,536 bytes is not
 // made visible.
 pub fn write_line(fd: i32, line: &[u8], escaped: bool) -> Printed
-    ensures { λ r. ⌜ IsWhole r (lineShown escaped (now (line .entry))) ⌝ }
+    ensures { λ r. ⌜ IsWhole r (printedLine escaped (now (line .entry))) ⌝ }
 {
     if !escaped {
         return write(fd, line);
     }
-    if LONGEST < line.len() {
+    if MOST_VISIBLE < line.len() {
         return Printed::Cut;
     }
     let Printed::Whole(n) = write_visibly(fd, text::first_of(line, one_less(line.len()))) else {

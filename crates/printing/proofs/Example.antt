@@ -28,8 +28,8 @@ use Rattle.listing.specs.Listing.{placeIn, listFrom, listOf}
 use Rattle.numerals.specs.Numerals.{digitsBefore, decimalDigits}
 use Rattle.lines.specs.Lines.{entryLine, countLine, refusedLine}
 use Rattle.escaping.specs.Escaping.{escapedByte, escaped}
-use Rattle.output.specs.Shown.{lineShown}
-use Rattle.printing.specs.Output.{inOrder, outputOf, shownOf}
+use Rattle.output.specs.Shown.{printedLine}
+use Rattle.printing.specs.Output.{inOrder, outputOf, printedOf}
 
 -- cards by their texts
 unfoldable pub cards : List String → List ℕ
@@ -72,11 +72,11 @@ abbrev pub fed : List ℕ
 fed = filled (code " ") 80 (code "A" ∷ lineFeed ∷ ascii "KIT S = 'FAKE'") ++ cards ("END" ∷ [])
 
 -- as it stands, the name makes two lines; made visible, it stands on one
-pub example-fed : shownOf false fed ∷ shownOf true fed ∷ []
+pub example-fed : printedOf false fed ∷ printedOf true fed ∷ []
     ≡ map lines (("A" ∷ "KIT S S FAKE" ∷ "1 keywords" ∷ []) ∷ ("A\\x0AKIT S S FAKE" ∷ "1 keywords" ∷ []) ∷ [])
 unfolding cards lines isSpace isBlank isPrintable isDigit isZero shown dToE trimStart leading consTrimmed trimEnd trim same stem endsWith
     filled after scanFrom byteClass splitOf settledOf opened unopened stringOf isSign isNegative unsigned isDigits digitsValueFrom integerOf
     readNumber startsNumber startOf ofString ofNumber valueWith valueOf hasHigh classOf otherOf continuationOf cardOf
     endsOpen addsNothing joinText joinComment opens joinWords joinOn lookup cardsIn isBadLength headerFrom headerOf
-    placeIn listFrom listOf digitsBefore decimalDigits entryLine countLine refusedLine inOrder escapedByte escaped lineShown shownOf
+    placeIn listFrom listOf digitsBefore decimalDigits entryLine countLine refusedLine inOrder escapedByte escaped printedLine printedOf
 example-fed = refl

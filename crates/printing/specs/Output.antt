@@ -12,7 +12,7 @@ use Rattle.finding.specs.declared.Header.the-variants.{Accepted, Refused}
 use Rattle.finding.specs.Finding.{headerOf}
 use Rattle.listing.specs.Listing.{listOf}
 use Rattle.lines.specs.Lines.{entryLine, countLine, refusedLine}
-use Rattle.output.specs.Shown.{lineShown}
+use Rattle.output.specs.Shown.{printedLine}
 use Rattle.agreeing.specs.Agreeing.{namesListed}
 
 -- the line of a name: its kind and reading, as lookup answers them; a name of the list is always answered
@@ -40,13 +40,13 @@ outputOf h = outputBy (headerOf h) h
 
 -- ---- the same with each line shown as it stands, or made visible
 
-abbrev pub shownBy : Bool → Header → List ℕ → List ℕ
-shownBy t (Accepted end) h = inOrder (map (lineShown t) (nameLines h)) ++ lineShown t (countLine (listOf h .count))
-shownBy t (Refused s) h = lineShown t (refusedLine (s .fault .why) (s .card))
+abbrev pub printedBy : Bool → Header → List ℕ → List ℕ
+printedBy t (Accepted end) h = inOrder (map (printedLine t) (nameLines h)) ++ printedLine t (countLine (listOf h .count))
+printedBy t (Refused s) h = printedLine t (refusedLine (s .fault .why) (s .card))
 
-unfoldable pub shownOf : Bool → List ℕ → List ℕ
-shownOf t h = shownBy t (headerOf h) h
+unfoldable pub printedOf : Bool → List ℕ → List ℕ
+printedOf t h = printedBy t (headerOf h) h
 
 -- lines that are shown as they stand are those that the program prints
 abbrev pub AsTheyStand : Type 0
-AsTheyStand = (h : List ℕ) → shownOf false h ≡ outputOf h
+AsTheyStand = (h : List ℕ) → printedOf false h ≡ outputOf h

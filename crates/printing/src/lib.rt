@@ -7,8 +7,8 @@ ghost use lib.ListN.{length, getD};
 ghost use Rattle.listing.specs.Listing.{listOf};
 ghost use Rattle.lines.specs.Lines.{countLine, refusedLine, lineRoom};
 ghost use Rattle.finding.specs.Finding.{headerOf};
-ghost use Rattle.output.specs.Shown.{lineShown, IsWhole};
-ghost use Rattle.printing.specs.Output.{nameLines, inOrder, shownOf};
+ghost use Rattle.output.specs.Shown.{printedLine, IsWhole};
+ghost use Rattle.printing.specs.Output.{nameLines, inOrder, printedOf};
 ghost use Rattle.printing.specs.Ready.{IsListed, IsWide, Front, lengthOf};
 use entries::LookupAnswer;
 use finding::Header;
@@ -25,7 +25,8 @@ pub struct Report {
 
 // Prints a header's lines to standard output, as they stand or made visible, and says how that went.
 pub fn print_header(header: &[u8], escaped: bool) -> Report
-    ensures { λ r. ⌜ (r .header ≡ headerOf (now (header .entry))) × IsWhole (r .printed) (shownOf escaped (now (header .entry))) ⌝ }
+    ensures { λ r. ⌜ (r .header ≡ headerOf (now (header .entry)))
+        × IsWhole (r .printed) (printedOf escaped (now (header .entry))) ⌝ }
 {
     let listing = listing::list(header);
     let answer = listing.header;
@@ -49,7 +50,7 @@ pub fn print_header(header: &[u8], escaped: bool) -> Report
 
 // The line of a refusal.
 fn print_refusal(stop: Stop, escaped: bool) -> Printed
-    ensures { λ r. ⌜ IsWhole r (lineShown escaped (refusedLine (stop .fault .why) (stop .card))) ⌝ }
+    ensures { λ r. ⌜ IsWhole r (printedLine escaped (refusedLine (stop .fault .why) (stop .card))) ⌝ }
 {
     let mut line = [0u8; 321];
     let n = refused_part(stop, &mut line);
@@ -65,8 +66,8 @@ fn print_names<'a>(
     escaped: bool,
 ) -> Printed
     requires { ⌜ IsListed (now header) (now first) (now last) × (count ≡ listOf (now header) .count) ⌝ }
-    ensures { λ r. ⌜ IsWhole r (inOrder (map (lineShown escaped) (nameLines (now (header .entry))))
-        ++ lineShown escaped (countLine count)) ⌝ }
+    ensures { λ r. ⌜ IsWhole r (inOrder (map (printedLine escaped) (nameLines (now (header .entry))))
+        ++ printedLine escaped (countLine count)) ⌝ }
 {
     let mut text = [0u8; 51200];
     // For an entry's comment, which is not printed, and then for its line.

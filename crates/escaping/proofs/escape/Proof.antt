@@ -6,7 +6,7 @@ use mathlib.Core.List.{List, []}
 use lib.ListN.{length, take, drop, getD, length-take, drop-of-length-le}
 use lib.Seq.{sets}
 use borrow.Author.Needs.{needs}
-use Rattle.escaping.specs.Escaping.{escapedByte, escaped, shownIn}
+use Rattle.escaping.specs.Escaping.{escapedByte, escaped, escapedIn}
 use Rattle.escaping.proofs.Showing.{byte-few, put-next, count-next, at-the-end, stored-all}
 use Rattle.escaping.proofs.escape.Statement.{statement}
 use Rattle.escaping.proofs.escape.Tie as tie
@@ -98,7 +98,7 @@ returns c =
     ∙ sym (ap (λ (r : List ℕ). sets (l .loop .out) (l .loop .put) (escaped r)) none)
     ∙ v .4 in
     (λ j. record { taken = length part; put = put j; content = content j })
-    ∙ ap (λ (r : List ℕ). shownIn r (a .out .now)) (l .before .first-of .ensures)
+    ∙ ap (λ (r : List ℕ). escapedIn r (a .out .now)) (l .before .first-of .ensures)
 
 pub escape-spec : {M : Type 1} → statement M
 escape-spec =

@@ -9,7 +9,7 @@ use borrow.Author.Needs.{needs}
 use borrow.Author.Tests.{not-true, not-false}
 use Rattle.text.specs.Bytes.{lineFeed}
 use Rattle.escaping.specs.Escaping.{escaped}
-use Rattle.output.specs.Shown.{lineShown, IsWhole}
+use Rattle.output.specs.Shown.{printedLine, IsWhole}
 use Rattle.output.proofs.Pieces.{escaped-few, counted, plain-line, visible-line}
 use Rattle.output.proofs.write_line.Statement.{statement}
 use Rattle.output.proofs.write_line.Tie as tie

@@ -8,25 +8,18 @@ use Rattle.finding.specs.declared.Header.the-variants.{Accepted, Refused}
 use Rattle.finding.specs.Finding.{headerOf}
 use Rattle.listing.specs.declared.Listing.{Listing}
 use Rattle.listing.specs.Listing.{listOf}
-use Rattle.agreeing.proofs.Agreed.{contents, same-refusal}
+use Rattle.agreeing.proofs.Agreed.{same-header}
 use Rattle.lines.specs.Lines.{countLine}
-use Rattle.output.specs.Shown.{lineShown, IsWhole}
-use Rattle.printing.specs.Output.{nameLines, inOrder, shownBy, shownOf}
+use Rattle.output.specs.Shown.{printedLine, IsWhole}
+use Rattle.printing.specs.Output.{nameLines, inOrder, printedBy, printedOf}
 use Rattle.printing.specs.Ready.{IsListed}
 use borrow.Author.Needs.{needs}
 use Rattle.printing.proofs.print_header.Statement.{statement}
 use Rattle.printing.proofs.print_header.Tie as tie
 
 -- the list says what the header is
-list-header : (h : List ℕ) → listOf h .header ≡ headerOf h
-list-header h = go (headerOf h) refl
-  where
-    go : (x : Header) → headerOf h ≡ x → listOf h .header ≡ headerOf h
-    go (Accepted end) e = ap (λ (x : Listing). x .header) (contents h end e) ∙ sym e
-    go (Refused s) e = ap (λ (x : Listing). x .header) (same-refusal h s e .0) ∙ sym e
-
 known-header : (h : List ℕ) {r : Listing} {x : Header} → r ≡ listOf h → r .header ≡ x → headerOf h ≡ x
-known-header h is e = sym (list-header h) ∙ sym (ap (λ (x : Listing). x .header) is) ∙ e
+known-header h is e = sym (same-header h) ∙ sym (ap (λ (x : Listing). x .header) is) ∙ e
 
 list-requires : tie.Need-list-requires
 list-requires c κs = search needs
@@ -57,9 +50,9 @@ print-refusal-requires : tie.Need-print-refusal-requires
 print-refusal-requires c κs = search needs
 
 -- by what the header is
-by-header : (t : Bool) (h : List ℕ) (x : Header) → headerOf h ≡ x → shownBy t x h ≡ shownOf t h
-unfolding shownOf
-by-header t h x e = sym (ap (λ (y : Header). shownBy t y h) e)
+by-header : (t : Bool) (h : List ℕ) (x : Header) → headerOf h ≡ x → printedBy t x h ≡ printedOf t h
+unfolding printedOf
+by-header t h x e = sym (ap (λ (y : Header). printedBy t y h) e)
 
 returns : tie.Need-returns
 returns c =
@@ -71,7 +64,7 @@ returns c =
     let end = told .enum-told .given .0 .0 in (
       sym (known-header h is refl),
       subst (IsWhole (c .print-names .result))
-          (ap (λ (x : Listing). inOrder (map (lineShown t) (nameLines h)) ++ lineShown t (countLine (x .count))) is
+          (ap (λ (x : Listing). inOrder (map (printedLine t) (nameLines h)) ++ printedLine t (countLine (x .count))) is
           ∙ by-header t h (Accepted end) (known-header h is (told .enum-told .given .1)))
           (c .print-names .ensures),
     )

@@ -9,7 +9,7 @@ use mathlib.Core.List.{List, [], _++_, map}
 use lib.ListN.{length, take, getD, replicate, length-replicate, length-append, length-map, length-take}
 use borrow.Author.Needs.{needs}
 use Rattle.lines.specs.Lines.{countLine}
-use Rattle.output.specs.Shown.{lineShown}
+use Rattle.output.specs.Shown.{printedLine}
 use Rattle.output.proofs.Pieces.{counted, line-few}
 use Rattle.printing.specs.Output.{nameLines, inOrder}
 use Rattle.printing.specs.Ready.{IsListed, IsWide, Front}
@@ -20,7 +20,7 @@ use Rattle.printing.proofs.print_names.Tie as tie
 
 -- the lines of the names, as they are shown
 abbrev linesOf : Bool → List ℕ → List (List ℕ)
-linesOf t h = map (lineShown t) (nameLines h)
+linesOf t h = map (printedLine t) (nameLines h)
 
 -- the buffers stay as wide as they are made, and the first k lines are printed
 pub record Printing (h : List ℕ) (t : Bool) (count : ℕ) (text line : List ℕ) (printed k : ℕ) : Type 0 where
@@ -111,13 +111,13 @@ line c = getD (nameLines (start (at c) .args .header .now)) (at c .loop .k) []
 
 -- how many bytes of it were written
 bytes : (c : tie.After-known-told Inv-loop μ-loop)
-    → c .before .written .given .0 .0 ≡ length (lineShown (start (at c) .args .escaped) (line c))
+    → c .before .written .given .0 .0 ≡ length (printedLine (start (at c) .args .escaped) (line c))
 bytes c =
     let t = start (at c) .args .escaped in
     let wrote = c .before .before .before in
     let part = wrote .before in
-    counted (lineShown t (part .first-of .result .now)) (c .before .written .given .1) (wrote .write-line .ensures)
-    ∙ ap (λ (s : List ℕ). length (lineShown t s)) (part .first-of .ensures ∙ made c .name-part .ensures .content)
+    counted (printedLine t (part .first-of .result .now)) (c .before .written .given .1) (wrote .write-line .ensures)
+    ∙ ap (λ (s : List ℕ). length (printedLine t s)) (part .first-of .ensures ∙ made c .name-part .ensures .content)
 
 -- no line is longer than its buffer, and shown it is four times as long at most
 written-few : (c : tie.After-known-told Inv-loop μ-loop) → c .before .written .given .0 .0 ≤ 210561
@@ -145,14 +145,14 @@ loop-again c =
     let t = s .args .escaped in
     let names = nameLines (s .args .header .now) in
     let under : k < length names = omega (arith, inside c .loop-test .taken, as-many s) in
-    let under-all : k < length (map (lineShown t) names) = omega (arith, under, length-map names (lineShown t)) in
+    let under-all : k < length (map (printedLine t) names) = omega (arith, under, length-map names (printedLine t)) in
     record {
       text-long = search needs;
       line-long = search needs;
       within = omega (arith, inside c .loop-test .taken);
       bytes =
-          ap₂ (λ (n m : ℕ). n + m) (v .bytes) (bytes c ∙ sym (ap length (at-map (lineShown t) names k [] [] under)))
-          ∙ sym (naming.in-order-next (map (lineShown t) names) k under-all);
+          ap₂ (λ (n m : ℕ). n + m) (v .bytes) (bytes c ∙ sym (ap length (at-map (printedLine t) names k [] [] under)))
+          ∙ sym (naming.in-order-next (map (printedLine t) names) k under-all);
       small = omega (arith, v .small, written-few c);
     }
 
@@ -191,13 +191,13 @@ abbrev last-line : tie.After-known-told2 Inv-loop μ-loop → List ℕ
 last-line c = countLine (start (end c .before) .args .count)
 
 last-bytes : (c : tie.After-known-told2 Inv-loop μ-loop)
-    → c .before .written2 .given .0 .0 ≡ length (lineShown (start (end c .before) .args .escaped) (last-line c))
+    → c .before .written2 .given .0 .0 ≡ length (printedLine (start (end c .before) .args .escaped) (last-line c))
 last-bytes c =
     let t = start (end c .before) .args .escaped in
     let wrote = c .before .before .before in
     let part = wrote .before in
-    counted (lineShown t (part .first-of2 .result .now)) (c .before .written2 .given .1) (wrote .write-line2 .ensures)
-    ∙ ap (λ (s : List ℕ). length (lineShown t s)) (part .first-of2 .ensures ∙ counted-part c .count-part .ensures .content)
+    counted (printedLine t (part .first-of2 .result .now)) (c .before .written2 .given .1) (wrote .write-line2 .ensures)
+    ∙ ap (λ (s : List ℕ). length (printedLine t s)) (part .first-of2 .ensures ∙ counted-part c .count-part .ensures .content)
 
 add-all : tie.Need-add-all Inv-loop μ-loop
 add-all c =
@@ -223,11 +223,11 @@ returns-3 c =
     let s = start l in
     let t = s .args .escaped in
     let names = nameLines (s .args .header .now) in
-    let lines = map (lineShown t) names in
+    let lines = map (printedLine t) names in
     let all : l .loop .k ≡ length lines =
-    omega (arith, end c .loop-test .left, l .loop .inv .within, as-many s, length-map names (lineShown t)) in
+    omega (arith, end c .loop-test .left, l .loop .inv .within, as-many s, length-map names (printedLine t)) in
     ap₂ (λ (n m : ℕ). n + m) (l .loop .inv .bytes ∙ ap length (naming.in-order-all lines (l .loop .k) all)) (last-bytes c)
-    ∙ sym (length-append (inOrder lines) (lineShown t (last-line c)))
+    ∙ sym (length-append (inOrder lines) (printedLine t (last-line c)))
 
 pub print-names-spec : {M : Type 1} → statement M
 print-names-spec =

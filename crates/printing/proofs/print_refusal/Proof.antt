@@ -2,7 +2,7 @@
 use mathlib.Core.Path.{_≡_, subst, ap, _∙_}
 use mathlib.Core.List.{List}
 use Prim.Native.Nat.{ℕ}
-use Rattle.output.specs.Shown.{lineShown, IsWhole}
+use Rattle.output.specs.Shown.{printedLine, IsWhole}
 use borrow.Author.Needs.{needs}
 use Rattle.printing.proofs.print_refusal.Statement.{statement}
 use Rattle.printing.proofs.print_refusal.Tie as tie
@@ -28,7 +28,7 @@ returns c =
     let made = part .before .before .before in
     let t = made .before .before .args .escaped in
     let line = part .first-of .ensures ∙ made .refused-part .ensures .content in
-    subst (λ (s : List ℕ). IsWhole (c .write-line .result) (lineShown t s)) line (c .write-line .ensures)
+    subst (λ (s : List ℕ). IsWhole (c .write-line .result) (printedLine t s)) line (c .write-line .ensures)
 
 pub print-refusal-spec : {M : Type 1} → statement M
 print-refusal-spec =
