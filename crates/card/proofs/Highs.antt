@@ -1,22 +1,48 @@
 -- Bytes of 128 or more, a byte at a time.
-use Prim.Native.Nat.{ℕ, _+_, _<_, _≤_}
-use mathlib.Core.Path.{_≡_}
-use mathlib.Core.Bool.{true, false}
-use mathlib.Core.List.{List}
+use Prim.Native.Nat.{ℕ, suc, _+_, _<_, _≤_}
+use native.Mathlib.Numerals.{add-one}
+use mathlib.Core.Path.{_≡_, refl, ap, _∙_}
+use mathlib.Core.Bool.{Bool, true, false, cond}
+use mathlib.Core.List.{List, [], _∷_}
 use borrow.Author.Tests.{le-leb, lt-leb}
+use lib.Dec.{leb}
 use lib.ListN.{length, drop, getD, drop-of-length-le}
+use Rattle.refusal.specs.declared.Column.{Column}
+use Rattle.refusal.specs.declared.Column.the-variants.{At, Absent}
 use Rattle.text.proofs.Trimming.{at-next}
 use Rattle.card.specs.Keywords.{firstHigh, hasHigh}
+use Rattle.card.specs.Columns.{highFrom}
 
 module _ (s : List ℕ) (i : ℕ) (h : i < length s) where
-  pub high-here : firstHigh ≤ getD s i 0 → true ≡ hasHigh (drop i s)
-  unfolding hasHigh
+  pub high-here : firstHigh ≤ getD s i 0 → At i ≡ highFrom (drop i s) i
+  unfolding highFrom
   high-here e = rw (at-next s i h, le-leb firstHigh _ e)
 
-  pub high-later : getD s i 0 < firstHigh → hasHigh (drop (i + 1) s) ≡ hasHigh (drop i s)
-  unfolding hasHigh
-  high-later e = rw (at-next s i h, lt-leb firstHigh _ e)
+  pub high-later : getD s i 0 < firstHigh → highFrom (drop (i + 1) s) (i + 1) ≡ highFrom (drop i s) i
+  unfolding highFrom
+  high-later e = rw (at-next s i h, lt-leb firstHigh _ e, add-one i)
 
-pub high-none : (s : List ℕ) (i : ℕ) → length s ≤ i → false ≡ hasHigh (drop i s)
-unfolding hasHigh
+pub high-none : (s : List ℕ) (i : ℕ) → length s ≤ i → Absent ≡ highFrom (drop i s) i
+unfolding highFrom
 high-none s i h = rw (drop-of-length-le s h)
+
+-- there is a column where there is such a byte
+abbrev isThere : Column → Bool
+isThere (At i) = true
+isThere Absent = false
+
+pub high-told : (s : List ℕ) (i : ℕ) → hasHigh s ≡ isThere (highFrom s i)
+unfolding hasHigh highFrom
+high-told [] i = refl
+high-told (b ∷ s) i = go (leb firstHigh b) (high-told s (suc i))
+  where
+    go : (t : Bool) → hasHigh s ≡ isThere (highFrom s (suc i))
+        → cond t true (hasHigh s) ≡ isThere (cond t (At i) (highFrom s (suc i)))
+    go true h = refl
+    go false h = h
+
+pub high-found : (s : List ℕ) (i : ℕ) → highFrom s 0 ≡ At i → hasHigh s ≡ true
+high-found s i e = high-told s 0 ∙ ap isThere e
+
+pub high-missing : (s : List ℕ) → highFrom s 0 ≡ Absent → hasHigh s ≡ false
+high-missing s e = high-told s 0 ∙ ap isThere e

@@ -2,3 +2,4 @@
 pub mod Highs
 pub mod Naming
 pub mod Classes
+pub mod Placing

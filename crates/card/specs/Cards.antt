@@ -5,9 +5,11 @@ use mathlib.Core.Bool.{Bool, true, false, cond, _&&_}
 use mathlib.Core.List.{List, [], _∷_, map}
 use lib.Dec.{leb}
 use lib.ListN.{length, getD, take, drop}
+use Rattle.refusal.specs.declared.Column.{Column}
 use Rattle.refusal.specs.declared.Fault.{Fault}
+use Rattle.refusal.specs.declared.Refusal.{Refusal}
 use Rattle.refusal.specs.declared.Refusal.the-variants as R
-use Rattle.refusal.specs.Numbers.{faultOf}
+use Rattle.refusal.specs.Numbers.{faultOf, placed}
 use Rattle.text.specs.declared.Text.{Text}
 use Rattle.text.specs.declared.Place.{Place}
 use Rattle.text.specs.declared.Place.the-variants.{At, Nowhere}
@@ -30,11 +32,13 @@ use Rattle.value.specs.declared.ValueRead.{ValueRead}
 use Rattle.value.specs.Values.{valueOf}
 use Rattle.card.specs.declared.Card.{Card}
 use Rattle.card.specs.declared.Card.the-variants as C
+use Rattle.card.specs.declared.CardAnswer.{CardAnswer}
 use Rattle.card.specs.declared.CardAnswer.the-variants.{Read, Refused}
 use Rattle.card.specs.declared.CardRead.{CardRead}
 use Rattle.card.specs.declared.Class.{Class}
 use Rattle.card.specs.declared.Class.the-variants.{Empty, Comment, History, Continue, Xtension, Hierarch, End, Other}
 use Rattle.card.specs.Keywords.{hasHigh, keywordOf, classOf, dottedName}
+use Rattle.card.specs.Columns.{columnOf}
 
 abbrev pub cardRefused : Fault → CardRead
 cardRefused fault = record { answer = Refused fault; name = textOf []; text = textOf []; commented = false; comment = textOf [] }
@@ -132,6 +136,20 @@ byClass Hierarch name c = hierarchOf c
 byClass End name c = cardAs C.End name (textOf [])
 byClass Other name c = otherOf name c
 
+-- a card by its bytes, a refusal without its column
+unfoldable pub unplacedOf : List ℕ → CardRead
+unplacedOf c = cond (hasHigh c) (cardRefused (faultOf R.HighByte)) (byClass (classOf (keywordOf c)) (textOf (keywordOf c)) c)
+
+-- ---- the column beside a refusal
+
+abbrev pub answerPlaced : (Refusal → Column) → CardAnswer → CardAnswer
+answerPlaced f (Read card) = Read card
+answerPlaced f (Refused fault) = Refused (placed f fault)
+
+abbrev pub cardPlaced : (Refusal → Column) → CardRead → CardRead
+cardPlaced f r =
+    record { answer = answerPlaced f (r .answer); name = r .name; text = r .text; commented = r .commented; comment = r .comment }
+
 -- a card by its bytes
 unfoldable pub cardOf : List ℕ → CardRead
-cardOf c = cond (hasHigh c) (cardRefused (faultOf R.HighByte)) (byClass (classOf (keywordOf c)) (textOf (keywordOf c)) c)
+cardOf c = cardPlaced (columnOf c) (unplacedOf c)

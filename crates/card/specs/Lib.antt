@@ -2,4 +2,5 @@
 
 -- What public promises cite
 pub mod Keywords
+pub mod Columns
 pub mod Cards

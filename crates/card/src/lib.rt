@@ -3,10 +3,13 @@ ghost use mathlib.Core.Path.{_≡_};
 ghost use Prim.Native.Nat.{_≤_};
 ghost use lib.ListN.{length};
 ghost use Rattle.text.specs.Text.{size, textOf};
-ghost use Rattle.card.specs.Keywords.{hasHigh, classOf, dottedName};
+ghost use Rattle.splitting.specs.Columns.{atByte};
+ghost use Rattle.card.specs.Keywords.{keywordOf, classOf, dottedName};
+ghost use Rattle.card.specs.Columns.{highFrom, equalsOf, behind, columnIn, columnOf};
 ghost use Rattle.card.specs.Cards.{cardRefused, cardAs, cardWith, ofValue, remarkOf, emptyOf, stringCard, continuationOf};
-ghost use Rattle.card.specs.Cards.{quotedCard, extensionOf, hierarchOf, otherOf, cardOf};
+ghost use Rattle.card.specs.Cards.{quotedCard, extensionOf, hierarchOf, otherOf, byClass, cardPlaced, cardOf};
 use numbers::Value;
+use refusal::Column;
 use refusal::Fault;
 use refusal::Refusal;
 use splitting::Quoted;
@@ -83,10 +86,18 @@ const FULL_STOP: u8 = b'.';
 pub fn read_card(card: &[u8; 80]) -> CardRead
     ensures { λ r. ⌜ r ≡ cardOf (now (card .entry)) ⌝ }
 {
-    let whole = &card[..];
-    if has_high(whole) {
-        return refused(refusal::fault_of(Refusal::HighByte));
+    match find_high(&card[..]) {
+        Column::At(i) => refused(refusal::fault_at(Refusal::HighByte, i)),
+        Column::Absent => low_card(card),
     }
+}
+
+// A card without a byte of 128 or more, by what its keyword says.
+fn low_card(card: &[u8; 80]) -> CardRead
+    ensures { λ r. ⌜ r ≡ cardPlaced (columnOf (now (card .entry)))
+        (byClass (classOf (keywordOf (now (card .entry)))) (textOf (keywordOf (now (card .entry)))) (now (card .entry))) ⌝ }
+{
+    let whole = &card[..];
     let word = text::trimmed(text::first_of(whole, KEYWORD), Cut::Blanks);
     let name = text::text_of(word);
     match class_of(word) {
@@ -158,18 +169,18 @@ fn with_value(dotted: bool, name: Text, read: ValueRead) -> CardRead
 
 // ---- keywords
 
-// A byte of 128 or more stands in it.
-fn has_high(s: &[u8]) -> bool
-    ensures { λ r. ⌜ r ≡ hasHigh (now (s .entry)) ⌝ }
+// The first byte of 128 or more.
+fn find_high(s: &[u8]) -> Column
+    ensures { λ r. ⌜ r ≡ highFrom (now (s .entry)) 0 ⌝ }
 {
     let mut i = 0;
     while i < s.len() {
         if FIRST_HIGH <= s[i] {
-            return true;
+            return Column::At(i);
         }
         i += 1;
     }
-    false
+    Column::Absent
 }
 
 fn class_of(word: &[u8]) -> Class
@@ -233,13 +244,14 @@ fn unnamed(whole: &[u8]) -> CardRead
 }
 
 fn continuation(name: Text, card: &[u8; 80]) -> CardRead
-    ensures { λ r. ⌜ r ≡ continuationOf name (now (card .entry)) ⌝ }
+    ensures { λ r. ⌜ r ≡ cardPlaced (columnIn 8 (now (card .entry))) (continuationOf name (now (card .entry))) ⌝ }
 {
-    let halves = splitting::split(card, KEYWORD);
+    let split = splitting::split(card, KEYWORD);
+    let halves = split.halves;
     let answer = halves.answer;
     let v = halves.value;
     let comment = halves.comment;
-    let read = splitting::parse_string(v);
+    let read = splitting::parse_string(v, split.first);
     let string = read.answer;
     let text = read.text;
     match answer {
@@ -266,48 +278,51 @@ fn string_card(answer: Quoted, name: Text, text: Text, commented: bool, comment:
 }
 
 fn extension(name: Text, card: &[u8; 80]) -> CardRead
-    ensures { λ r. ⌜ r ≡ extensionOf name (now (card .entry)) ⌝ }
+    ensures { λ r. ⌜ r ≡ cardPlaced (columnIn 10 (now (card .entry))) (extensionOf name (now (card .entry))) ⌝ }
 {
-    let halves = splitting::split(card, VALUE);
+    let split = splitting::split(card, VALUE);
+    let first = split.first;
+    let halves = split.halves;
     let answer = halves.answer;
     let v = halves.value;
     match answer {
-        SplitAnswer::Bare => quoted_card(name, v),
-        SplitAnswer::Commented => quoted_card(name, v),
+        SplitAnswer::Bare => quoted_card(name, v, first),
+        SplitAnswer::Commented => quoted_card(name, v, first),
         SplitAnswer::Refused(fault) => refused(fault),
     }
 }
 
-// An XTENSION card, by its value text.
-fn quoted_card(name: Text, v: Text) -> CardRead
-    ensures { λ r. ⌜ r ≡ quotedCard name v ⌝ }
+// An XTENSION card, by its value text, in a text that begins at a byte of the card.
+fn quoted_card(name: Text, v: Text, first: usize) -> CardRead
+    ensures { λ r. ⌜ r ≡ cardPlaced (atByte first) (quotedCard name v) ⌝ }
 {
     let bytes = v.bytes;
     let s = text::first_of(&bytes, v.len);
     let n = s.len();
     if n < 2 {
-        return refused(refusal::fault_of(Refusal::ExtensionNotQuoted));
+        return refused(refusal::fault_at(Refusal::ExtensionNotQuoted, first));
     }
     if s[0] != QUOTE {
-        return refused(refusal::fault_of(Refusal::ExtensionNotQuoted));
+        return refused(refusal::fault_at(Refusal::ExtensionNotQuoted, first));
     }
     if s[n - 1] != QUOTE {
-        return refused(refusal::fault_of(Refusal::ExtensionNotQuoted));
+        return refused(refusal::fault_at(Refusal::ExtensionNotQuoted, first));
     }
     let inner = text::trimmed(&s[1..n - 1], Cut::Spaces);
     read_as(Card::Xtension, name, text::text_of(inner))
 }
 
 fn hierarch(card: &[u8; 80]) -> CardRead
-    ensures { λ r. ⌜ r ≡ hierarchOf (now (card .entry)) ⌝ }
+    ensures { λ r. ⌜ r ≡ cardPlaced (columnIn (behind (equalsOf (now (card .entry)))) (now (card .entry)))
+        (hierarchOf (now (card .entry))) ⌝ }
 {
     let rest = text::rest_of(&card[..], HIERARCHY);
     let Place::At(i) = text::find_byte(rest, b'=') else {
-        return refused(refusal::fault_of(Refusal::NoEquals));
+        return refused(refusal::fault_at(Refusal::NoEquals, HIERARCHY));
     };
     let name = dotted_name(text::first_of(rest, i));
     if name.len == 0 {
-        return refused(refusal::fault_of(Refusal::NoName));
+        return refused(refusal::fault_at(Refusal::NoName, HIERARCHY + i));
     }
     let read = value::read_value(card, VALUE + i);
     with_value(true, name, read)
@@ -347,7 +362,7 @@ fn dotted_name(s: &[u8]) -> Text
 
 // A card with any other keyword: a value card, or undefined where no "= " follows.
 fn other(name: Text, card: &[u8; 80]) -> CardRead
-    ensures { λ r. ⌜ r ≡ otherOf name (now (card .entry)) ⌝ }
+    ensures { λ r. ⌜ r ≡ cardPlaced (columnIn 10 (now (card .entry))) (otherOf name (now (card .entry))) ⌝ }
 {
     let whole = &card[..];
     if text::same_bytes(text::first_of(text::rest_of(whole, KEYWORD), 2), b"= ") {

@@ -4,6 +4,8 @@ use Rattle.refusal.specs.declared.Refusal.{Refusal}
 use Rattle.refusal.specs.declared.Refusal.the-variants.{HighByte, OddByte, StringNotClosed, StringNotOpened, Complex, NoEquals}
 use Rattle.refusal.specs.declared.Refusal.the-variants.{NoName, ExtensionNotQuoted, HeaderLength, NoEnd, NameNotFound}
 use Rattle.refusal.specs.declared.Refusal.the-variants.{BufferShort, Limits, PixelCount, TileEnds, FsAboveTop, BadCursor}
+use Rattle.refusal.specs.declared.Column.{Column}
+use Rattle.refusal.specs.declared.Column.the-variants.{At, Absent}
 use Rattle.refusal.specs.declared.Fault.{Fault}
 
 -- the number of each case; none has 11
@@ -26,6 +28,16 @@ numberOf TileEnds = 16
 numberOf FsAboveTop = 17
 numberOf BadCursor = 18
 
--- the fault that carries a refusal
+-- the fault that carries a refusal: alone, and with the byte of the card at which it is met
 abbrev pub faultOf : Refusal → Fault
-faultOf why = record { why = why }
+faultOf why = record { why = why; column = Absent }
+
+abbrev pub faultAt : Refusal → ℕ → Fault
+faultAt why byte = record { why = why; column = At byte }
+
+-- a fault with the column that its refusal has by f, and a fault without its column
+abbrev pub placed : (Refusal → Column) → Fault → Fault
+placed f fault = record { why = fault .why; column = f (fault .why) }
+
+abbrev pub unplaced : Fault → Fault
+unplaced fault = faultOf (fault .why)

@@ -1,6 +1,6 @@
 // The refusals, one case for each row of SPECIFICATION 2.1, and the fault that carries one up through every layer.
 ghost use mathlib.Core.Path.{_≡_};
-ghost use Rattle.refusal.specs.Numbers.{numberOf, faultOf};
+ghost use Rattle.refusal.specs.Numbers.{numberOf, faultOf, faultAt};
 
 // Why an input gets no reading.
 pub enum Refusal {
@@ -40,16 +40,36 @@ pub enum Refusal {
     BadCursor,
 }
 
+// The byte of a card at which it is refused, counted from 0, or that there is none.
+pub enum Column {
+    At(usize),
+    Absent,
+}
+
 // A refusal on its way up: every answer that can be refused holds one, and hands it on unchanged.
 pub struct Fault {
     pub why: Refusal,
+    pub column: Column,
 }
 
-// The fault of a refusal.
+// The fault of a refusal that has no column.
 pub fn fault_of(why: Refusal) -> Fault
     ensures { λ r. ⌜ r ≡ faultOf why ⌝ }
 {
-    Fault { why: why }
+    Fault {
+        why: why,
+        column: Column::Absent,
+    }
+}
+
+// The fault of a refusal at a byte of a card.
+pub fn fault_at(why: Refusal, byte: usize) -> Fault
+    ensures { λ r. ⌜ r ≡ faultAt why byte ⌝ }
+{
+    Fault {
+        why: why,
+        column: Column::At(byte),
+    }
 }
 
 impl Fault {

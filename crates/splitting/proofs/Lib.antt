@@ -1,4 +1,5 @@
 -- Laws of the scan, of splitting and of strings.
+pub mod Refusing
 pub mod Scanning
 pub mod Splitting
 pub mod Stringing

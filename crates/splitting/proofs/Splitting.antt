@@ -1,22 +1,28 @@
 -- What a scan finds lies within the text, and splitting by what was found.
-use Prim.Native.Nat.{ℕ, suc, _+_, _<_, _≤_}
+use Prim.Native.Nat.{ℕ, suc, _+_, _-_, _<_, _≤_}
 use native.Mathlib.Nat.{zero-add}
 use native.Mathlib.Omega.{arith}
-use mathlib.Core.Path.{_≡_}
+use mathlib.Core.Path.{_≡_, refl, sym, ap, _∙_}
 use mathlib.Core.List.{List, [], _∷_}
-use lib.ListN.{length}
+use borrow.Author.Tests.{ne-eqb}
+use lib.ListN.{length, length-append}
+use Rattle.refusal.specs.declared.Column.{Column}
+use Rattle.refusal.specs.declared.Refusal.{Refusal}
+use Rattle.refusal.specs.declared.Refusal.the-variants as R
 use Rattle.splitting.specs.declared.Quoting.{Quoting}
 use Rattle.splitting.specs.declared.Quoting.the-variants.{Outside}
 use Rattle.splitting.specs.declared.Slash.{Slash}
 use Rattle.splitting.specs.declared.Slash.the-variants.{At, Nowhere, Bad}
 use Rattle.splitting.specs.declared.Scanned.{Scanned}
+use Rattle.splitting.specs.declared.Halves.{Halves}
 use Rattle.text.specs.Bytes.{isBlank, isSpace}
-use Rattle.text.specs.Trim.{trim}
+use Rattle.text.specs.Trim.{trimStart, leading, trim}
 use Rattle.text.specs.Text.{size, bytesOf}
 use Rattle.splitting.specs.Scan.{Move, ends, rejects, puts, passes, move, byteClass, Scan, after, scanFrom}
-use Rattle.splitting.specs.Scanned.{scannedOf}
+use Rattle.splitting.specs.Scanned.{scannedOf, firstOf, halvesAt}
 use Rattle.splitting.specs.Split.{partsAt, splitOf}
-use Rattle.text.proofs.Trimming.{shorter}
+use Rattle.splitting.specs.Columns.{firstBy, firstByte, oddBy, textColumn, halvesPlaced}
+use Rattle.text.proofs.Trimming.{shorter, end-shorter, leading-and-rest}
 use Rattle.text.proofs.Texts.{bytes-text}
 
 -- a place, if there is one, is below n
@@ -52,11 +58,62 @@ scanned-within s f e =
     let w = scan-within Outside s 0 in
     rw e (w .0, rw (zero-add (length s)) at (w .1))
 
--- the parts by what a scan of the trimmed text found
-pub split-found : (t s : List ℕ) (f : Scanned) → s ≡ trim isBlank t → f ≡ scannedOf s
-    → partsAt (f .slash) s (bytesOf (f .value)) ≡ splitOf t
-unfolding splitOf scannedOf
-split-found t s f trims scans = rw (scans, bytes-text, trims)
+-- the parts of a text that begins at byte `first`, by where the slash stands
+abbrev pub partsFrom : ℕ → Slash → List ℕ → List ℕ → Halves
+partsFrom first p s v = halvesPlaced (λ (why : Refusal). oddBy p first) (partsAt p s v)
+
+-- the parts by what a scan of the text found
+pub parts-found : (first : ℕ) (s : List ℕ) (f : Scanned) → f ≡ scannedOf s
+    → partsFrom first (f .slash) s (bytesOf (f .value)) ≡ halvesAt first s
+unfolding halvesAt scannedOf
+parts-found first s f scans = rw (scans, bytes-text)
+
+-- 2 is the only refusal of the parts, so they ask for its column alone
+parts-placed : (p : Slash) (first : ℕ) (s v : List ℕ) (f : Refusal → Column) → f R.OddByte ≡ oddBy p first
+    → partsFrom first p s v ≡ halvesPlaced f (partsAt p s v)
+parts-placed (At i) first s v f e = refl
+parts-placed Nowhere first s v f e = refl
+parts-placed (Bad i) first s v f e =
+    ap (λ (x : Column). halvesPlaced (λ (why : Refusal). x) (partsAt (Bad i) s v)) (sym e)
+
+-- the halves of the trimmed text are those of the text on its card
+pub halves-placed : (from : ℕ) (t : List ℕ)
+    → halvesAt (firstByte from t) (trim isBlank t) ≡ halvesPlaced (textColumn from t) (splitOf t)
+unfolding halvesAt splitOf
+halves-placed from t =
+    let s = trim isBlank t in
+    let r = scanFrom Outside s 0 in
+    parts-placed (r .place) (firstByte from t) s (r .value) (textColumn from t) refl
+
+-- the first byte by lengths: what the blanks at the front leave, and the whole
+pub first-by-lengths : (from : ℕ) (t : List ℕ) → firstOf from (length t) (length (trimStart isBlank t)) ≡ firstByte from t
+unfolding firstByte
+first-by-lengths from t =
+    let all : length (leading isBlank t) + length (trimStart isBlank t) ≡ length t =
+        sym (length-append (leading isBlank t) (trimStart isBlank t)) ∙ ap length (leading-and-rest isBlank t)
+    in
+    go (trimStart isBlank t) (length (leading isBlank t)) (length t) all
+  where
+    go : (rest : List ℕ) (blanks all : ℕ) → blanks + length rest ≡ all → firstOf from all (length rest) ≡ firstBy rest from blanks
+    go [] blanks all e = refl
+    go (b ∷ s) blanks all e =
+        let some : suc (length s) ≡ 0 → ⊥ = λ e. omega arith in
+        let cut : all - suc (length s) ≡ blanks = omega arith in
+        rw (ne-eqb (suc (length s)) 0 some, cut)
+
+-- a text that is left without its blanks begins on its card
+pub first-low : (from : ℕ) (t : List ℕ) → length t ≤ size - from → 0 < length (trim isBlank t) → firstByte from t ≤ size
+unfolding firstByte trim
+first-low from t few some =
+    let all : length (leading isBlank t) + length (trimStart isBlank t) ≡ length t =
+        sym (length-append (leading isBlank t) (trimStart isBlank t)) ∙ ap length (leading-and-rest isBlank t)
+    in
+    go (trimStart isBlank t) (omega (arith, end-shorter isBlank (trimStart isBlank t))) all
+  where
+    go : (rest : List ℕ) → 0 < length rest → length (leading isBlank t) + length rest ≡ length t
+        → firstBy rest from (length (leading isBlank t)) ≤ size
+    go [] h e = omega arith
+    go (b ∷ s) h e = omega arith
 
 -- the value text fits where the text does
 pub value-fits : (t : List ℕ) → length t ≤ size → splitOf t .value .len ≤ size

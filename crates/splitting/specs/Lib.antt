@@ -4,5 +4,6 @@
 pub mod Scan
 pub mod Split
 pub mod Strings
+pub mod Columns
 -- What private contracts cite alone
 pub mod Scanned

@@ -1,14 +1,14 @@
 // A card's text taken apart into value text and comment, and value texts read as strings.
 ghost use mathlib.Core.Path.{_≡_};
-ghost use Prim.Native.Nat.{_+_, _≤_, _<_};
+ghost use Prim.Native.Nat.{_+_, _-_, _≤_, _<_};
 ghost use mathlib.Core.List.{map};
 ghost use lib.ListN.{length, drop};
 ghost use Rattle.text.specs.Bytes.{isSpace, shown};
 ghost use Rattle.text.specs.Trim.{trim, trimEnd};
 ghost use Rattle.text.specs.Text.{size, textOf, bytesOf};
-ghost use Rattle.splitting.specs.Split.{splitOf};
-ghost use Rattle.splitting.specs.Strings.{settledOf, stringRefused, stringOf};
-ghost use Rattle.splitting.specs.Scanned.{scannedOf};
+ghost use Rattle.splitting.specs.Strings.{settledOf, stringRefused};
+ghost use Rattle.splitting.specs.Columns.{splitFrom, stringFrom};
+ghost use Rattle.splitting.specs.Scanned.{scannedOf, firstOf, halvesAt};
 use refusal::Fault;
 use refusal::Refusal;
 use text::Change;
@@ -30,6 +30,12 @@ pub struct Halves {
     pub answer: SplitAnswer,
     pub value: Text,
     pub comment: Text,
+}
+
+// The halves of a text, and the byte of the card at which it begins, its blanks aside.
+pub struct SplitRead {
+    pub first: usize,
+    pub halves: Halves,
 }
 
 // What reading a string answers.
@@ -68,11 +74,45 @@ const QUOTE: u8 = b'\'';
 
 const SLASH: u8 = b'/';
 
-// The text that starts at a byte of a card, taken apart at its slash.
-pub fn split(card: &[u8; 80], from: usize) -> Halves
-    ensures { λ r. ⌜ r ≡ splitOf (drop from (now (card .entry))) ⌝ }
+// The text that stands on a card from a byte on, taken apart at its slash.
+pub fn split(card: &[u8; 80], from: usize) -> SplitRead
+    ensures { λ r. ⌜ r ≡ splitFrom from (drop from (now (card .entry))) ⌝ }
 {
-    let s = text::trimmed(text::rest_of(&card[..], from), Cut::Blanks);
+    let raw = text::rest_of(&card[..], from);
+    let rest = text::trim_start(raw, Cut::Blanks);
+    let first = first_byte(from, raw.len(), rest.len());
+    let halves = halves_of(text::trim_end(rest, Cut::Blanks), first);
+    SplitRead {
+        first: first,
+        halves: halves,
+    }
+}
+
+// A value text as a string, with or without quotes. The text that it was split from begins at a byte of the card.
+pub fn parse_string(t: Text, first: usize) -> StringRead
+    ensures { λ r. ⌜ r ≡ stringFrom first (bytesOf t) ⌝ }
+{
+    let bytes = t.bytes;
+    unquoted(text::first_of(&bytes, t.len), first)
+}
+
+// The byte of the card at which a text begins that stands from a byte on, by how many bytes it has with the blanks at its front and
+// without them.
+fn first_byte(from: usize, all: usize, left: usize) -> usize
+    requires { ⌜ (left ≤ all) × (all ≤ size - from) ⌝ }
+    ensures { λ r. ⌜ r ≡ firstOf from all left ⌝ }
+{
+    if left == 0 {
+        return from;
+    }
+    from + (all - left)
+}
+
+// A text without its blanks taken apart, which begins at a byte of the card.
+fn halves_of(s: &[u8], first: usize) -> Halves
+    requires { ⌜ (length (now s) ≤ size) × (0 < length (now s) → first ≤ size) ⌝ }
+    ensures { λ r. ⌜ r ≡ halvesAt first (now (s .entry)) ⌝ }
+{
     let found = scan(s);
     let v = found.value;
     let place = found.slash;
@@ -89,20 +129,12 @@ pub fn split(card: &[u8; 80], from: usize) -> Halves
             value: value,
             comment: none,
         },
-        Slash::Bad(_) => Halves {
-            answer: SplitAnswer::Refused(refusal::fault_of(Refusal::OddByte)),
+        Slash::Bad(i) => Halves {
+            answer: SplitAnswer::Refused(refusal::fault_at(Refusal::OddByte, first + i)),
             value: none,
             comment: none,
         },
     }
-}
-
-// A value text as a string, with or without quotes.
-pub fn parse_string(t: Text) -> StringRead
-    ensures { λ r. ⌜ r ≡ stringOf (bytesOf t) ⌝ }
-{
-    let bytes = t.bytes;
-    unquoted(text::first_of(&bytes, t.len))
 }
 
 // The scan of a trimmed text: it ends at the first slash outside a string.
@@ -203,10 +235,10 @@ fn refused(fault: Fault) -> StringRead
     }
 }
 
-// The string that a text's bytes give.
-fn unquoted(s: &[u8]) -> StringRead
+// The string that a value text's bytes give, where the text that it was split from begins at a byte of the card.
+fn unquoted(s: &[u8], first: usize) -> StringRead
     requires { ⌜ length (now s) ≤ size ⌝ }
-    ensures { λ r. ⌜ r ≡ stringOf (now (s .entry)) ⌝ }
+    ensures { λ r. ⌜ r ≡ stringFrom first (now (s .entry)) ⌝ }
 {
     let n = s.len();
     if n == 0 {
@@ -217,7 +249,7 @@ fn unquoted(s: &[u8]) -> StringRead
     }
     if s[0] == QUOTE {
         if n == 1 {
-            return refused(refusal::fault_of(Refusal::StringNotClosed));
+            return refused(refusal::fault_at(Refusal::StringNotClosed, first));
         }
         if s[n - 1] == QUOTE {
             return StringRead {
@@ -225,10 +257,10 @@ fn unquoted(s: &[u8]) -> StringRead
                 text: settled(&s[1..n - 1]),
             };
         }
-        return refused(refusal::fault_of(Refusal::StringNotClosed));
+        return refused(refusal::fault_at(Refusal::StringNotClosed, first));
     }
     if s[n - 1] == QUOTE {
-        return refused(refusal::fault_of(Refusal::StringNotOpened));
+        return refused(refusal::fault_at(Refusal::StringNotOpened, first));
     }
     StringRead {
         answer: Quoted::Str,

@@ -4,9 +4,11 @@ use Prim.Native.Char.{code}
 use mathlib.Core.Bool.{Bool, true, false, cond, _||_}
 use mathlib.Core.List.{List, [], _∷_}
 use lib.Dec.{eqb}
+use Rattle.refusal.specs.declared.Column.{Column}
 use Rattle.refusal.specs.declared.Fault.{Fault}
+use Rattle.refusal.specs.declared.Refusal.{Refusal}
 use Rattle.refusal.specs.declared.Refusal.the-variants as R
-use Rattle.refusal.specs.Numbers.{faultOf}
+use Rattle.refusal.specs.Numbers.{faultOf, placed}
 use Rattle.text.specs.declared.Text.{Text}
 use Rattle.text.specs.Bytes.{isDigit}
 use Rattle.text.specs.Text.{textOf, bytesOf}
@@ -16,9 +18,11 @@ use Rattle.splitting.specs.declared.Quoted.{Quoted}
 use Rattle.splitting.specs.declared.Quoted.the-variants.{Str, Refused as Refused-string}
 use Rattle.splitting.specs.Split.{splitOf}
 use Rattle.splitting.specs.Strings.{stringOf}
+use Rattle.splitting.specs.Columns.{textColumn}
 use Rattle.numbers.specs.declared.Value.{Value}
 use Rattle.numbers.specs.declared.Value.the-variants.{Integer, Float, Logical, String, Undefined, Invalid}
 use Rattle.numbers.specs.Numbers.{readNumber}
+use Rattle.value.specs.declared.ValueAnswer.{ValueAnswer}
 use Rattle.value.specs.declared.ValueAnswer.the-variants.{Read, Refused}
 use Rattle.value.specs.declared.ValueRead.{ValueRead}
 use Rattle.value.specs.declared.Start.{Start}
@@ -97,3 +101,17 @@ byParts (Refused-split fault) v raw comment = valueRefused fault
 -- the value in a raw text
 unfoldable pub valueOf : List ℕ → ValueRead
 valueOf raw = let h = splitOf raw in byParts (h .answer) (h .value) raw (h .comment)
+
+-- ---- on its card
+
+-- an answer with the column beside a refusal
+abbrev pub answerPlaced : (Refusal → Column) → ValueAnswer → ValueAnswer
+answerPlaced f (Read v) = Read v
+answerPlaced f (Refused fault) = Refused (placed f fault)
+
+abbrev pub valuePlaced : (Refusal → Column) → ValueRead → ValueRead
+valuePlaced f r = record { answer = answerPlaced f (r .answer); text = r .text; commented = r .commented; comment = r .comment }
+
+-- the value in a raw text that stands on its card from byte `from` on
+abbrev pub valueFrom : ℕ → List ℕ → ValueRead
+valueFrom from raw = valuePlaced (textColumn from raw) (valueOf raw)

@@ -3,8 +3,9 @@ ghost use mathlib.Core.Path.{_≡_};
 ghost use Prim.Native.Nat.{_≤_};
 ghost use lib.ListN.{length, drop};
 ghost use Rattle.text.specs.Text.{size};
+ghost use Rattle.splitting.specs.Columns.{atByte};
 ghost use Rattle.value.specs.Values.{startsNumber, startOf, keepsComment, valueAs, valueRefused};
-ghost use Rattle.value.specs.Values.{ofString, ofNumber, valueWith, valueOf};
+ghost use Rattle.value.specs.Values.{ofString, ofNumber, valueWith, valuePlaced, valueFrom};
 ghost use Rattle.value.specs.Units.{unitOf};
 use numbers::Value;
 use refusal::Fault;
@@ -46,16 +47,18 @@ pub enum UnitPlace {
 
 // The value in a card's text from a byte on.
 pub fn read_value(card: &[u8; 80], from: usize) -> ValueRead
-    ensures { λ r. ⌜ r ≡ valueOf (drop from (now (card .entry))) ⌝ }
+    ensures { λ r. ⌜ r ≡ valueFrom from (drop from (now (card .entry))) ⌝ }
 {
-    let halves = splitting::split(card, from);
+    let split = splitting::split(card, from);
+    let first = split.first;
+    let halves = split.halves;
     let answer = halves.answer;
     let v = halves.value;
     let comment = halves.comment;
     let raw = text::rest_of(&card[..], from);
     match answer {
-        SplitAnswer::Bare => value_with(v, raw, false, comment),
-        SplitAnswer::Commented => value_with(v, raw, true, comment),
+        SplitAnswer::Bare => value_with(v, raw, false, comment, first),
+        SplitAnswer::Commented => value_with(v, raw, true, comment, first),
         SplitAnswer::Refused(fault) => refused(fault),
     }
 }
@@ -157,11 +160,11 @@ fn refused(fault: Fault) -> ValueRead
     }
 }
 
-// A value text that begins with a quote.
-fn string_value(v: Text, commented: bool, comment: Text) -> ValueRead
-    ensures { λ r. ⌜ r ≡ ofString v commented comment ⌝ }
+// A value text that begins with a quote, in a text that begins at a byte of the card.
+fn string_value(v: Text, commented: bool, comment: Text, first: usize) -> ValueRead
+    ensures { λ r. ⌜ r ≡ valuePlaced (atByte first) (ofString v commented comment) ⌝ }
 {
-    let read = splitting::parse_string(v);
+    let read = splitting::parse_string(v, first);
     let answer = read.answer;
     let s = read.text;
     match answer {
@@ -170,10 +173,10 @@ fn string_value(v: Text, commented: bool, comment: Text) -> ValueRead
     }
 }
 
-// A value text that splitting gave, with the raw text that it was split from.
-fn value_with(v: Text, raw: &[u8], commented: bool, comment: Text) -> ValueRead
+// A value text that splitting gave, with the raw text that it was split from, and the byte of the card at which that begins.
+fn value_with(v: Text, raw: &[u8], commented: bool, comment: Text, first: usize) -> ValueRead
     requires { ⌜ (v .len ≤ size) × (length (now raw) ≤ size) ⌝ }
-    ensures { λ r. ⌜ r ≡ valueWith v (now (raw .entry)) commented comment ⌝ }
+    ensures { λ r. ⌜ r ≡ valuePlaced (atByte first) (valueWith v (now (raw .entry)) commented comment) ⌝ }
 {
     let n = v.len;
     let bytes = v.bytes;
@@ -182,10 +185,10 @@ fn value_with(v: Text, raw: &[u8], commented: bool, comment: Text) -> ValueRead
         return read_as(Value::Undefined, none, commented, comment);
     }
     match start_of(bytes[0]) {
-        Start::Quote => string_value(v, commented, comment),
+        Start::Quote => string_value(v, commented, comment, first),
         Start::Truth(t) => read_as(Value::Logical(t), none, commented, comment),
         Start::Number => number_value(v, commented, comment),
-        Start::Complex => refused(refusal::fault_of(Refusal::Complex)),
+        Start::Complex => refused(refusal::fault_at(Refusal::Complex, first)),
         Start::Else => read_as(Value::Invalid, text::text_of(raw), commented, comment),
     }
 }

@@ -1,50 +1,57 @@
 -- `card::continuation` meets its contract: by how the text splits.
+use Prim.Native.Nat.{ℕ}
 use mathlib.Core.Path.{_≡_, sym, ap, _∙_}
 use mathlib.Core.Bool.{Bool, true, false}
+use mathlib.Core.List.{List}
+use lib.ListN.{drop}
 use Rattle.splitting.specs.declared.SplitAnswer.{SplitAnswer}
 use Rattle.splitting.specs.declared.SplitAnswer.the-variants.{Bare, Commented, Refused}
-use Rattle.splitting.specs.declared.Halves.{Halves}
+use Rattle.splitting.specs.declared.SplitRead.{SplitRead}
 use Rattle.splitting.specs.declared.StringRead.{StringRead}
-use Rattle.splitting.specs.Strings.{stringOf}
+use Rattle.splitting.specs.Split.{splitOf}
+use Rattle.splitting.specs.Columns.{stringFrom}
+use Rattle.splitting.proofs.Refusing.{split-in-text}
 use Rattle.text.specs.Text.{bytesOf}
 use Rattle.card.specs.declared.CardRead.{CardRead}
-use Rattle.card.specs.Cards.{stringCard, continued, continuationOf}
+use Rattle.card.specs.Columns.{columnIn}
+use Rattle.card.specs.Cards.{stringCard, continuationOf, cardPlaced}
+use Rattle.card.proofs.Placing.{continuedAt, continued-in}
 use borrow.Author.Needs.{needs}
 use Rattle.card.proofs.continuation.Statement.{statement}
 use Rattle.card.proofs.continuation.Tie as tie
 
 abbrev began : tie.After-parse-string → tie.Start
-began c = c .before .before .before .before
+began c = c .before .before .before .before .before
 
-abbrev halves : tie.After-parse-string → Halves
-halves c = c .before .before .before .split .result
+abbrev card : tie.After-parse-string → List ℕ
+card c = began c .args .card .now
 
--- the card whose string was read as r
-abbrev string-as : tie.After-parse-string → StringRead → Bool → CardRead
-string-as c r commented = stringCard (r .answer) (began c .args .name) (r .text) commented (halves c .comment)
+abbrev split : tie.After-parse-string → SplitRead
+split c = c .before .before .before .before .split .result
 
-string-is : (c : tie.After-parse-string) (commented : Bool)
-    → string-as c (c .parse-string .result) commented ≡ string-as c (stringOf (bytesOf (halves c .value))) commented
-string-is c commented = ap (λ (r : StringRead). string-as c r commented) (c .parse-string .ensures)
+-- what an arm makes of a split
+abbrev made : tie.After-parse-string → SplitRead → SplitAnswer → CardRead
+made c r a = continuedAt (r .first) a (began c .args .name) (r .halves .value) (r .halves .comment)
 
 -- the case that an arm knows is the whole
-by : (c : tie.After-parse-string) (p : SplitAnswer) → halves c .answer ≡ p
-    → let a = began c .args in
-    continued p (a .name) (halves c .value) (halves c .comment) ≡ continuationOf (a .name) (a .card .now)
+by : (c : tie.After-parse-string) (a : SplitAnswer) → split c .halves .answer ≡ a
+    → made c (split c) a ≡ cardPlaced (columnIn 8 (card c)) (continuationOf (began c .args .name) (card c))
 unfolding continuationOf
-by c p e =
-    let a = began c .args in
-    ap (λ (x : SplitAnswer). continued x (a .name) (halves c .value) (halves c .comment)) (sym e)
-    ∙ ap (λ (h : Halves). continued (h .answer) (a .name) (h .value) (h .comment)) (c .before .before .before .split .ensures)
+by c a e =
+    let h = splitOf (drop 8 (card c)) in
+    ap (made c (split c)) (sym e)
+    ∙ ap (λ (r : SplitRead). made c r (r .halves .answer)) (c .before .before .before .before .split .ensures)
+    ∙ continued-in (card c) (began c .args .name) (h .answer) (h .value) (h .comment) (split-in-text (drop 8 (card c)))
 
--- a card without a comment, and with one
-bare : (c : tie.After-parse-string) → halves c .answer ≡ Bare
-    → string-as c (c .parse-string .result) false ≡ continuationOf (began c .args .name) (began c .args .card .now)
-bare c e = string-is c false ∙ by c Bare e
-
-remarked : (c : tie.After-parse-string) → halves c .answer ≡ Commented
-    → string-as c (c .parse-string .result) true ≡ continuationOf (began c .args .name) (began c .args .card .now)
-remarked c e = string-is c true ∙ by c Commented e
+-- a card whose string was read, without a comment and with one
+string-is : (c : tie.After-parse-string) (commented : Bool)
+    → let r = c .parse-string .result in
+    let s = stringFrom (split c .first) (bytesOf (split c .halves .value)) in
+    stringCard (r .answer) (began c .args .name) (r .text) commented (split c .halves .comment)
+    ≡ stringCard (s .answer) (began c .args .name) (s .text) commented (split c .halves .comment)
+string-is c commented =
+    ap (λ (r : StringRead). stringCard (r .answer) (began c .args .name) (r .text) commented (split c .halves .comment))
+    (c .parse-string .ensures)
 
 split-requires : tie.Need-split-requires
 split-requires c κs = search needs
@@ -72,11 +79,13 @@ refused-requires c κs = search needs
 
 returns : tie.Need-returns
 returns c =
-    c .string-card .ensures ∙ bare (c .before .before .before .before) (c .before .enum-told .given .1)
+    let at = c .before .before .before .before in
+    c .string-card .ensures ∙ string-is at false ∙ by at Bare (c .before .enum-told .given .1)
 
 returns-2 : tie.Need-returns-2
 returns-2 c =
-    c .string-card2 .ensures ∙ remarked (c .before .before .before .before) (c .before .enum-told2 .given .1)
+    let at = c .before .before .before .before in
+    c .string-card2 .ensures ∙ string-is at true ∙ by at Commented (c .before .enum-told2 .given .1)
 
 returns-3 : tie.Need-returns-3
 returns-3 c =

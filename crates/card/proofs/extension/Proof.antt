@@ -1,21 +1,37 @@
 -- `card::extension` meets its contract: by how the text splits.
+use Prim.Native.Nat.{ℕ}
 use mathlib.Core.Path.{_≡_, sym, ap, _∙_}
+use mathlib.Core.List.{List}
+use lib.ListN.{drop}
 use Rattle.splitting.specs.declared.SplitAnswer.{SplitAnswer}
 use Rattle.splitting.specs.declared.SplitAnswer.the-variants.{Bare, Commented, Refused}
-use Rattle.splitting.specs.declared.Halves.{Halves}
-use Rattle.card.specs.Cards.{extended, extensionOf}
+use Rattle.splitting.specs.declared.SplitRead.{SplitRead}
+use Rattle.splitting.specs.Split.{splitOf}
+use Rattle.splitting.proofs.Refusing.{split-in-text}
+use Rattle.card.specs.declared.CardRead.{CardRead}
+use Rattle.card.specs.Columns.{columnIn}
+use Rattle.card.specs.Cards.{extensionOf, cardPlaced}
+use Rattle.card.proofs.Placing.{extendedAt, extended-in}
 use borrow.Author.Needs.{needs}
 use Rattle.card.proofs.extension.Statement.{statement}
 use Rattle.card.proofs.extension.Tie as tie
 
+abbrev card : tie.After-split → List ℕ
+card c = c .before .args .card .now
+
+-- what an arm makes of a split
+abbrev made : tie.After-split → SplitRead → SplitAnswer → CardRead
+made c r a = extendedAt (r .first) a (c .before .args .name) (r .halves .value)
+
 -- the case that an arm knows is the whole
-by : (c : tie.After-split) (p : SplitAnswer) → c .split .result .answer ≡ p
-    → let a = c .before .args in extended p (a .name) (c .split .result .value) ≡ extensionOf (a .name) (a .card .now)
+by : (c : tie.After-split) (a : SplitAnswer) → c .split .result .halves .answer ≡ a
+    → made c (c .split .result) a ≡ cardPlaced (columnIn 10 (card c)) (extensionOf (c .before .args .name) (card c))
 unfolding extensionOf
-by c p e =
-    let name = c .before .args .name in
-    ap (λ (x : SplitAnswer). extended x name (c .split .result .value)) (sym e)
-    ∙ ap (λ (h : Halves). extended (h .answer) name (h .value)) (c .split .ensures)
+by c a e =
+    let h = splitOf (drop 10 (card c)) in
+    ap (made c (c .split .result)) (sym e)
+    ∙ ap (λ (r : SplitRead). made c r (r .halves .answer)) (c .split .ensures)
+    ∙ extended-in (card c) (c .before .args .name) (h .answer) (h .value) (split-in-text (drop 10 (card c)))
 
 split-requires : tie.Need-split-requires
 split-requires c κs = search needs
@@ -39,15 +55,15 @@ refused-requires : tie.Need-refused-requires
 refused-requires c κs = search needs
 
 returns : tie.Need-returns
-returns c = c .quoted-card .ensures ∙ by (c .before .before .before .before) Bare (c .before .enum-told .given .1)
+returns c = c .quoted-card .ensures ∙ by (c .before .before .before .before .before) Bare (c .before .enum-told .given .1)
 
 returns-2 : tie.Need-returns-2
-returns-2 c = c .quoted-card2 .ensures ∙ by (c .before .before .before .before) Commented (c .before .enum-told2 .given .1)
+returns-2 c = c .quoted-card2 .ensures ∙ by (c .before .before .before .before .before) Commented (c .before .enum-told2 .given .1)
 
 returns-3 : tie.Need-returns-3
 returns-3 c =
     let told = c .before .before in
-    c .refused .ensures ∙ by (told .before .before .before) (Refused (told .answer .given .0 .0)) (told .answer .given .1)
+    c .refused .ensures ∙ by (told .before .before .before .before) (Refused (told .answer .given .0 .0)) (told .answer .given .1)
 
 pub extension-spec : {M : Type 1} → statement M
 extension-spec =

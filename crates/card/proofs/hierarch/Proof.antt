@@ -15,9 +15,12 @@ use Rattle.text.specs.Text.{size, textOf}
 use Rattle.text.proofs.Finding.{found-within}
 use Rattle.refusal.specs.declared.Refusal.the-variants as R
 use Rattle.refusal.specs.Numbers.{faultOf}
-use Rattle.value.specs.Values.{valueOf}
+use Rattle.value.specs.Values.{valueOf, valueFrom}
 use Rattle.card.specs.Keywords.{dottedName}
-use Rattle.card.specs.Cards.{cardRefused, ofValue, named, byEquals, hierarchOf}
+use Rattle.card.specs.declared.CardRead.{CardRead}
+use Rattle.card.specs.Columns.{equalsOf, behind, columnIn}
+use Rattle.card.specs.Cards.{cardRefused, ofValue, named, byEquals, hierarchOf, cardPlaced}
+use Rattle.card.proofs.Placing.{nameless-in, named-in}
 use Rattle.card.proofs.hierarch.Statement.{statement}
 use Rattle.card.proofs.hierarch.Tie as tie
 
@@ -52,6 +55,20 @@ name-is c =
     let before-it = c .before .first-of .ensures ∙ ap (take (index c)) (find-at c .before .rest-of .ensures) in
     c .dotted-name .ensures ∙ ap (λ (l : List ℕ). textOf (dottedName l)) before-it
 
+-- a card with the column beside its refusal
+abbrev columned : tie.After-find-byte → CardRead → CardRead
+columned c r = cardPlaced (columnIn (behind (equalsOf (card c))) (card c)) r
+
+equals : (c : tie.After-dotted-name) → equalsOf (card (find-at c)) ≡ At (index c)
+equals c = sym (found (find-at c)) ∙ c .before .before .before .i .given .1
+
+few : (c : tie.After-dotted-name) → index c ≤ size
+few c =
+    let find = find-at c in
+    let long : length (card find) ≡ size = search needs in
+    let rest = drop 9 (card find) in
+    omega (arith, found-within (code "=") rest (index c) (equals c), length-drop 9 (card find))
+
 whole : (c : tie.After-dotted-name)
     → let card = card (find-at c) in named (name-of c) (drop (10 + index c) card) ≡ hierarchOf card
 whole c = by (find-at c) (At (index c)) (c .before .before .before .i .given .1)
@@ -76,8 +93,8 @@ enum-known-i c = search needs
 enum-told : tie.Need-enum-told
 enum-told c = search needs
 
-fault-of-requires : tie.Need-fault-of-requires
-fault-of-requires c κs = search needs
+fault-at-requires : tie.Need-fault-at-requires
+fault-at-requires c κs = search needs
 
 refused-requires : tie.Need-refused-requires
 refused-requires c κs = search needs
@@ -86,8 +103,8 @@ returns : tie.Need-returns
 returns c =
     let told = c .before .before in
     c .refused .ensures
-    ∙ ap cardRefused (c .before .fault-of .ensures)
-    ∙ by (told .before .before) Nowhere (told .enum-told .given .1)
+    ∙ ap cardRefused (c .before .fault-at .ensures)
+    ∙ ap (columned (told .before .before)) (by (told .before .before) Nowhere (told .enum-told .given .1))
 
 first-of-requires : tie.Need-first-of-requires
 first-of-requires c κs = search needs
@@ -99,8 +116,11 @@ dotted-name-requires c κs =
     let rest = find .before .rest-of .result .now in
     rw (c .first-of .ensures) (omega (arith, length-take (at-i .i .given .0 .0) rest, fits find))
 
-fault-of-requires-2 : tie.Need-fault-of-requires-2
-fault-of-requires-2 c κs = search needs
+add-fault-at : tie.Need-add-fault-at
+add-fault-at c = omega (arith, few (c .before .before))
+
+fault-at-requires-2 : tie.Need-fault-at-requires-2
+fault-at-requires-2 c κs = search needs
 
 refused-requires-2 : tie.Need-refused-requires-2
 refused-requires-2 c κs = search needs
@@ -108,18 +128,14 @@ refused-requires-2 c κs = search needs
 returns-2 : tie.Need-returns-2
 returns-2 c =
     let at-name = c .before .before .before .before in
+    let none = sym (ap (λ (t : Text). t .len) (name-is at-name)) ∙ c .before .before .if1 .taken in
     c .refused2 .ensures
-    ∙ ap cardRefused (c .before .fault-of2 .ensures)
-    ∙ nameless (name-of at-name) _ (sym (ap (λ (t : Text). t .len) (name-is at-name)) ∙ c .before .before .if1 .taken)
-    ∙ whole at-name
+    ∙ ap cardRefused (c .before .fault-at2 .ensures)
+    ∙ nameless-in (card (find-at at-name)) (index at-name) (equals at-name)
+    ∙ ap (columned (find-at at-name)) (nameless (name-of at-name) _ none ∙ whole at-name)
 
 add-read-value : tie.Need-add-read-value
-add-read-value c =
-    let at-i = c .before .before .before .before .before in
-    let find = at-i .before .before in
-    let rest = drop 9 (card find) in
-    let place = at-i .i .given in
-    omega (arith, fits find, found-within (code "=") rest (place .0 .0) (sym (found find) ∙ place .1), length-drop 9 (card find))
+add-read-value c = omega (arith, few (c .before .before))
 
 read-value-requires : tie.Need-read-value-requires
 read-value-requires c κs = search needs
@@ -130,11 +146,14 @@ with-value-requires c κs = search needs
 returns-3 : tie.Need-returns-3
 returns-3 c =
     let at-name = c .before .before .before .before in
+    let card = card (find-at at-name) in
+    let from = 10 + index at-name in
+    let some : length (name-of at-name) ≡ 0 → ⊥ = λ e. c .before .before .if1 .left (ap (λ (t : Text). t .len) (name-is at-name) ∙ e) in
     c .with-value .ensures
     ∙ ap (ofValue true (at-name .dotted-name .result)) (c .before .read-value .ensures)
-    ∙ ap (λ (t : Text). ofValue true t (valueOf (drop (10 + index at-name) (card (find-at at-name))))) (name-is at-name)
-    ∙ with-name (name-of at-name) _ (λ e. c .before .before .if1 .left (ap (λ (t : Text). t .len) (name-is at-name) ∙ e))
-    ∙ whole at-name
+    ∙ ap (λ (t : Text). ofValue true t (valueFrom from (drop from card))) (name-is at-name)
+    ∙ named-in card (index at-name) (equals at-name) (textOf (name-of at-name))
+    ∙ ap (columned (find-at at-name)) (with-name (name-of at-name) _ some ∙ whole at-name)
 
 pub hierarch-spec : {M : Type 1} → statement M
 hierarch-spec =
@@ -144,12 +163,13 @@ hierarch-spec =
     find-byte-requires
     enum-known-i
     enum-told
-    fault-of-requires
+    fault-at-requires
     refused-requires
     returns
     first-of-requires
     dotted-name-requires
-    fault-of-requires-2
+    add-fault-at
+    fault-at-requires-2
     refused-requires-2
     returns-2
     add-read-value

@@ -12,7 +12,9 @@ use Rattle.text.specs.Text.{size, textOf}
 use Rattle.text.proofs.Texts.{whole-text}
 use Rattle.value.specs.Values.{valueOf}
 use Rattle.card.specs.declared.Card.the-variants.{Undefined}
-use Rattle.card.specs.Cards.{cardAs, ofValue, otherOf}
+use Rattle.card.specs.Columns.{columnIn}
+use Rattle.card.specs.Cards.{cardAs, ofValue, otherOf, cardPlaced}
+use Rattle.card.proofs.Placing.{value-in}
 use borrow.Author.Needs.{needs}
 use Rattle.card.proofs.other.Statement.{statement}
 use Rattle.card.proofs.other.Tie as tie
@@ -68,7 +70,9 @@ returns c =
     let a = first at-test .before .before .before .args in
     c .with-value .ensures
     ∙ ap (ofValue false (a .name)) (c .before .read-value .ensures)
-    ∙ with-equals (a .name) (a .card .now) (sym (told at-test) ∙ c .before .before .if1 .taken)
+    ∙ value-in 10 (a .card .now) false (a .name)
+    ∙ ap (cardPlaced (columnIn 10 (a .card .now)))
+    (with-equals (a .name) (a .card .now) (sym (told at-test) ∙ c .before .before .if1 .taken))
 
 text-of-requires : tie.Need-text-of-requires
 text-of-requires c κs = search needs
@@ -83,7 +87,8 @@ returns-2 c =
     let long : length (a .card .now) ≡ size = whole at-test in
     c .read-as .ensures
     ∙ ap (cardAs Undefined (a .name)) (c .before .text-of .ensures ∙ whole-text (a .card .now) (omega arith))
-    ∙ without-equals (a .name) (a .card .now) (sym (told at-test) ∙ c .before .before .if1 .left)
+    ∙ ap (cardPlaced (columnIn 10 (a .card .now)))
+    (without-equals (a .name) (a .card .now) (sym (told at-test) ∙ c .before .before .if1 .left))
 
 pub other-spec : {M : Type 1} → statement M
 other-spec =

@@ -11,9 +11,10 @@ use Rattle.text.specs.Text.{size, textOf}
 use Rattle.text.proofs.Trimming.{shorter}
 use Rattle.text.proofs.Texts.{whole-text, bytes-fit}
 use Rattle.refusal.specs.declared.Refusal.the-variants as R
-use Rattle.refusal.specs.Numbers.{faultOf}
+use Rattle.refusal.specs.Numbers.{faultAt}
+use Rattle.splitting.specs.Columns.{atByte}
 use Rattle.card.specs.declared.Card.the-variants.{Xtension}
-use Rattle.card.specs.Cards.{cardRefused, cardAs, isWithinQuotes, inside, quotedCard}
+use Rattle.card.specs.Cards.{cardRefused, cardAs, isWithinQuotes, inside, quotedCard, cardPlaced}
 use Rattle.card.proofs.Classes.{too-short, not-opened, not-closed, quoted}
 use borrow.Author.Needs.{needs}
 use Rattle.card.proofs.quoted_card.Statement.{statement}
@@ -33,13 +34,14 @@ fits c =
     rw (c .first-of .ensures) (bytes-fit v long)
 
 not-within : (c : tie.After-first-of) → isWithinQuotes (text c) ≡ false
-    → let a = began c .args in cardRefused (faultOf R.ExtensionNotQuoted) ≡ quotedCard (a .name) (a .v)
+    → let a = began c .args in
+    cardRefused (faultAt R.ExtensionNotQuoted (a .first)) ≡ cardPlaced (atByte (a .first)) (quotedCard (a .name) (a .v))
 unfolding quotedCard
 not-within c e = rw (sym (ap isWithinQuotes (c .first-of .ensures)) ∙ e)
 
 is-within : (c : tie.After-first-of) → isWithinQuotes (text c) ≡ true
     → let a = began c .args in
-    cardAs Xtension (a .name) (textOf (trim isSpace (inside (text c)))) ≡ quotedCard (a .name) (a .v)
+    cardAs Xtension (a .name) (textOf (trim isSpace (inside (text c)))) ≡ cardPlaced (atByte (a .first)) (quotedCard (a .name) (a .v))
 unfolding quotedCard
 is-within c e =
     let a = began c .args in
@@ -52,8 +54,8 @@ slice-aggregate-first-of c = search needs
 first-of-requires : tie.Need-first-of-requires
 first-of-requires c κs = search needs
 
-fault-of-requires : tie.Need-fault-of-requires
-fault-of-requires c κs = search needs
+fault-at-requires : tie.Need-fault-at-requires
+fault-at-requires c κs = search needs
 
 refused-requires : tie.Need-refused-requires
 refused-requires c κs = search needs
@@ -62,14 +64,14 @@ returns : tie.Need-returns
 returns c =
     let first = c .before .before .before in
     c .refused .ensures
-    ∙ ap cardRefused (c .before .fault-of .ensures)
+    ∙ ap cardRefused (c .before .fault-at .ensures)
     ∙ not-within first (too-short (text first) (c .before .before .if1 .taken))
 
 shared-slice-read-if2 : tie.Need-shared-slice-read-if2
 shared-slice-read-if2 c = search needs
 
-fault-of-requires-2 : tie.Need-fault-of-requires-2
-fault-of-requires-2 c κs = search needs
+fault-at-requires-2 : tie.Need-fault-at-requires-2
+fault-at-requires-2 c κs = search needs
 
 refused-requires-2 : tie.Need-refused-requires-2
 refused-requires-2 c κs = search needs
@@ -80,7 +82,7 @@ returns-2 c =
     let long = test .before .before in
     let first = long .before in
     c .refused2 .ensures
-    ∙ ap cardRefused (c .before .fault-of2 .ensures)
+    ∙ ap cardRefused (c .before .fault-at2 .ensures)
     ∙ not-within first (not-opened (text first) (long .if1 .left) (test .if2 .taken))
 
 sub-if3 : tie.Need-sub-if3
@@ -89,8 +91,8 @@ sub-if3 c = search needs
 shared-slice-read-if3 : tie.Need-shared-slice-read-if3
 shared-slice-read-if3 c = search needs
 
-fault-of-requires-3 : tie.Need-fault-of-requires-3
-fault-of-requires-3 c κs = search needs
+fault-at-requires-3 : tie.Need-fault-at-requires-3
+fault-at-requires-3 c κs = search needs
 
 refused-requires-3 : tie.Need-refused-requires-3
 refused-requires-3 c κs = search needs
@@ -101,7 +103,7 @@ returns-3 c =
     let first = second .before .before .before in
     let starts = second .if2 .left in
     c .refused3 .ensures
-    ∙ ap cardRefused (c .before .fault-of3 .ensures)
+    ∙ ap cardRefused (c .before .fault-at3 .ensures)
     ∙ not-within first (not-closed (text first) (second .before .before .if1 .left) starts (c .before .before .if3 .taken))
 
 sub-trimmed : tie.Need-sub-trimmed
@@ -147,16 +149,16 @@ quoted-card-spec =
     (tie.spec
     slice-aggregate-first-of
     first-of-requires
-    fault-of-requires
+    fault-at-requires
     refused-requires
     returns
     shared-slice-read-if2
-    fault-of-requires-2
+    fault-at-requires-2
     refused-requires-2
     returns-2
     sub-if3
     shared-slice-read-if3
-    fault-of-requires-3
+    fault-at-requires-3
     refused-requires-3
     returns-3
     sub-trimmed

@@ -1,206 +1,73 @@
--- `card::read_card` meets its contract: by what the keyword says.
-use Prim.Native.Nat.{ℕ, _≤_}
-use native.Mathlib.Omega.{arith}
+-- `card::read_card` meets its contract: by whether a byte of 128 or more is found.
+use Prim.Native.Nat.{ℕ}
 use mathlib.Core.Path.{_≡_, sym, ap, _∙_}
 use mathlib.Core.Bool.{true, false}
 use mathlib.Core.List.{List}
-use lib.ListN.{length, take, length-take}
 use borrow.Author.Needs.{needs}
-use Rattle.text.specs.declared.Text.{Text}
-use Rattle.text.specs.Bytes.{isBlank}
-use Rattle.text.specs.Trim.{trim}
-use Rattle.text.specs.Text.{size, textOf}
-use Rattle.text.proofs.Trimming.{shorter}
-use Rattle.text.proofs.Texts.{whole-text}
+use Rattle.refusal.specs.declared.Column.{Column}
+use Rattle.refusal.specs.declared.Column.the-variants.{At, Absent}
 use Rattle.refusal.specs.declared.Refusal.the-variants as R
-use Rattle.refusal.specs.Numbers.{faultOf}
-use Rattle.card.specs.declared.Card.the-variants as C
-use Rattle.card.specs.declared.Class.{Class}
-use Rattle.card.specs.declared.Class.the-variants.{Empty, Comment, History, Continue, Xtension, Hierarch, End, Other}
+use Rattle.refusal.specs.Numbers.{faultAt}
+use Rattle.text.specs.Text.{textOf}
 use Rattle.card.specs.Keywords.{hasHigh, keywordOf, classOf}
-use Rattle.card.specs.Cards.{cardRefused, cardAs, byClass, cardOf}
+use Rattle.card.specs.Columns.{highFrom, columnOf}
+use Rattle.card.specs.Cards.{cardRefused, byClass, cardPlaced, unplacedOf, cardOf}
+use Rattle.card.proofs.Highs.{high-found, high-missing}
 use Rattle.card.proofs.read_card.Statement.{statement}
 use Rattle.card.proofs.read_card.Tie as tie
 
-abbrev card-at : tie.After-has-high → List ℕ
-card-at c = c .before .before .args .card .now
+high : (c : List ℕ) (i : ℕ) → highFrom c 0 ≡ At i → cardRefused (faultAt R.HighByte i) ≡ cardOf c
+unfolding cardOf unplacedOf
+high c i e =
+    ap (λ (x : Column). cardRefused (record { why = R.HighByte; column = x })) (sym e) ∙ rw (high-found c i e)
 
-high : (c : List ℕ) → hasHigh c ≡ true → cardRefused (faultOf R.HighByte) ≡ cardOf c
-unfolding cardOf
-high c e = rw e
+low : (c : List ℕ) → highFrom c 0 ≡ Absent
+    → cardPlaced (columnOf c) (byClass (classOf (keywordOf c)) (textOf (keywordOf c)) c) ≡ cardOf c
+unfolding cardOf unplacedOf
+low c e = rw (high-missing c e)
 
-low : (c : List ℕ) → hasHigh c ≡ false → byClass (classOf (keywordOf c)) (textOf (keywordOf c)) c ≡ cardOf c
-unfolding cardOf
-low c e = rw e
+find-high-requires : tie.Need-find-high-requires
+find-high-requires c κs = search needs
 
--- the test of its bytes, and the card's bytes, at the place where its class is known
-abbrev test-at : tie.After-class-of → tie.Else1
-test-at c = c .before .before .before .before
+enum-known-i : tie.Need-enum-known-i
+enum-known-i c = search needs
 
-abbrev card : tie.After-class-of → List ℕ
-card c = card-at (test-at c .before)
-
-fits : (c : tie.After-class-of) → length (card c) ≤ size
-fits c = let long : length (card c) ≡ size = search needs in omega arith
-
-word-is : (c : tie.After-class-of) → c .before .before .trimmed .result .now ≡ keywordOf (card c)
-word-is c = c .before .before .trimmed .ensures ∙ ap (trim isBlank) (c .before .before .before .first-of .ensures)
-
-name-is : (c : tie.After-class-of) → c .before .text-of .result ≡ textOf (keywordOf (card c))
-name-is c =
-    let short : length (keywordOf (card c)) ≤ size = omega (arith, shorter isBlank (take 8 (card c)), length-take 8 (card c)) in
-    c .before .text-of .ensures ∙ ap (λ (l : List ℕ). textOf (take size l)) (word-is c) ∙ whole-text (keywordOf (card c)) short
-
--- the class that an arm knows gives the card
-by : (c : tie.After-class-of) (k : Class) → c .class-of .result ≡ k
-    → byClass k (c .before .text-of .result) (card c) ≡ cardOf (card c)
-by c k e =
-    ap (λ (x : Class). byClass x (c .before .text-of .result) (card c)) (sym e ∙ c .class-of .ensures ∙ ap classOf (word-is c))
-    ∙ ap (λ (t : Text). byClass (classOf (keywordOf (card c))) t (card c)) (name-is c)
-    ∙ low (card c) (sym (test-at c .before .has-high .ensures) ∙ test-at c .if1 .left)
-
-has-high-requires : tie.Need-has-high-requires
-has-high-requires c κs = search needs
-
-fault-of-requires : tie.Need-fault-of-requires
-fault-of-requires c κs = search needs
+fault-at-requires : tie.Need-fault-at-requires
+fault-at-requires c κs = search needs
 
 refused-requires : tie.Need-refused-requires
 refused-requires c κs = search needs
 
-returns : tie.Need-returns
-returns c =
-    let test = c .before .before .before in
-    c .refused .ensures
-    ∙ ap cardRefused (c .before .fault-of .ensures)
-    ∙ high (card-at test) (sym (test .has-high .ensures) ∙ c .before .before .if1 .taken)
-
-first-of-requires : tie.Need-first-of-requires
-first-of-requires c κs = search needs
-
-trimmed-requires : tie.Need-trimmed-requires
-trimmed-requires c κs = search needs
-
-text-of-requires : tie.Need-text-of-requires
-text-of-requires c κs = search needs
-
-class-of-requires : tie.Need-class-of-requires
-class-of-requires c κs = search needs
-
 enum-told : tie.Need-enum-told
 enum-told c = search needs
 
-unnamed-requires : tie.Need-unnamed-requires
-unnamed-requires c κs = fits (c .before .before)
+low-card-requires : tie.Need-low-card-requires
+low-card-requires c κs = search needs
 
-enum-told-2 : tie.Need-enum-told-2
-enum-told-2 c = search needs
-
-remark-requires : tie.Need-remark-requires
-remark-requires c κs = fits (c .before .before)
-
-enum-told-3 : tie.Need-enum-told-3
-enum-told-3 c = search needs
-
-remark-requires-2 : tie.Need-remark-requires-2
-remark-requires-2 c κs = fits (c .before .before)
-
-enum-told-4 : tie.Need-enum-told-4
-enum-told-4 c = search needs
-
-continuation-requires : tie.Need-continuation-requires
-continuation-requires c κs = search needs
-
-enum-told-5 : tie.Need-enum-told-5
-enum-told-5 c = search needs
-
-extension-requires : tie.Need-extension-requires
-extension-requires c κs = search needs
-
-enum-told-6 : tie.Need-enum-told-6
-enum-told-6 c = search needs
-
-hierarch-requires : tie.Need-hierarch-requires
-hierarch-requires c κs = search needs
-
-enum-told-7 : tie.Need-enum-told-7
-enum-told-7 c = search needs
-
-empty-text-requires : tie.Need-empty-text-requires
-empty-text-requires c κs = search needs
-
-read-as-requires : tie.Need-read-as-requires
-read-as-requires c κs = search needs
-
-enum-told-8 : tie.Need-enum-told-8
-enum-told-8 c = search needs
-
-other-requires : tie.Need-other-requires
-other-requires c κs = search needs
+returns : tie.Need-returns
+returns c =
+    let at-i = c .before .before .before in
+    let find = at-i .before .before in
+    let i = at-i .i .given in
+    c .refused .ensures
+    ∙ ap cardRefused (c .before .fault-at .ensures)
+    ∙ high (find .before .before .args .card .now) (i .0 .0) (sym (find .find-high .ensures) ∙ i .1)
 
 returns-2 : tie.Need-returns-2
-returns-2 c = c .unnamed .ensures ∙ by (c .before .before .before) Empty (c .before .enum-told .given .1)
-
-returns-3 : tie.Need-returns-3
-returns-3 c = c .remark .ensures ∙ by (c .before .before .before) Comment (c .before .enum-told2 .given .1)
-
-returns-4 : tie.Need-returns-4
-returns-4 c = c .remark2 .ensures ∙ by (c .before .before .before) History (c .before .enum-told3 .given .1)
-
-returns-5 : tie.Need-returns-5
-returns-5 c = c .continuation .ensures ∙ by (c .before .before .before) Continue (c .before .enum-told4 .given .1)
-
-returns-6 : tie.Need-returns-6
-returns-6 c = c .extension .ensures ∙ by (c .before .before .before) Xtension (c .before .enum-told5 .given .1)
-
-returns-7 : tie.Need-returns-7
-returns-7 c = c .hierarch .ensures ∙ by (c .before .before .before) Hierarch (c .before .enum-told6 .given .1)
-
-returns-8 : tie.Need-returns-8
-returns-8 c =
-    let told = c .before .before in
-    let name = told .before .before .before .text-of .result in
-    c .read-as .ensures
-    ∙ ap (cardAs C.End name) (c .before .empty-text .ensures)
-    ∙ by (told .before .before) End (told .enum-told7 .given .1)
-
-returns-9 : tie.Need-returns-9
-returns-9 c = c .other .ensures ∙ by (c .before .before .before) Other (c .before .enum-told8 .given .1)
+returns-2 c =
+    let told = c .before in
+    let find = told .before .before in
+    c .low-card .ensures ∙ low (find .before .before .args .card .now) (sym (find .find-high .ensures) ∙ told .enum-told .given .1)
 
 pub read-card-spec : {M : Type 1} → statement M
 read-card-spec =
     tie.close
     (tie.spec
-    has-high-requires
-    fault-of-requires
+    find-high-requires
+    enum-known-i
+    fault-at-requires
     refused-requires
-    returns
-    first-of-requires
-    trimmed-requires
-    text-of-requires
-    class-of-requires
     enum-told
-    unnamed-requires
-    enum-told-2
-    remark-requires
-    enum-told-3
-    remark-requires-2
-    enum-told-4
-    continuation-requires
-    enum-told-5
-    extension-requires
-    enum-told-6
-    hierarch-requires
-    enum-told-7
-    empty-text-requires
-    read-as-requires
-    enum-told-8
-    other-requires
-    returns-2
-    returns-3
-    returns-4
-    returns-5
-    returns-6
-    returns-7
-    returns-8
-    returns-9)
+    low-card-requires
+    returns
+    returns-2)

@@ -3,7 +3,7 @@ use mathlib.Core.Path.{_≡_, _∙_, ap}
 use lib.ListN.{length}
 use Rattle.text.specs.Text.{size}
 use Rattle.text.proofs.Texts.{bytes-fit}
-use Rattle.splitting.specs.Strings.{stringOf}
+use Rattle.splitting.specs.Columns.{stringFrom}
 use borrow.Author.Needs.{needs}
 use Rattle.splitting.proofs.parse_string.Statement.{statement}
 use Rattle.splitting.proofs.parse_string.Tie as tie
@@ -21,7 +21,9 @@ unquoted-requires c κs =
     rw (c .first-of .ensures) (bytes-fit t long)
 
 returns : tie.Need-returns
-returns c = c .unquoted .ensures ∙ ap stringOf (c .before .first-of .ensures)
+returns c =
+    let first = c .before .before .before .before .args .first in
+    c .unquoted .ensures ∙ ap (stringFrom first) (c .before .first-of .ensures)
 
 pub parse-string-spec : {M : Type 1} → statement M
 parse-string-spec =

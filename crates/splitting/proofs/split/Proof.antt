@@ -1,149 +1,88 @@
--- `splitting::split` meets its contract: the scan of the trimmed text says where, and the parts are trimmed and copied.
-use Prim.Native.Nat.{ℕ, _+_, _≤_, _<_}
-use native.Mathlib.Numerals.{add-one}
+-- `splitting::split` meets its contract: the text without its blanks is taken apart, and lengths say where it begins.
+use Prim.Native.Nat.{ℕ, _-_, _<_, _≤_}
 use native.Mathlib.Omega.{arith}
-use mathlib.Core.Path.{_≡_, _∙_, ap, sym, subst}
-use mathlib.Core.List.{List, map}
+use mathlib.Core.Path.{_≡_, _∙_, ap, ap₂, sym}
+use mathlib.Core.List.{List}
 use lib.ListN.{length, drop, length-drop}
-use Rattle.text.specs.Bytes.{isSpace, isBlank, shown}
-use Rattle.text.specs.Trim.{trim, trimEnd}
-use Rattle.text.specs.Text.{size, textOf, bytesOf}
-use Rattle.text.proofs.Trimming.{take-rest, shorter}
-use Rattle.splitting.specs.declared.Slash.{Slash}
-use Rattle.splitting.specs.declared.Slash.the-variants.{At, Nowhere, Bad}
-use Rattle.splitting.specs.declared.Scanned.{Scanned}
-use Rattle.splitting.specs.declared.SplitAnswer.the-variants.{Bare, Commented, Refused}
-use Rattle.splitting.specs.Split.{partsAt, splitOf}
-use Rattle.splitting.proofs.Splitting.{Below, scanned-within, split-found}
+use Rattle.text.specs.Bytes.{isBlank}
+use Rattle.text.specs.Trim.{trimStart, trimEnd, trim}
+use Rattle.text.specs.Text.{size}
+use Rattle.text.proofs.Trimming.{start-shorter, shorter}
+use Rattle.splitting.specs.Columns.{firstByte}
+use Rattle.splitting.specs.Scanned.{firstOf, halvesAt}
+use Rattle.splitting.proofs.Splitting.{first-by-lengths, first-low, halves-placed}
 use borrow.Author.Needs.{needs}
 use Rattle.splitting.proofs.split.Statement.{statement}
 use Rattle.splitting.proofs.split.Tie as tie
 
--- the text that is split
-abbrev given : tie.After-trimmed → List ℕ
-given c = drop (c .before .before .before .args .from) (c .before .before .before .args .card .now)
+-- the byte that the text stands from, and the text
+abbrev from : tie.After-trim-start → ℕ
+from c = c .before .before .before .args .from
 
-trims : (c : tie.After-trimmed) → c .trimmed .result .now ≡ trim isBlank (given c)
-trims c = c .trimmed .ensures ∙ ap (trim isBlank) (c .before .rest-of .ensures)
+abbrev given : tie.After-trim-start → List ℕ
+given c = drop (from c) (c .before .before .before .args .card .now)
 
--- the trimmed text, and what its scan gave
-abbrev text : tie.After-scan → List ℕ
-text c = c .before .trimmed .result .now
-
-abbrev scanned : tie.After-scan → Scanned
-scanned c = c .scan .result
-
--- the trimmed text is short enough
-small : (c : tie.After-trimmed) → length (c .trimmed .result .now) ≤ size
-small c =
+few : (c : tie.After-trim-start) → length (given c) ≤ size - from c
+few c =
     let card = c .before .before .before .args .card .now in
     let long : length card ≡ size = search needs in
-    rw (trims c) (omega (arith, shorter isBlank (given c), length-drop (c .before .before .before .args .from) card))
+    omega (arith, length-drop (from c) card)
 
--- what was found lies within it
-found : (c : tie.After-scan) → (scanned c .value .len ≤ length (text c)) × Below (length (text c)) (scanned c .slash)
-found c = scanned-within (text c) (scanned c) (c .scan .ensures)
+-- the blanks at its front cut, then those at its end
+started : (c : tie.After-trim-start) → c .trim-start .result .now ≡ trimStart isBlank (given c)
+started c = c .trim-start .ensures ∙ ap (trimStart isBlank) (c .before .rest-of .ensures)
 
--- the place after the scan that led to an arm
-abbrev scan-at : tie.After-place → tie.After-scan
-scan-at c = c .before .before .before .before .before
+trims : (c : tie.After-trim-end) → c .trim-end .result .now ≡ trim isBlank (given (c .before .before))
+unfolding trim
+trims c = c .trim-end .ensures ∙ ap (trimEnd isBlank) (started (c .before .before))
 
-below : (c : tie.After-place) → c .place .given .0 .0 < length (text (scan-at c))
-below c = subst (Below _) (c .place .given .1) (found (scan-at c) .1)
-
--- the parts at the place that an arm knows are those of the text
-by : (c : tie.After-scan) (p : Slash) → scanned c .slash ≡ p
-    → partsAt p (text c) (bytesOf (scanned c .value)) ≡ splitOf (given (c .before))
-by c p e =
-    ap (λ (x : Slash). partsAt x (text c) (bytesOf (scanned c .value))) (sym e)
-    ∙ split-found (given (c .before)) (text c) (scanned c) (trims (c .before)) (c .scan .ensures)
+-- where it begins
+begins : (c : tie.After-first-byte) → c .first-byte .result ≡ firstByte (from (c .before)) (given (c .before))
+begins c =
+    let at = c .before in
+    let all = ap (length {A = ℕ}) (at .before .rest-of .ensures) in
+    let left = ap (length {A = ℕ}) (started at) in
+    c .first-byte .ensures
+    ∙ ap₂ (firstOf (from at)) all left
+    ∙ first-by-lengths (from at) (given at)
 
 rest-of-requires : tie.Need-rest-of-requires
 rest-of-requires c κs = search needs
 
-trimmed-requires : tie.Need-trimmed-requires
-trimmed-requires c κs = search needs
+trim-start-requires : tie.Need-trim-start-requires
+trim-start-requires c κs = search needs
 
-scan-requires : tie.Need-scan-requires
-scan-requires c κs = small c
+first-byte-requires : tie.Need-first-byte-requires
+first-byte-requires c κs =
+    let all = ap (length {A = ℕ}) (c .before .rest-of .ensures) in
+    let left = ap (length {A = ℕ}) (started c) in
+    (omega (arith, all, left, start-shorter isBlank (given c)), omega (arith, all, few c))
 
-spaces-off-requires : tie.Need-spaces-off-requires
-spaces-off-requires c κs = search needs
+trim-end-requires : tie.Need-trim-end-requires
+trim-end-requires c κs = search needs
 
-empty-text-requires : tie.Need-empty-text-requires
-empty-text-requires c κs = search needs
-
-enum-known-place : tie.Need-enum-known-place
-enum-known-place c = search needs
-
-add-comment-of : tie.Need-add-comment-of
-add-comment-of c = omega (arith, below (c .before), small (scan-at (c .before) .before))
-
-sub-comment-of : tie.Need-sub-comment-of
-sub-comment-of c = omega (arith, below (c .before))
-
-part-comment-of-start : tie.Need-part-comment-of-start
-part-comment-of-start c = omega (arith, below (c .before))
-
-part-comment-of-end : tie.Need-part-comment-of-end
-part-comment-of-end c = search needs
-
-comment-of-requires : tie.Need-comment-of-requires
-comment-of-requires c κs =
-    let s = text (scan-at (c .before .before)) in
-    let i = c .before .before .place .given .0 .0 in
-    rw (take-rest s (i + 1)) (omega (arith, length-drop (i + 1) s, small (scan-at (c .before .before) .before)))
-
-enum-told : tie.Need-enum-told
-enum-told c = search needs
-
-enum-told-2 : tie.Need-enum-told-2
-enum-told-2 c = search needs
-
-fault-of-requires : tie.Need-fault-of-requires
-fault-of-requires c κs = search needs
+halves-of-requires : tie.Need-halves-of-requires
+halves-of-requires c κs =
+    let at = c .before .before in
+    let short = ap (length {A = ℕ}) (trims c) in
+    let low = first-low (from at) (given at) (few at) in
+    ( omega (arith, short, shorter isBlank (given at), few at)
+    , λ some. omega (arith, begins (c .before), low (omega (arith, short, some))) )
 
 returns : tie.Need-returns
 returns c =
-    let place = c .before .before .before in
-    let s = text (scan-at place) in
-    let i = place .place .given .0 .0 in
-    let behind = take-rest s (i + 1) ∙ ap (λ (k : ℕ). drop k s) (add-one i) in
-    let comment = c .comment-of .ensures ∙ ap (λ (l : List ℕ). textOf (trimEnd isSpace (map shown l))) behind in
-    (λ j. record { answer = Commented; value = place .before .before .before .spaces-off .ensures j; comment = comment j })
-    ∙ by (scan-at place) (At i) (place .place .given .1)
-
-returns-2 : tie.Need-returns-2
-returns-2 c =
-    let empty = c .before .before in
-    (λ j. record { answer = Bare; value = empty .before .spaces-off .ensures j; comment = empty .empty-text .ensures j })
-    ∙ by (empty .before .before .before) Nowhere (c .enum-told .given .1)
-
-returns-3 : tie.Need-returns-3
-returns-3 c =
-    let empty = c .before .before .before in
-    let none = empty .empty-text .ensures in
-    (λ j. record { answer = Refused (c .fault-of .ensures j); value = none j; comment = none j })
-    ∙ by (empty .before .before .before) (Bad (c .before .enum-told2 .given .0 .0)) (c .before .enum-told2 .given .1)
+    let first = c .before .before in
+    let at = first .before in
+    let halves = c .halves-of .ensures ∙ ap₂ halvesAt (begins first) (trims (c .before)) ∙ halves-placed (from at) (given at) in
+    λ j. record { first = begins first j; halves = halves j }
 
 pub split-spec : {M : Type 1} → statement M
 split-spec =
     tie.close
     (tie.spec
     rest-of-requires
-    trimmed-requires
-    scan-requires
-    spaces-off-requires
-    empty-text-requires
-    enum-known-place
-    add-comment-of
-    sub-comment-of
-    part-comment-of-start
-    part-comment-of-end
-    comment-of-requires
-    enum-told
-    enum-told-2
-    fault-of-requires
-    returns
-    returns-2
-    returns-3)
+    trim-start-requires
+    first-byte-requires
+    trim-end-requires
+    halves-of-requires
+    returns)

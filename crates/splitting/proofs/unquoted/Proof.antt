@@ -1,10 +1,12 @@
 -- `splitting::unquoted` meets its contract, test by test. Assumes nothing.
-use Prim.Native.Nat.{_-_}
-use mathlib.Core.Path.{_∙_, ap, sym}
+use Prim.Native.Nat.{ℕ, _-_}
+use mathlib.Core.Path.{_≡_, _∙_, ap, sym}
+use mathlib.Core.List.{List}
 use Rattle.splitting.specs.declared.Quoted.the-variants.{Str}
 use Rattle.splitting.specs.declared.StringRead.{StringRead}
 use Rattle.text.specs.declared.Text.{Text}
 use Rattle.splitting.specs.Strings.{settledOf, stringRefused, stringOf}
+use Rattle.splitting.specs.Columns.{atByte, stringPlaced, stringFrom}
 use Rattle.splitting.proofs.Stringing.{empty, lone, quoted, unclosed, unopened-quote, plain-text}
 use borrow.Author.Needs.{needs}
 use Rattle.splitting.proofs.unquoted.Statement.{statement}
@@ -13,20 +15,24 @@ use Rattle.splitting.proofs.unquoted.Tie as tie
 abbrev a-string : Text → StringRead
 a-string t = record { answer = Str; text = t }
 
+-- what a law says of the string, with the column beside a refusal
+placed : (first : ℕ) (s : List ℕ) {r : StringRead} → stringOf s ≡ r → stringPlaced (atByte first) r ≡ stringFrom first s
+placed first s e = ap (stringPlaced (atByte first)) (sym e)
+
 empty-text-requires : tie.Need-empty-text-requires
 empty-text-requires c κs = search needs
 
 returns : tie.Need-returns
 unfolding stringOf settledOf
 returns c =
-    let s = c .before .before .before .args .s .now in
-    ap a-string (c .empty-text .ensures) ∙ ap stringOf (sym (empty s (c .before .if1 .taken)))
+    let a = c .before .before .before .args in
+    ap a-string (c .empty-text .ensures) ∙ ap (stringFrom (a .first)) (sym (empty (a .s .now) (c .before .if1 .taken)))
 
 shared-slice-read-if2 : tie.Need-shared-slice-read-if2
 shared-slice-read-if2 c = search needs
 
-fault-of-requires : tie.Need-fault-of-requires
-fault-of-requires c κs = search needs
+fault-at-requires : tie.Need-fault-at-requires
+fault-at-requires c κs = search needs
 
 refused-requires : tie.Need-refused-requires
 refused-requires c κs = search needs
@@ -34,10 +40,10 @@ refused-requires c κs = search needs
 returns-2 : tie.Need-returns-2
 returns-2 c =
     let quote = c .before .before .before in
-    let s = quote .before .before .before .before .args .s .now in
+    let a = quote .before .before .before .before .args in
     c .refused .ensures
-    ∙ ap stringRefused (c .before .fault-of .ensures)
-    ∙ sym (lone s (c .before .before .if3 .taken) (quote .if2 .taken))
+    ∙ ap stringRefused (c .before .fault-at .ensures)
+    ∙ placed (a .first) (a .s .now) (lone (a .s .now) (c .before .before .if3 .taken) (quote .if2 .taken))
 
 sub-if4 : tie.Need-sub-if4
 sub-if4 c = search needs
@@ -64,12 +70,13 @@ returns-3 : tie.Need-returns-3
 returns-3 c =
     let last = c .before .before in
     let quote = last .before .before .before in
-    let s = quote .before .before .before .before .args .s .now in
+    let a = quote .before .before .before .before .args in
     ap a-string (c .settled .ensures)
-    ∙ sym (quoted s (quote .before .before .if1 .left) (last .before .before .if3 .left) (quote .if2 .taken) (last .if4 .taken))
+    ∙ placed (a .first) (a .s .now)
+    (quoted (a .s .now) (quote .before .before .if1 .left) (last .before .before .if3 .left) (quote .if2 .taken) (last .if4 .taken))
 
-fault-of-requires-2 : tie.Need-fault-of-requires-2
-fault-of-requires-2 c κs = search needs
+fault-at-requires-2 : tie.Need-fault-at-requires-2
+fault-at-requires-2 c κs = search needs
 
 refused-requires-2 : tie.Need-refused-requires-2
 refused-requires-2 c κs = search needs
@@ -78,10 +85,11 @@ returns-4 : tie.Need-returns-4
 returns-4 c =
     let last = c .before .before in
     let quote = last .before .before .before in
-    let s = quote .before .before .before .before .args .s .now in
+    let a = quote .before .before .before .before .args in
     c .refused2 .ensures
-    ∙ ap stringRefused (c .before .fault-of2 .ensures)
-    ∙ sym (unclosed s (quote .before .before .if1 .left) (last .before .before .if3 .left) (quote .if2 .taken) (last .if4 .left))
+    ∙ ap stringRefused (c .before .fault-at2 .ensures)
+    ∙ placed (a .first) (a .s .now)
+    (unclosed (a .s .now) (quote .before .before .if1 .left) (last .before .before .if3 .left) (quote .if2 .taken) (last .if4 .left))
 
 sub-if5 : tie.Need-sub-if5
 sub-if5 c = search needs
@@ -89,8 +97,8 @@ sub-if5 c = search needs
 shared-slice-read-if5 : tie.Need-shared-slice-read-if5
 shared-slice-read-if5 c = search needs
 
-fault-of-requires-3 : tie.Need-fault-of-requires-3
-fault-of-requires-3 c κs = search needs
+fault-at-requires-3 : tie.Need-fault-at-requires-3
+fault-at-requires-3 c κs = search needs
 
 refused-requires-3 : tie.Need-refused-requires-3
 refused-requires-3 c κs = search needs
@@ -98,10 +106,10 @@ refused-requires-3 c κs = search needs
 returns-5 : tie.Need-returns-5
 returns-5 c =
     let bare = c .before .before .before .before in
-    let s = bare .before .before .before .before .args .s .now in
+    let a = bare .before .before .before .before .args in
     c .refused3 .ensures
-    ∙ ap stringRefused (c .before .fault-of3 .ensures)
-    ∙ sym (unopened-quote s (bare .before .before .if1 .left) (bare .if2 .left) (c .before .before .if5 .taken))
+    ∙ ap stringRefused (c .before .fault-at3 .ensures)
+    ∙ placed (a .first) (a .s .now) (unopened-quote (a .s .now) (bare .before .before .if1 .left) (bare .if2 .left) (c .before .before .if5 .taken))
 
 settled-requires-2 : tie.Need-settled-requires-2
 settled-requires-2 c κs = search needs
@@ -109,9 +117,9 @@ settled-requires-2 c κs = search needs
 returns-6 : tie.Need-returns-6
 returns-6 c =
     let bare = c .before .before .before in
-    let s = bare .before .before .before .before .args .s .now in
+    let a = bare .before .before .before .before .args in
     ap a-string (c .settled2 .ensures)
-    ∙ sym (plain-text s (bare .before .before .if1 .left) (bare .if2 .left) (c .before .if5 .left))
+    ∙ placed (a .first) (a .s .now) (plain-text (a .s .now) (bare .before .before .if1 .left) (bare .if2 .left) (c .before .if5 .left))
 
 pub unquoted-spec : {M : Type 1} → statement M
 unquoted-spec =
@@ -120,7 +128,7 @@ unquoted-spec =
     empty-text-requires
     returns
     shared-slice-read-if2
-    fault-of-requires
+    fault-at-requires
     refused-requires
     returns-2
     sub-if4
@@ -131,12 +139,12 @@ unquoted-spec =
     part-settled-end
     settled-requires
     returns-3
-    fault-of-requires-2
+    fault-at-requires-2
     refused-requires-2
     returns-4
     sub-if5
     shared-slice-read-if5
-    fault-of-requires-3
+    fault-at-requires-3
     refused-requires-3
     returns-5
     settled-requires-2

@@ -3,7 +3,11 @@ use mathlib.Core.Path.{_≡_, sym, ap, _∙_}
 use Rattle.splitting.specs.declared.Quoted.{Quoted}
 use Rattle.splitting.specs.declared.Quoted.the-variants.{Str, Refused}
 use Rattle.splitting.specs.declared.StringRead.{StringRead}
-use Rattle.value.specs.Values.{byQuotes, ofString}
+use Rattle.splitting.specs.Strings.{stringOf}
+use Rattle.splitting.specs.Columns.{atByte}
+use Rattle.text.specs.Text.{bytesOf}
+use Rattle.value.specs.Values.{byQuotes, ofString, valuePlaced}
+use Rattle.value.proofs.Placing.{quotes-placed}
 use borrow.Author.Needs.{needs}
 use Rattle.value.proofs.string_value.Statement.{statement}
 use Rattle.value.proofs.string_value.Tie as tie
@@ -11,12 +15,15 @@ use Rattle.value.proofs.string_value.Tie as tie
 -- the case that an arm knows is the whole
 by : (c : tie.After-parse-string) (q : Quoted) → c .parse-string .result .answer ≡ q
     → let a = c .before .args in
-    byQuotes q (c .parse-string .result .text) (a .commented) (a .comment) ≡ ofString (a .v) (a .commented) (a .comment)
+    byQuotes q (c .parse-string .result .text) (a .commented) (a .comment)
+    ≡ valuePlaced (atByte (a .first)) (ofString (a .v) (a .commented) (a .comment))
 unfolding ofString
 by c q e =
     let a = c .before .args in
+    let r = stringOf (bytesOf (a .v)) in
     ap (λ (x : Quoted). byQuotes x (c .parse-string .result .text) (a .commented) (a .comment)) (sym e)
     ∙ ap (λ (r : StringRead). byQuotes (r .answer) (r .text) (a .commented) (a .comment)) (c .parse-string .ensures)
+    ∙ quotes-placed (atByte (a .first)) (r .answer) (r .text) (a .commented) (a .comment)
 
 parse-string-requires : tie.Need-parse-string-requires
 parse-string-requires c κs = search needs

@@ -8,7 +8,8 @@ use Rattle.text.proofs.Texts.{whole-text}
 use Rattle.numbers.specs.declared.Value.the-variants.{Logical, Undefined, Invalid}
 use Rattle.value.specs.declared.Start.{Start}
 use Rattle.value.specs.declared.Start.the-variants.{Quote, Truth, Number, Complex, Else}
-use Rattle.value.specs.Values.{valueAs, valueRefused, byStart, valueWith}
+use Rattle.splitting.specs.Columns.{atByte}
+use Rattle.value.specs.Values.{valueAs, valueRefused, byStart, ofNumber, valueWith, valuePlaced}
 use Rattle.value.proofs.Starts.{with-none, with-some}
 use borrow.Author.Needs.{needs}
 use Rattle.value.proofs.value_with.Statement.{statement}
@@ -21,12 +22,14 @@ began c = c .before .before .before .before .before
 -- the reading by the first byte that an arm knows is that of the whole
 chosen : (c : tie.After-start-of) (k : Start) → c .start-of .result ≡ k
     → let a = began c .args in
-    byStart k (a .v) (a .raw .now) (a .commented) (a .comment) ≡ valueWith (a .v) (a .raw .now) (a .commented) (a .comment)
+    valuePlaced (atByte (a .first)) (byStart k (a .v) (a .raw .now) (a .commented) (a .comment))
+    ≡ valuePlaced (atByte (a .first)) (valueWith (a .v) (a .raw .now) (a .commented) (a .comment))
 chosen c k e =
     let a = began c .args in
     let long : length (a .v .bytes) ≡ size = search needs in
-    ap (λ (x : Start). byStart x (a .v) (a .raw .now) (a .commented) (a .comment)) (sym e ∙ c .start-of .ensures)
-    ∙ with-some (a .v) (a .raw .now) (a .commented) (a .comment) (c .before .if1 .left) (omega arith)
+    let by-first = ap (λ (x : Start). byStart x (a .v) (a .raw .now) (a .commented) (a .comment)) (sym e ∙ c .start-of .ensures) in
+    let whole = with-some (a .v) (a .raw .now) (a .commented) (a .comment) (c .before .if1 .left) (omega arith) in
+    ap (valuePlaced (atByte (a .first))) (by-first ∙ whole)
 
 empty-text-requires : tie.Need-empty-text-requires
 empty-text-requires c κs = search needs
@@ -40,7 +43,7 @@ returns c =
     let a = empty .before .before .before .args in
     c .read-as .ensures
     ∙ ap (λ (t : Text). valueAs Undefined t (a .commented) (a .comment)) (empty .empty-text .ensures)
-    ∙ with-none (a .v) (a .raw .now) (a .commented) (a .comment) (c .before .if1 .taken)
+    ∙ ap (valuePlaced (atByte (a .first))) (with-none (a .v) (a .raw .now) (a .commented) (a .comment) (c .before .if1 .taken))
 
 array-read-start-of : tie.Need-array-read-start-of
 array-read-start-of c = search needs
@@ -69,8 +72,8 @@ number-value-requires c κs = search needs
 enum-told-3 : tie.Need-enum-told-3
 enum-told-3 c = search needs
 
-fault-of-requires : tie.Need-fault-of-requires
-fault-of-requires c κs = search needs
+fault-at-requires : tie.Need-fault-at-requires
+fault-at-requires c κs = search needs
 
 refused-requires : tie.Need-refused-requires
 refused-requires c κs = search needs
@@ -98,13 +101,14 @@ returns-3 c =
     ∙ chosen start (Truth truth) (at-t .t .given .1)
 
 returns-4 : tie.Need-returns-4
+unfolding ofNumber
 returns-4 c = c .number-value .ensures ∙ chosen (c .before .before .before) Number (c .before .enum-told2 .given .1)
 
 returns-5 : tie.Need-returns-5
 returns-5 c =
     let told = c .before .before in
     c .refused .ensures
-    ∙ ap valueRefused (c .before .fault-of .ensures)
+    ∙ ap valueRefused (c .before .fault-at .ensures)
     ∙ chosen (told .before .before) Complex (told .enum-told3 .given .1)
 
 returns-6 : tie.Need-returns-6
@@ -133,7 +137,7 @@ value-with-spec =
     enum-told-2
     number-value-requires
     enum-told-3
-    fault-of-requires
+    fault-at-requires
     refused-requires
     enum-told-4
     text-of-requires

@@ -1,16 +1,16 @@
--- `card::has_high` meets its contract: what stands from i on decides for the whole.
+-- `card::find_high` meets its contract: what stands from i on decides for the whole.
 use Prim.Native.Nat.{_-_, _≤_}
 use native.Mathlib.Omega.{arith}
 use mathlib.Core.Path.{_≡_, _∙_}
 use lib.ListN.{length, drop}
 use borrow.Author.Needs.{needs}
-use Rattle.card.specs.Keywords.{hasHigh}
+use Rattle.card.specs.Columns.{highFrom}
 use Rattle.card.proofs.Highs.{high-here, high-later, high-none}
-use Rattle.card.proofs.has_high.Statement.{statement}
-use Rattle.card.proofs.has_high.Tie as tie
+use Rattle.card.proofs.find_high.Statement.{statement}
+use Rattle.card.proofs.find_high.Tie as tie
 
 abbrev Inv-loop : tie.InvT-loop
-Inv-loop s i₀ i = (i ≤ length s) × (hasHigh (drop i s) ≡ hasHigh s)
+Inv-loop s i₀ i = (i ≤ length s) × (highFrom (drop i s) i ≡ highFrom s 0)
 
 abbrev μ-loop : tie.MeasureT-loop
 μ-loop s i₀ i = length s - i
@@ -42,8 +42,8 @@ loop-again c =
 returns-2 : tie.Need-returns-2 Inv-loop μ-loop
 returns-2 c = high-none (c .before .before .args .s .now) (c .before .loop .i) (c .loop-test .left) ∙ c .before .loop .inv .1
 
-pub has-high-spec : {M : Type 1} → statement M
-has-high-spec =
+pub find-high-spec : {M : Type 1} → statement M
+find-high-spec =
     tie.close
     (tie.spec
     Inv-loop
