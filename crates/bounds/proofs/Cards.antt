@@ -7,7 +7,9 @@ use mathlib.Core.Bool.{Bool, true, false, cond}
 use mathlib.Core.List.{List, [], _∷_}
 use mathlib.Core.Option.{none, some}
 use lib.ListN.{length, take, drop, length-drop, length-take}
+use Rattle.refusal.specs.declared.Column.{Column}
 use Rattle.refusal.specs.declared.Fault.{Fault}
+use Rattle.refusal.specs.declared.Refusal.{Refusal}
 use Rattle.refusal.specs.declared.Refusal.the-variants as R
 use Rattle.refusal.specs.Numbers.{faultOf}
 use Rattle.text.specs.declared.Text.{Text}
@@ -42,7 +44,9 @@ use Rattle.card.specs.declared.Class.the-variants as K
 use Rattle.card.specs.Keywords.{hasHigh, keywordOf, classOf, dottedName}
 use Rattle.card.specs.Cards.{cardRefused, cardAs, isWithinQuotes, spaceOr, remarkOf, emptyOf}
 use Rattle.card.specs.Cards.{stringCard, continued, continuationOf, quotedCard, inside, extended}
-use Rattle.card.specs.Cards.{extensionOf, cardWith, ofAnswer, ofValue, named, byEquals, hierarchOf, otherOf, byClass, cardOf}
+use Rattle.card.specs.Cards.{extensionOf, cardWith, ofAnswer, ofValue, named, byEquals, hierarchOf, otherOf, byClass}
+use Rattle.card.specs.Cards.{answerPlaced, cardPlaced, unplacedOf, cardOf}
+use Rattle.card.specs.Columns.{columnOf}
 use Rattle.roles.specs.Roles.{Comment, Words, Role, entry, more, neutral, last}
 use Rattle.roles.specs.Roles.{refused, hasText, isString, commentOf, roleBy, roleIn, roleRead, roleOf}
 use Rattle.entries.specs.Answers.{bytesIn}
@@ -65,6 +69,14 @@ wordsLen (A.Refused f) n = 0
 record CardShort (r : CardRead) : Type 0 where
   pub text : wordsLen (r .answer) (r .text .len) ≤ cardWords
   pub comment : r .comment .len ≤ cardWords
+
+-- the column beside a refusal is no matter
+placed-short : (f : Refusal → Column) (r : CardRead) → CardShort r → CardShort (cardPlaced f r)
+placed-short f r s = record { text = go (r .answer) (s .text); comment = s .comment }
+  where
+    go : (a : CardAnswer) → wordsLen a (r .text .len) ≤ cardWords → wordsLen (answerPlaced f a) (r .text .len) ≤ cardWords
+    go (A.Read card) h = h
+    go (A.Refused x) h = h
 
 refused-short : (f : Fault) → CardShort (cardRefused f)
 refused-short f = record { text = omega arith; comment = omega arith }
@@ -181,8 +193,8 @@ module _ (c : List ℕ) (whole : length c ≡ 80) where
   class-short K.Other name = other-short name
 
   card-short : CardShort (cardOf c)
-  unfolding cardOf
-  card-short = go (hasHigh c)
+  unfolding cardOf unplacedOf
+  card-short = placed-short (columnOf c) (unplacedOf c) (go (hasHigh c))
     where
       go : (b : Bool) → CardShort (cond b (cardRefused (faultOf R.HighByte)) (byClass (classOf (keywordOf c)) (textOf (keywordOf c)) c))
       go true = refused-short _

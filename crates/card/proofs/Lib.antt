@@ -3,3 +3,5 @@ pub mod Highs
 pub mod Naming
 pub mod Classes
 pub mod Placing
+pub mod Refusing
+pub mod Within

@@ -57,13 +57,13 @@ card-alike f g P e r h = ap with-answer (go (r .answer) h)
 -- ---- the columns of a text are those of its card
 
 module _ (from : ℕ) (c : List ℕ) where
-  led-in : (x : Fault) → Led x → atByte (firstByte from (drop from c)) (x .why) ≡ columnIn from c (x .why)
+  pub led-in : (x : Fault) → Led x → atByte (firstByte from (drop from c)) (x .why) ≡ columnIn from c (x .why)
   led-in _ not-closed = refl
   led-in _ not-opened = refl
   led-in _ complex = refl
   led-in _ not-quoted = refl
 
-  text-in : (x : Fault) → InText x → textColumn from (drop from c) (x .why) ≡ columnIn from c (x .why)
+  pub text-in : (x : Fault) → InText x → textColumn from (drop from c) (x .why) ≡ columnIn from c (x .why)
   text-in _ odd = refl
   text-in x (led h) = sym (led-first from (drop from c) x h) ∙ led-in x h
 
@@ -135,7 +135,7 @@ extendedAt first S.Bare name v = cardPlaced (atByte first) (quotedCard name v)
 extendedAt first S.Commented name v = cardPlaced (atByte first) (quotedCard name v)
 extendedAt first (S.Refused x) name v = cardRefused x
 
-quoted-led : (name v : Text) → RefusedBy Led (quotedCard name v .answer)
+pub quoted-led : (name v : Text) → RefusedBy Led (quotedCard name v .answer)
 unfolding quotedCard
 quoted-led name v = go (isWithinQuotes (bytesOf v)) (cardAs C.Xtension name (textOf (trim isSpace (inside (bytesOf v))))) tt
   where

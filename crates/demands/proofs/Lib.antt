@@ -2,3 +2,4 @@
 pub mod Ending
 pub mod Naming
 pub mod Isolated
+pub mod Columns

@@ -1,2 +1,3 @@
 -- What is certain: open `Demands` first.
 pub mod Demands
+pub mod Columns

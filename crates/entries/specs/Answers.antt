@@ -124,8 +124,11 @@ unlessMet (some s) o text comment = untouched (L.Header s) text comment
 abbrev pub entryFrom : List Role → ℕ → List ℕ → List ℕ → LookupOutcome
 entryFrom roles i text comment = unlessMet (metHead roles i) (given (entryHead roles) text comment) text comment
 
--- reading the entry at card i, whatever stands elsewhere in the header; a header of a bad length has no cards
+-- reading the entry at card i of a header of n bytes, by the roles of its cards; a header of a bad length has none
+abbrev pub entryBy : ℕ → List Role → ℕ → List ℕ → List ℕ → LookupOutcome
+entryBy n roles i text comment =
+    cond (isBadLength n) (untouched (L.Header (stopAt (faultOf R.HeaderLength) 0)) text comment) (entryFrom (drop i roles) i text comment)
+
+-- reading the entry at card i, whatever stands elsewhere in the header
 unfoldable pub entryOf : List ℕ → ℕ → List ℕ → List ℕ → LookupOutcome
-entryOf h i text comment =
-    cond (isBadLength (length h)) (untouched (L.Header (stopAt (faultOf R.HeaderLength) 0)) text comment)
-    (entryFrom (drop i (rolesOf h)) i text comment)
+entryOf h i text comment = entryBy (length h) (rolesOf h) i text comment

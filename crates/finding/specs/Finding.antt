@@ -32,9 +32,13 @@ headerFrom (neutral ∷ h) i = headerFrom h (suc i)
 headerFrom (last ∷ h) i = Accepted i
 headerFrom (refused f ∷ h) i = Refused (stopAt f i)
 
+-- a header of n bytes by the roles of its cards
+abbrev pub headerBy : ℕ → List Role → Header
+headerBy n roles = cond (isBadLength n) (Refused (stopAt (faultOf R.HeaderLength) 0)) (headerFrom roles 0)
+
 -- a header by its bytes
 unfoldable pub headerOf : List ℕ → Header
-headerOf h = cond (isBadLength (length h)) (Refused (stopAt (faultOf R.HeaderLength) 0)) (headerFrom (rolesOf h) 0)
+headerOf h = headerBy (length h) (rolesOf h)
 
 -- ---- finding a name
 

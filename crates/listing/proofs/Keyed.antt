@@ -27,8 +27,9 @@ use Rattle.card.specs.declared.Class.{Class}
 use Rattle.card.specs.declared.Class.the-variants.{Empty, Comment, History, Continue, Xtension, Hierarch, End, Other}
 use Rattle.card.specs.Keywords.{hasHigh, keywordOf, classOf}
 use Rattle.card.specs.Cards.{cardRefused, cardAs, remarkOf, spaceOr, emptyOf, stringCard, continued, continuationOf}
-use Rattle.card.specs.Cards.{isWithinQuotes, quotedCard, extended, extensionOf, ofAnswer, ofValue, otherOf, byClass, cardOf}
+use Rattle.card.specs.Cards.{isWithinQuotes, quotedCard, extended, extensionOf, ofAnswer, ofValue, otherOf, byClass, unplacedOf}
 use Rattle.roles.specs.Roles.{Held, Role, entry, more, neutral, last, refused, roleRead, roleOf}
+use Rattle.roles.proofs.Placing.{entry-unplaced}
 
 -- a role that is an entry has this name
 abbrev Keyed : List ℕ → Role → Type 0
@@ -115,8 +116,8 @@ not-hierarch k e d =
     go false false false false false true d = let z : _≡_ {A = ℕ} 0 1 = cc in omega arith
     go false false false false false false d = let z : _≡_ {A = ℕ} 0 1 = cc in omega arith
 
-card-keyed : (c : List ℕ) → same (keywordOf c) (ascii "HIERARCH") ≡ false → Keyed (keywordOf c) (roleRead (cardOf c))
-unfolding cardOf
+card-keyed : (c : List ℕ) → same (keywordOf c) (ascii "HIERARCH") ≡ false → Keyed (keywordOf c) (roleRead (unplacedOf c))
+unfolding unplacedOf
 card-keyed c e = go (hasHigh c)
   where
     go : (b : Bool) → let k = keywordOf c in
@@ -126,4 +127,4 @@ card-keyed c e = go (hasHigh c)
 
 pub entry-keyword : (c m : List ℕ) (v : Held) → roleOf c ≡ entry m v
     → same (keywordOf c) (ascii "HIERARCH") ≡ false → m ≡ keywordOf c
-entry-keyword c m v e d = subst (Keyed (keywordOf c)) e (card-keyed c d)
+entry-keyword c m v e d = subst (Keyed (keywordOf c)) (entry-unplaced c m v e) (card-keyed c d)

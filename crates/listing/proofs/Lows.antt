@@ -25,8 +25,9 @@ use Rattle.value.specs.Values.{valueOf}
 use Rattle.card.specs.declared.Class.{Class}
 use Rattle.card.specs.declared.Class.the-variants.{Hierarch}
 use Rattle.card.specs.Keywords.{firstHigh, hasHigh, keywordOf, classOf, onto, namePieces, stopAnd, joinPieces, dottedName}
-use Rattle.card.specs.Cards.{cardRefused, ofAnswer, named, byEquals, hierarchOf, byClass, cardOf}
+use Rattle.card.specs.Cards.{cardRefused, ofAnswer, named, byEquals, hierarchOf, byClass, unplacedOf}
 use Rattle.roles.specs.Roles.{Held, Role, entry, more, neutral, last, refused, roleRead, roleOf}
+use Rattle.roles.proofs.Placing.{entry-unplaced}
 use Rattle.joining.proofs.Names.{same-eq}
 use Rattle.listing.proofs.Keyed.{entry-keyword}
 
@@ -151,8 +152,8 @@ hierarch-so k e = ap classOf (same-eq k (ascii "HIERARCH") e)
 module _ (c m : List ℕ) (v : Held) (is : roleOf c ≡ entry m v) where
   -- an entry is not refused for a high byte
   entry-low : Low c
-  unfolding cardOf
-  entry-low = go (hasHigh c) is
+  unfolding unplacedOf
+  entry-low = go (hasHigh c) (entry-unplaced c m v is)
     where
       go : (t : Bool) → let k = keywordOf c in
           roleRead (cond t (cardRefused (faultOf R.HighByte)) (byClass (classOf k) (textOf k) c)) ≡ entry m v → t ≡ false
@@ -160,8 +161,10 @@ module _ (c m : List ℕ) (v : Held) (is : roleOf c ≡ entry m v) where
       go false e = refl
 
   role-so : (x : Class) → classOf (keywordOf c) ≡ x → roleRead (byClass x (textOf (keywordOf c)) c) ≡ entry m v
-  unfolding cardOf
-  role-so x e = ap (λ (y : Class). roleRead (byClass y (textOf (keywordOf c)) c)) (sym e) ∙ read (hasHigh c) entry-low is
+  unfolding unplacedOf
+  role-so x e =
+      ap (λ (y : Class). roleRead (byClass y (textOf (keywordOf c)) c)) (sym e)
+      ∙ read (hasHigh c) entry-low (entry-unplaced c m v is)
     where
       read : (t : Bool) → t ≡ false → let k = keywordOf c in
           roleRead (cond t (cardRefused (faultOf R.HighByte)) (byClass (classOf k) (textOf k) c)) ≡ entry m v

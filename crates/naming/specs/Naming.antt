@@ -38,7 +38,10 @@ nameBy neutral name = unnamed (faultOf R.NameNotFound) name
 nameBy last name = unnamed (faultOf R.NameNotFound) name
 nameBy (refused f) name = unnamed f name
 
--- reading the name at card i, whatever stands elsewhere in the header; a card that it lacks bears none
+-- reading the name at card i of a header of n bytes, by the roles of its cards; a card that it lacks bears none
+abbrev pub namedBy : ℕ → List Role → ℕ → List ℕ → NameOutcome
+namedBy n roles i name = cond (isBadLength n) (unnamed (faultOf R.HeaderLength) name) (nameBy (getD roles i neutral) name)
+
+-- reading the name at card i, whatever stands elsewhere in the header
 unfoldable pub nameAt : List ℕ → ℕ → List ℕ → NameOutcome
-nameAt h i name =
-    cond (isBadLength (length h)) (unnamed (faultOf R.HeaderLength) name) (nameBy (getD (rolesOf h) i neutral) name)
+nameAt h i name = namedBy (length h) (rolesOf h) i name

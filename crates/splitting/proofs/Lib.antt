@@ -3,3 +3,4 @@ pub mod Refusing
 pub mod Scanning
 pub mod Splitting
 pub mod Stringing
+pub mod Within

@@ -85,3 +85,12 @@ string-led (b ∷ s) = go (isQuote b) (endsWith (code "'") s) (endsWith (code "'
     go true false e = not-closed
     go false d true = not-opened
     go false d false = tt
+
+-- ---- of a text, by any test that its refusals pass
+
+pub record OfText (P : Fault → Type 0) (t : List ℕ) : Type 0 where
+  pub first : (x : Fault) → Led x → P x
+  pub split : SplitBy P (splitOf t .answer)
+
+pub of-text : (t : List ℕ) → OfText InText t
+of-text t = record { first = λ (x : Fault) (h : Led x). led h; split = split-in-text t }

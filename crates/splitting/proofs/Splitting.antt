@@ -52,11 +52,13 @@ scan-within q (b ∷ s) i = turn (move q (byteClass b)) (λ (r : Quoting). scan-
     turn (puts r) h = (omega (arith, h r .0), later ((scanFrom r s (suc i)) .place) (h r .1))
     turn (passes r) h = (omega (arith, h r .0), later ((scanFrom r s (suc i)) .place) (h r .1))
 
+-- where the scan of a whole text stops
+pub place-within : (s : List ℕ) → Below (length s) (scanFrom Outside s 0 .place)
+place-within s = rw (zero-add (length s)) at (scan-within Outside s 0 .1)
+
 pub scanned-within : (s : List ℕ) (f : Scanned) → f ≡ scannedOf s → (f .value .len ≤ length s) × Below (length s) (f .slash)
 unfolding scannedOf
-scanned-within s f e =
-    let w = scan-within Outside s 0 in
-    rw e (w .0, rw (zero-add (length s)) at (w .1))
+scanned-within s f e = rw e (scan-within Outside s 0 .0, place-within s)
 
 -- the parts of a text that begins at byte `first`, by where the slash stands
 abbrev pub partsFrom : ℕ → Slash → List ℕ → List ℕ → Halves
@@ -85,14 +87,16 @@ halves-placed from t =
     let r = scanFrom Outside s 0 in
     parts-placed (r .place) (firstByte from t) s (r .value) (textColumn from t) refl
 
+-- ---- where a text begins
+
+-- the blanks at the front and what is left of a text
+parted : (t : List ℕ) → length (leading isBlank t) + length (trimStart isBlank t) ≡ length t
+parted t = sym (length-append (leading isBlank t) (trimStart isBlank t)) ∙ ap length (leading-and-rest isBlank t)
+
 -- the first byte by lengths: what the blanks at the front leave, and the whole
 pub first-by-lengths : (from : ℕ) (t : List ℕ) → firstOf from (length t) (length (trimStart isBlank t)) ≡ firstByte from t
 unfolding firstByte
-first-by-lengths from t =
-    let all : length (leading isBlank t) + length (trimStart isBlank t) ≡ length t =
-        sym (length-append (leading isBlank t) (trimStart isBlank t)) ∙ ap length (leading-and-rest isBlank t)
-    in
-    go (trimStart isBlank t) (length (leading isBlank t)) (length t) all
+first-by-lengths from t = go (trimStart isBlank t) (length (leading isBlank t)) (length t) (parted t)
   where
     go : (rest : List ℕ) (blanks all : ℕ) → blanks + length rest ≡ all → firstOf from all (length rest) ≡ firstBy rest from blanks
     go [] blanks all e = refl
@@ -101,19 +105,26 @@ first-by-lengths from t =
         let cut : all - suc (length s) ≡ blanks = omega arith in
         rw (ne-eqb (suc (length s)) 0 some, cut)
 
--- a text that is left without its blanks begins on its card
-pub first-low : (from : ℕ) (t : List ℕ) → length t ≤ size - from → 0 < length (trim isBlank t) → firstByte from t ≤ size
-unfolding firstByte trim
-first-low from t few some =
-    let all : length (leading isBlank t) + length (trimStart isBlank t) ≡ length t =
-        sym (length-append (leading isBlank t) (trimStart isBlank t)) ∙ ap length (leading-and-rest isBlank t)
-    in
-    go (trimStart isBlank t) (omega (arith, end-shorter isBlank (trimStart isBlank t))) all
-  where
-    go : (rest : List ℕ) → 0 < length rest → length (leading isBlank t) + length rest ≡ length t
-        → firstBy rest from (length (leading isBlank t)) ≤ size
-    go [] h e = omega arith
-    go (b ∷ s) h e = omega arith
+module _ (from : ℕ) (t : List ℕ) (few : length t ≤ size - from) where
+  -- a text that stands from a byte of the card on begins on the card
+  pub first-within : from < size → firstByte from t < size
+  unfolding firstByte
+  first-within low = go (trimStart isBlank t) (parted t)
+    where
+      go : (rest : List ℕ) → length (leading isBlank t) + length rest ≡ length t
+          → firstBy rest from (length (leading isBlank t)) < size
+      go [] e = low
+      go (b ∷ s) e = omega arith
+
+  -- and each byte of it without its blanks stands on the card
+  pub byte-within : (i : ℕ) → i < length (trim isBlank t) → firstByte from t + i < size
+  unfolding firstByte trim
+  byte-within i h = go (trimStart isBlank t) (omega (arith, end-shorter isBlank (trimStart isBlank t))) (parted t)
+    where
+      go : (rest : List ℕ) → i < length rest → length (leading isBlank t) + length rest ≡ length t
+          → firstBy rest from (length (leading isBlank t)) + i < size
+      go [] h e = absurd (omega arith)
+      go (b ∷ s) h e = omega arith
 
 -- the value text fits where the text does
 pub value-fits : (t : List ℕ) → length t ≤ size → splitOf t .value .len ≤ size

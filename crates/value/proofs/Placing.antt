@@ -16,7 +16,7 @@ use Rattle.splitting.specs.declared.SplitAnswer.the-variants as S
 use Rattle.splitting.specs.Split.{splitOf}
 use Rattle.splitting.specs.Strings.{stringOf}
 use Rattle.splitting.specs.Columns.{firstByte, textColumn, splitPlaced, quotedPlaced, atByte}
-use Rattle.splitting.proofs.Refusing.{Led, complex, InText, led, QuotedBy, string-led, SplitBy, split-in-text, led-first, placed-alike}
+use Rattle.splitting.proofs.Refusing.{Led, complex, InText, QuotedBy, string-led, SplitBy, OfText, of-text, led-first, placed-alike}
 use Rattle.value.specs.declared.Start.{Start}
 use Rattle.value.specs.declared.Start.the-variants.{Quote, Truth, Number, Complex, Else}
 use Rattle.value.specs.declared.ValueAnswer.{ValueAnswer}
@@ -89,16 +89,21 @@ parts-placed from raw S.Commented v comment =
     (with-led v raw true comment)
 parts-placed from raw (S.Refused x) v comment = refl
 
--- a raw text is refused by 2, or at its first byte
-pub value-in-text : (raw : List ℕ) → RefusedBy InText (valueOf raw .answer)
-unfolding valueOf
-value-in-text raw = let h = splitOf raw in go (h .answer) (h .value) (h .comment) (split-in-text raw)
-  where
-    weaker : (a : ValueAnswer) → RefusedBy Led a → RefusedBy InText a
-    weaker (Read v) h = tt
-    weaker (Refused x) h = led h
+-- ---- what holds of the refusals of a text holds of those of its value
 
-    go : (a : SplitAnswer) (v comment : Text) → SplitBy InText a → RefusedBy InText (byParts a v raw comment .answer)
+pub value-by : (P : Fault → Type 0) (raw : List ℕ) → OfText P raw → RefusedBy P (valueOf raw .answer)
+unfolding valueOf
+value-by P raw o = let h = splitOf raw in go (h .answer) (h .value) (h .comment) (o .split)
+  where
+    weaker : (a : ValueAnswer) → RefusedBy Led a → RefusedBy P a
+    weaker (Read v) h = tt
+    weaker (Refused x) h = o .first x h
+
+    go : (a : SplitAnswer) (v comment : Text) → SplitBy P a → RefusedBy P (byParts a v raw comment .answer)
     go S.Bare v comment h = weaker (valueWith v raw false comment .answer) (with-led v raw false comment)
     go S.Commented v comment h = weaker (valueWith v raw true comment .answer) (with-led v raw true comment)
     go (S.Refused x) v comment h = h
+
+-- a raw text is refused by 2, or at its first byte
+pub value-in-text : (raw : List ℕ) → RefusedBy InText (valueOf raw .answer)
+value-in-text raw = value-by InText raw (of-text raw)

@@ -10,7 +10,7 @@ use Rattle.text.specs.Text.{size}
 use Rattle.text.proofs.Trimming.{start-shorter, shorter}
 use Rattle.splitting.specs.Columns.{firstByte}
 use Rattle.splitting.specs.Scanned.{firstOf, halvesAt}
-use Rattle.splitting.proofs.Splitting.{first-by-lengths, first-low, halves-placed}
+use Rattle.splitting.proofs.Splitting.{first-by-lengths, byte-within, halves-placed}
 use borrow.Author.Needs.{needs}
 use Rattle.splitting.proofs.split.Statement.{statement}
 use Rattle.splitting.proofs.split.Tie as tie
@@ -65,7 +65,7 @@ halves-of-requires : tie.Need-halves-of-requires
 halves-of-requires c κs =
     let at = c .before .before in
     let short = ap (length {A = ℕ}) (trims c) in
-    let low = first-low (from at) (given at) (few at) in
+    let low = byte-within (from at) (given at) (few at) 0 in
     ( omega (arith, short, shorter isBlank (given at), few at)
     , λ some. omega (arith, begins (c .before), low (omega (arith, short, some))) )
 
