@@ -3,7 +3,7 @@
 use crate::theirs;
 use fitsrs::card::{Card, Value};
 use fitsrs::hdu::header::extension::{image::Image, Xtension};
-use widrekas::{tile, Header, Reason};
+use widrekas::{tile, Header, Reason, Refusal};
 
 const CARDS: [&str; 12] = [
     "SIMPLE  =                    T / a FITS file",
@@ -81,8 +81,9 @@ fn headers() {
     let complex: [u8; 80] = *format!("{:80}", "WCS     = (1.0, 2.0)").as_bytes().first_chunk().expect("a card");
     assert!(Card::try_from(&complex).is_err());
     let refusal = widrekas::Card::read(&complex).expect_err("a complex number");
-    assert_eq!((refusal.reason(), refusal.number(), refusal.card()), (Reason::Complex, 5, None));
-    assert_eq!(refusal.to_string(), format!("refused 5: {}", refusal.meaning()));
+    assert_eq!((refusal.reason(), refusal.number()), (Reason::Complex, 5));
+    assert_eq!((refusal.card(), refusal.column()), (None, Some(10)));
+    assert_eq!(refusal.to_string(), format!("refused 5 at byte 10: {}", refusal.meaning()));
 
     // The six kinds of values.
     for ((name, value), (other, entry)) in old.iter().zip(new.entries()) {
@@ -125,8 +126,11 @@ fn refused_cards() {
     ]);
     let (old, _) = theirs::read_on(&bytes);
     let new = Header::read_on(&bytes).expect("the rest is read");
-    let told: Vec<_> = new.refusals().iter().map(|refusal| (refusal.reason(), refusal.card())).collect();
-    assert_eq!(told, [(Reason::Complex, Some(2)), (Reason::StringNotClosed, Some(4)), (Reason::HighByte, Some(6))]);
+    let told = |refusal: &Refusal| (refusal.reason(), refusal.card(), refusal.column());
+    let refused = |reason: Reason, card: usize, column: usize| (reason, Some(card), Some(column));
+    let cards =
+        [refused(Reason::Complex, 2, 10), refused(Reason::StringNotClosed, 4, 10), refused(Reason::HighByte, 6, 39)];
+    assert_eq!(new.refusals().iter().map(told).collect::<Vec<_>>(), cards);
     assert_eq!(old.get("KIT").and_then(string), Some("FKM-75 ring"));
     for touched in ["KIT", "WCS", "NOTE", "TEMP"] {
         assert!(new.get(touched).is_err(), "{touched}");
@@ -142,7 +146,7 @@ fn refused_cards() {
     assert_eq!(old.get("KIT").and_then(string), Some("FKM-A2"));
     let new = Header::read_on(&bytes).expect("the rest is read");
     let refusal = new.get("KIT").expect_err("a damaged string");
-    assert_eq!((refusal.reason(), refusal.card()), (Reason::StringNotClosed, Some(2)));
+    assert_eq!(told(&refusal), refused(Reason::StringNotClosed, 2, 10));
 }
 
 /// The bytes of a header's data, as the guide finds them.

@@ -16,6 +16,7 @@ pub struct Lent {
     first: [usize; PLACES],
     last: [usize; PLACES],
     count: usize,
+    column: usize,
     text: Vec<u8>,
     comment: Vec<u8>,
     told: Told,
@@ -24,12 +25,12 @@ pub struct Lent {
 impl Lent {
     pub fn new() -> Self {
         let (text, comment) = (vec![0; ROOM], vec![0; ROOM]);
-        Lent { first: [0; PLACES], last: [0; PLACES], count: 0, text, comment, told: Told::default() }
+        Lent { first: [0; PLACES], last: [0; PLACES], count: 0, column: 0, text, comment, told: Told::default() }
     }
 
     /// Lists a header.
     pub fn list(&mut self, header: &[u8]) -> u8 {
-        boundary::list(header, &mut self.first, &mut self.last, &mut self.count)
+        boundary::list(header, &mut self.first, &mut self.last, &mut self.count, &mut self.column)
     }
 
     /// Lists a header and reads all its entries.

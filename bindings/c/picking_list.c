@@ -2,7 +2,8 @@
  * picking_list NAME FILE...: prints a line for each FITS file: file, value of the name, comment, unit, with tabs between.
  *
  * A file that has no such line (it cannot be read, its header is refused, it has no such name, or a value that is undefined or
- * invalid) is named on standard error with the reason, and the exit status is 1.
+ * invalid) is named on standard error with the reason, and the exit status is 1. The reason of a refused card names the card and the
+ * byte of it, both counted from 0.
  */
 #include "widrekas.h"
 
@@ -18,6 +19,7 @@ static uint8_t comment[WIDREKAS_ROOM];
 static uint8_t digits[WIDREKAS_DIGITS];
 static size_t out[WIDREKAS_NUMBERS];
 static int64_t number;
+static size_t column;
 
 /* Bytes of a header or of a file's name on one line: control characters as \xNN. */
 static void print_shown(FILE *to, const uint8_t *bytes, size_t length)
@@ -116,6 +118,18 @@ static void print_unit(void)
     }
 }
 
+/* Why a file's header or name is refused, with the card and the byte of it where a card is refused. */
+static void print_refusal(const char *file, uint8_t answer)
+{
+    print_file(stderr, file);
+    if (answer <= WIDREKAS_EXTENSION_NOT_QUOTED) {
+        fprintf(stderr, ": refused %d at card %zu, byte %zu", answer, out[WIDREKAS_ENTRY_CARD], column);
+    } else {
+        fprintf(stderr, ": refused %d", answer);
+    }
+    fprintf(stderr, ": %s\n", widrekas_meaning(answer));
+}
+
 /* The line of a file. Answers whether there is one. */
 static int print_line(const char *file, const char *name)
 {
@@ -124,15 +138,9 @@ static int print_line(const char *file, const char *name)
         return 0;
     }
     uint8_t answer = widrekas_lookup(header, length, (const uint8_t *)name, strlen(name), text, sizeof text, comment,
-                                     sizeof comment, digits, sizeof digits, out, WIDREKAS_NUMBERS, &number);
-    if (answer > WIDREKAS_NO_END) {
-        print_file(stderr, file);
-        fprintf(stderr, ": refused %d: %s\n", answer, widrekas_meaning(answer));
-        return 0;
-    }
+                                     sizeof comment, digits, sizeof digits, out, WIDREKAS_NUMBERS, &number, &column);
     if (answer != 0) {
-        print_file(stderr, file);
-        fprintf(stderr, ": refused %d at %zu: %s\n", answer, out[WIDREKAS_ENTRY_CARD], widrekas_meaning(answer));
+        print_refusal(file, answer);
         return 0;
     }
     size_t kind = out[WIDREKAS_ENTRY_KIND];

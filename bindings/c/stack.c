@@ -22,7 +22,7 @@ static uint8_t header[WIDREKAS_LONGEST], text[WIDREKAS_ROOM], comment[WIDREKAS_R
 static uint8_t record[WIDREKAS_RECORD], name[WIDREKAS_LONGEST_NAME], tile[20000];
 static size_t out[WIDREKAS_NUMBERS], first[WIDREKAS_PLACES], last[WIDREKAS_PLACES];
 static int32_t pixels[1000], last_pixel;
-static size_t length, card, count, bits, bit, done;
+static size_t length, card, count, column, bits, bit, done;
 static int64_t number;
 static volatile size_t answer;
 
@@ -42,15 +42,15 @@ static volatile size_t answer;
     }
 
 CALL(version, widrekas_version())
-CALL(card, widrekas_card(header, WIDREKAS_CARD, record, WIDREKAS_RECORD, &number))
+CALL(card, widrekas_card(header, WIDREKAS_CARD, record, WIDREKAS_RECORD, &number, &column))
 CALL(unit, widrekas_unit(header, length))
-CALL(header, widrekas_header(header, length, &count))
-CALL(list, widrekas_list(header, length, first, WIDREKAS_PLACES, last, WIDREKAS_PLACES, &count))
-CALL(name, widrekas_name(header, length, card, name, sizeof name, &count))
+CALL(header, widrekas_header(header, length, &count, &column))
+CALL(list, widrekas_list(header, length, first, WIDREKAS_PLACES, last, WIDREKAS_PLACES, &count, &column))
+CALL(name, widrekas_name(header, length, card, name, sizeof name, &count, &column))
 CALL(entry, widrekas_entry(header, length, card, text, sizeof text, comment, sizeof comment, digits, sizeof digits, out,
-                           WIDREKAS_NUMBERS, &number))
+                           WIDREKAS_NUMBERS, &number, &column))
 CALL(lookup, widrekas_lookup(header, length, (const uint8_t *)"KIT", 3, text, sizeof text, comment, sizeof comment, digits,
-                             sizeof digits, out, WIDREKAS_NUMBERS, &number))
+                             sizeof digits, out, WIDREKAS_NUMBERS, &number, &column))
 CALL(open, widrekas_open(tile, length, 1000, 32, bits, &bit, &done, &last_pixel))
 CALL(step, widrekas_step(tile, length, 1000, 32, bits, &bit, &done, &last_pixel, pixels, 1000, &count))
 CALL(decode, widrekas_decode(tile, length, 1000, 32, bits, pixels, 1000, &count))

@@ -43,6 +43,15 @@ static int untouched(const void *memory, size_t bytes)
     return 1;
 }
 
+/* What *column holds before a call: no byte of a card. */
+#define KEPT ((size_t)4711)
+
+/* Answers 1 to 8 set *column to a byte of the card; every other answer leaves it. */
+static int told_or_kept(uint8_t answer, size_t column)
+{
+    return 1 <= answer && answer <= 8 ? column < WIDREKAS_CARD : column == KEPT;
+}
+
 /* Cards, each padded with spaces to 80 bytes. */
 static uint8_t *cards(const char *const *fronts, size_t many)
 {
@@ -59,14 +68,16 @@ static uint8_t *cards(const char *const *fronts, size_t many)
 struct card {
     uint8_t *record;
     int64_t number;
+    size_t column;
     uint8_t answer;
 };
 
 static struct card read_card(const char *front)
 {
-    struct card read = {lent(WIDREKAS_RECORD), -1, 0};
+    struct card read = {lent(WIDREKAS_RECORD), -1, KEPT, 0};
     uint8_t *card = cards(&front, 1);
-    read.answer = widrekas_card(card, WIDREKAS_CARD, read.record, WIDREKAS_RECORD, &read.number);
+    read.answer = widrekas_card(card, WIDREKAS_CARD, read.record, WIDREKAS_RECORD, &read.number, &read.column);
+    CHECK(told_or_kept(read.answer, read.column));
     if (read.answer != 0) {
         CHECK(untouched(read.record, WIDREKAS_RECORD) && read.number == -1);
     }
@@ -104,10 +115,10 @@ static void is_card(const char *front, int class, int kind, int flag, int64_t nu
     free(read.record);
 }
 
-static void is_refused(const char *front, int refusal)
+static void is_refused(const char *front, int refusal, size_t column)
 {
     struct card read = read_card(front);
-    CHECK(read.answer == refusal);
+    CHECK(read.answer == refusal && read.column == column);
     free(read.record);
 }
 
@@ -136,22 +147,23 @@ static void test_cards(void)
     is_card("  END", WIDREKAS_END_CARD, 0, 0, 0, "END", "", NULL);
     is_card("", WIDREKAS_SPACE_CARD, 0, 0, 0, "", "", NULL);
     is_card("END     of it", WIDREKAS_END_CARD, 0, 0, 0, "END", "", NULL);
-    is_refused("K       = \x80", WIDREKAS_HIGH_BYTE);
-    is_refused("K       = 5 \x0b 6", WIDREKAS_ODD_BYTE);
-    is_refused("K       = '", WIDREKAS_STRING_NOT_CLOSED);
-    is_refused("K       = 'a' b", WIDREKAS_STRING_NOT_CLOSED);
-    is_refused("CONTINUE  a'", WIDREKAS_STRING_NOT_OPENED);
-    is_refused("K       = (1, 2)", WIDREKAS_COMPLEX);
-    is_refused("HIERARCH A", WIDREKAS_NO_EQUALS);
-    is_refused("HIERARCH  = 1", WIDREKAS_NO_NAME);
-    is_refused("XTENSION= IMAGE", WIDREKAS_EXTENSION_NOT_QUOTED);
+    is_refused("K       = \x80", WIDREKAS_HIGH_BYTE, 10);
+    is_refused("K       = 5 \x0b 6", WIDREKAS_ODD_BYTE, 12);
+    is_refused("K       = '", WIDREKAS_STRING_NOT_CLOSED, 10);
+    is_refused("K       = 'a' b", WIDREKAS_STRING_NOT_CLOSED, 10);
+    is_refused("CONTINUE  a'", WIDREKAS_STRING_NOT_OPENED, 10);
+    is_refused("K       = (1, 2)", WIDREKAS_COMPLEX, 10);
+    is_refused("HIERARCH A", WIDREKAS_NO_EQUALS, 9);
+    is_refused("HIERARCH  = 1", WIDREKAS_NO_NAME, 10);
+    is_refused("XTENSION= IMAGE", WIDREKAS_EXTENSION_NOT_QUOTED, 10);
     static const size_t lengths[][2] = {{0, 248}, {79, 248}, {81, 248}, {80, 0}, {80, 247}, {80, 249}};
     for (size_t i = 0; i < sizeof lengths / sizeof lengths[0]; i++) {
         uint8_t *card = lent(lengths[i][0]);
         uint8_t *record = lent(lengths[i][1]);
         int64_t number = -1;
-        CHECK(widrekas_card(card, lengths[i][0], record, lengths[i][1], &number) == WIDREKAS_WRONG_LENGTH);
-        CHECK(untouched(record, lengths[i][1]) && number == -1);
+        size_t column = KEPT;
+        CHECK(widrekas_card(card, lengths[i][0], record, lengths[i][1], &number, &column) == WIDREKAS_WRONG_LENGTH);
+        CHECK(untouched(record, lengths[i][1]) && number == -1 && column == KEPT);
         free(card);
         free(record);
     }
@@ -175,32 +187,36 @@ static void test_units(void)
 /* ---- headers */
 
 /* Lists a header; the places are checked by the caller, who frees them. */
-static uint8_t list(const uint8_t *header, size_t many, size_t **first, size_t **last, size_t *count)
+static uint8_t list(const uint8_t *header, size_t many, size_t **first, size_t **last, size_t *count, size_t *column)
 {
     *first = lent(WIDREKAS_PLACES * sizeof(size_t));
     *last = lent(WIDREKAS_PLACES * sizeof(size_t));
+    *column = KEPT;
     uint8_t answer =
-        widrekas_list(header, many * WIDREKAS_CARD, *first, WIDREKAS_PLACES, *last, WIDREKAS_PLACES, count);
+        widrekas_list(header, many * WIDREKAS_CARD, *first, WIDREKAS_PLACES, *last, WIDREKAS_PLACES, count, column);
+    CHECK(told_or_kept(answer, *column));
     if (answer != 0) {
         CHECK(untouched(*first, WIDREKAS_PLACES * sizeof(size_t)) && untouched(*last, WIDREKAS_PLACES * sizeof(size_t)));
     }
     return answer;
 }
 
-static void is_refused_header(const char *const *fronts, size_t many, int refusal, size_t card)
+/* A refusal that has no column leaves KEPT. */
+static void is_refused_header(const char *const *fronts, size_t many, int refusal, size_t card, size_t column)
 {
     uint8_t *header = cards(fronts, many);
-    size_t *first, *last, count = 12345;
-    CHECK(list(header, many, &first, &last, &count) == refusal && count == card);
+    size_t *first, *last, count = 12345, told;
+    CHECK(list(header, many, &first, &last, &count, &told) == refusal && count == card && told == column);
     free(first);
     free(last);
     /* Lookup refuses it alike. */
     uint8_t text[1], comment[1], digits[WIDREKAS_DIGITS];
     size_t out[WIDREKAS_NUMBERS] = {7, 7, 7, 7, 7, 7, 7};
     int64_t number = -1;
+    told = KEPT;
     uint8_t answer = widrekas_lookup(header, many * WIDREKAS_CARD, (const uint8_t *)"K", 1, text, 1, comment, 1, digits,
-                                     WIDREKAS_DIGITS, out, WIDREKAS_NUMBERS, &number);
-    CHECK(answer == refusal && out[0] == card && out[1] == 7 && number == -1);
+                                     WIDREKAS_DIGITS, out, WIDREKAS_NUMBERS, &number, &told);
+    CHECK(answer == refusal && out[0] == card && out[1] == 7 && number == -1 && told == column);
     free(header);
 }
 
@@ -208,32 +224,36 @@ static void test_lists(void)
 {
     static const char *const some[] = {"B       = 1", "HIERARCH A B = 2", "COMMENT", "B       = 3", "C       = 4", "END", "\xff"};
     uint8_t *header = cards(some, 7);
-    size_t *first, *last, count;
-    CHECK(list(header, 7, &first, &last, &count) == 0 && count == 3);
+    size_t *first, *last, count, column;
+    CHECK(list(header, 7, &first, &last, &count, &column) == 0 && count == 3);
     CHECK(first[0] == 0 && last[0] == 3 && first[1] == 1 && last[1] == 1 && first[2] == 4 && last[2] == 4);
     for (size_t i = 3; i < WIDREKAS_PLACES; i++) {
         CHECK(first[i] == 720 && last[i] == 720);
     }
     count = 99;
-    CHECK(widrekas_list(header, 7 * WIDREKAS_CARD, first, WIDREKAS_PLACES - 1, last, WIDREKAS_PLACES, &count) == 255);
-    CHECK(widrekas_list(header, 7 * WIDREKAS_CARD, first, WIDREKAS_PLACES, last, 0, &count) == 255 && count == 99);
+    CHECK(widrekas_list(header, 7 * WIDREKAS_CARD, first, WIDREKAS_PLACES - 1, last, WIDREKAS_PLACES, &count, &column) == 255);
+    CHECK(widrekas_list(header, 7 * WIDREKAS_CARD, first, WIDREKAS_PLACES, last, 0, &count, &column) == 255 && count == 99);
+    CHECK(column == KEPT);
     free(first);
     free(last);
     free(header);
     static const char *const lone[] = {"K       = 1", "K       = '", "END"};
-    is_refused_header(lone, 3, WIDREKAS_STRING_NOT_CLOSED, 1);
+    is_refused_header(lone, 3, WIDREKAS_STRING_NOT_CLOSED, 1, 10);
     static const char *const endless[] = {"K       = 1", "K       = 2"};
-    is_refused_header(endless, 2, WIDREKAS_NO_END, 2);
-    is_refused_header(endless, 0, WIDREKAS_HEADER_LENGTH, 0);
+    is_refused_header(endless, 2, WIDREKAS_NO_END, 2, KEPT);
+    is_refused_header(endless, 0, WIDREKAS_HEADER_LENGTH, 0, KEPT);
 }
 
 /* ---- where END stands */
 
-static void is_header(const char *const *fronts, size_t many, int refusal, size_t card)
+static void is_header(const char *const *fronts, size_t many, int refusal, size_t card, size_t column)
 {
     uint8_t *header = cards(fronts, many);
     size_t *told = lent(sizeof *told);
-    CHECK(widrekas_header(header, many * WIDREKAS_CARD, told) == refusal && *told == card);
+    size_t *at = lent(sizeof *at);
+    *at = KEPT;
+    CHECK(widrekas_header(header, many * WIDREKAS_CARD, told, at) == refusal && *told == card && *at == column);
+    free(at);
     free(told);
     free(header);
 }
@@ -242,7 +262,7 @@ static void is_header(const char *const *fronts, size_t many, int refusal, size_
 static void is_end(const char *front, int is)
 {
     const char *const fronts[] = {"K       = 5", front};
-    is_header(fronts, 2, is ? 0 : WIDREKAS_NO_END, is ? 1 : 2);
+    is_header(fronts, 2, is ? 0 : WIDREKAS_NO_END, is ? 1 : 2, KEPT);
 }
 
 static void test_header(void)
@@ -264,39 +284,45 @@ static void test_header(void)
     is_end("COMMENT END", 0);
 
     static const char *const twice[] = {"END", "K       = (", "END"};
-    is_header(twice, 3, 0, 0);
+    is_header(twice, 3, 0, 0, KEPT);
     static const char *const high[] = {"K       = 1", "END   \x80"};
-    is_header(high, 2, WIDREKAS_HIGH_BYTE, 1);
+    is_header(high, 2, WIDREKAS_HIGH_BYTE, 1, 6);
     static const char *const lone[] = {"K       = 1", "COMMENT", "K       = '", "K       = (", "END"};
-    is_header(lone, 5, WIDREKAS_STRING_NOT_CLOSED, 2);
-    is_header(lone, 2, WIDREKAS_NO_END, 2);
-    is_header(lone, 0, WIDREKAS_HEADER_LENGTH, 0);
+    is_header(lone, 5, WIDREKAS_STRING_NOT_CLOSED, 2, 10);
+    is_header(lone, 2, WIDREKAS_NO_END, 2, KEPT);
+    is_header(lone, 0, WIDREKAS_HEADER_LENGTH, 0, KEPT);
 
     /* The longest header, one card more, and lengths between cards. The answer takes what may be lent beside it. */
     uint8_t *header = lent(WIDREKAS_LONGEST + WIDREKAS_CARD);
     memset(header, ' ', WIDREKAS_LONGEST + WIDREKAS_CARD);
     memcpy(header + WIDREKAS_LONGEST - WIDREKAS_CARD, "END", 3);
-    size_t told[3] = {11, 12, 13};
-    CHECK(widrekas_header(header, WIDREKAS_LONGEST, told + 1) == 0 && told[1] == 719);
-    CHECK(widrekas_header(header, WIDREKAS_LONGEST - WIDREKAS_CARD, told + 1) == WIDREKAS_NO_END && told[1] == 719);
-    CHECK(widrekas_header(header, WIDREKAS_LONGEST + WIDREKAS_CARD, told + 1) == WIDREKAS_HEADER_LENGTH && told[1] == 0);
+    size_t told[3] = {11, 12, 13}, at[3] = {14, KEPT, 15};
+    CHECK(widrekas_header(header, WIDREKAS_LONGEST, told + 1, at + 1) == 0 && told[1] == 719);
+    CHECK(widrekas_header(header, WIDREKAS_LONGEST - WIDREKAS_CARD, told + 1, at + 1) == WIDREKAS_NO_END && told[1] == 719);
+    CHECK(widrekas_header(header, WIDREKAS_LONGEST + WIDREKAS_CARD, told + 1, at + 1) == WIDREKAS_HEADER_LENGTH && told[1] == 0);
     told[1] = 12;
-    CHECK(widrekas_header(header, 79, told + 1) == WIDREKAS_HEADER_LENGTH && told[1] == 0);
+    CHECK(widrekas_header(header, 79, told + 1, at + 1) == WIDREKAS_HEADER_LENGTH && told[1] == 0);
     told[1] = 12;
-    CHECK(widrekas_header(header, 81, told + 1) == WIDREKAS_HEADER_LENGTH && told[1] == 0);
-    CHECK(told[0] == 11 && told[2] == 13);
+    CHECK(widrekas_header(header, 81, told + 1, at + 1) == WIDREKAS_HEADER_LENGTH && told[1] == 0 && at[1] == KEPT);
+    /* The last byte of the last card. */
+    header[WIDREKAS_LONGEST - 1] = 0x80;
+    CHECK(widrekas_header(header, WIDREKAS_LONGEST, told + 1, at + 1) == WIDREKAS_HIGH_BYTE && told[1] == 719 && at[1] == 79);
+    CHECK(told[0] == 11 && told[2] == 13 && at[0] == 14 && at[2] == 15);
     free(header);
 }
 
 /* ---- names */
 
 /* Reads a name into room bytes between two guards, and checks that nothing else is touched. */
-static uint8_t read_name(const uint8_t *header, size_t length, size_t card, size_t room, uint8_t *name, size_t *told)
+static uint8_t read_name(const uint8_t *header, size_t length, size_t card, size_t room, uint8_t *name, size_t *told,
+                         size_t *column)
 {
     enum { GUARD = 16 };
     uint8_t *memory = lent(GUARD + room + GUARD);
     *told = 4321;
-    uint8_t answer = widrekas_name(header, length, card, memory + GUARD, room, told);
+    *column = KEPT;
+    uint8_t answer = widrekas_name(header, length, card, memory + GUARD, room, told, column);
+    CHECK(told_or_kept(answer, *column));
     size_t written = answer == 0 ? *told : 0;
     CHECK(written <= room && written <= WIDREKAS_LONGEST_NAME);
     CHECK(answer == 0 || *told == 4321);
@@ -311,10 +337,10 @@ static void is_name(const char *front, const char *expected)
 {
     const char *const fronts[] = {"K       = (", front, "\xff"};
     uint8_t *header = cards(fronts, 3);
-    size_t length = strlen(expected), told;
+    size_t length = strlen(expected), told, column;
     uint8_t name[WIDREKAS_LONGEST_NAME];
     for (size_t room = 0; room <= WIDREKAS_LONGEST_NAME + 5; room++) {
-        uint8_t answer = read_name(header, 3 * WIDREKAS_CARD, 1, room, name, &told);
+        uint8_t answer = read_name(header, 3 * WIDREKAS_CARD, 1, room, name, &told, &column);
         if (room < length) {
             CHECK(answer == WIDREKAS_BUFFER_SHORT);
         } else {
@@ -325,14 +351,14 @@ static void is_name(const char *front, const char *expected)
 }
 
 /* A card without a name, with any room. */
-static void has_no_name(const char *front, int refusal)
+static void has_no_name(const char *front, int refusal, size_t column)
 {
     const char *const fronts[] = {"A       = 1", front};
     uint8_t *header = cards(fronts, 2);
-    size_t told;
+    size_t told, at;
     uint8_t name[WIDREKAS_LONGEST_NAME];
     for (size_t room = 0; room <= WIDREKAS_LONGEST_NAME; room += 40) {
-        CHECK(read_name(header, 2 * WIDREKAS_CARD, 1, room, name, &told) == refusal);
+        CHECK(read_name(header, 2 * WIDREKAS_CARD, 1, room, name, &told, &at) == refusal && at == column);
     }
     free(header);
 }
@@ -354,47 +380,47 @@ static void test_names(void)
     is_name("HIERARCH=K = 5", "K");
     is_name("HIERARCH ABCDEFGHIJKLMNOPQRSTUVWXYZABCDEFGHIJKLMNOPQRSTUVWXYZABCDEFGHIJKLMNOPQR=",
             "ABCDEFGHIJKLMNOPQRSTUVWXYZABCDEFGHIJKLMNOPQRSTUVWXYZABCDEFGHIJKLMNOPQR");
-    has_no_name("COMMENT = 5", WIDREKAS_NAME_NOT_FOUND);
-    has_no_name("HISTORY = 5", WIDREKAS_NAME_NOT_FOUND);
-    has_no_name("        = 5", WIDREKAS_NAME_NOT_FOUND);
-    has_no_name("", WIDREKAS_NAME_NOT_FOUND);
-    has_no_name("CONTINUE  'a'", WIDREKAS_NAME_NOT_FOUND);
-    has_no_name("END", WIDREKAS_NAME_NOT_FOUND);
-    has_no_name("  END   = 5", WIDREKAS_NAME_NOT_FOUND);
-    has_no_name("KIT     =5", WIDREKAS_NAME_NOT_FOUND);
-    has_no_name("KIT = 5", WIDREKAS_NAME_NOT_FOUND);
-    has_no_name("KIT     = \x80", WIDREKAS_HIGH_BYTE);
-    has_no_name("KIT     = 5 \x0b 6", WIDREKAS_ODD_BYTE);
-    has_no_name("KIT     = 'a", WIDREKAS_STRING_NOT_CLOSED);
-    has_no_name("CONTINUE  a'", WIDREKAS_STRING_NOT_OPENED);
-    has_no_name("KIT     = (1, 2)", WIDREKAS_COMPLEX);
-    has_no_name("HIERARCH KIT", WIDREKAS_NO_EQUALS);
-    has_no_name("HIERARCH = 5", WIDREKAS_NO_NAME);
-    has_no_name("XTENSION= IMAGE", WIDREKAS_EXTENSION_NOT_QUOTED);
+    has_no_name("COMMENT = 5", WIDREKAS_NAME_NOT_FOUND, KEPT);
+    has_no_name("HISTORY = 5", WIDREKAS_NAME_NOT_FOUND, KEPT);
+    has_no_name("        = 5", WIDREKAS_NAME_NOT_FOUND, KEPT);
+    has_no_name("", WIDREKAS_NAME_NOT_FOUND, KEPT);
+    has_no_name("CONTINUE  'a'", WIDREKAS_NAME_NOT_FOUND, KEPT);
+    has_no_name("END", WIDREKAS_NAME_NOT_FOUND, KEPT);
+    has_no_name("  END   = 5", WIDREKAS_NAME_NOT_FOUND, KEPT);
+    has_no_name("KIT     =5", WIDREKAS_NAME_NOT_FOUND, KEPT);
+    has_no_name("KIT = 5", WIDREKAS_NAME_NOT_FOUND, KEPT);
+    has_no_name("KIT     = \x80", WIDREKAS_HIGH_BYTE, 10);
+    has_no_name("KIT     = 5 \x0b 6", WIDREKAS_ODD_BYTE, 12);
+    has_no_name("KIT     = 'a", WIDREKAS_STRING_NOT_CLOSED, 10);
+    has_no_name("CONTINUE  a'", WIDREKAS_STRING_NOT_OPENED, 10);
+    has_no_name("KIT     = (1, 2)", WIDREKAS_COMPLEX, 10);
+    has_no_name("HIERARCH KIT", WIDREKAS_NO_EQUALS, 9);
+    has_no_name("HIERARCH = 5", WIDREKAS_NO_NAME, 9);
+    has_no_name("XTENSION= IMAGE", WIDREKAS_EXTENSION_NOT_QUOTED, 10);
 
     /* Behind END a name is read; a number that the header lacks is 12, and a bad length comes first. */
     static const char *const some[] = {"B       = 1", "HIERARCH A B = 2", "COMMENT", "B       = 3", "C       = 4", "END", "D       = 5"};
     uint8_t *header = cards(some, 7);
     uint8_t name[WIDREKAS_LONGEST_NAME];
-    size_t told;
-    CHECK(read_name(header, 7 * WIDREKAS_CARD, 6, 80, name, &told) == 0 && told == 1 && name[0] == 'D');
+    size_t told, column;
+    CHECK(read_name(header, 7 * WIDREKAS_CARD, 6, 80, name, &told, &column) == 0 && told == 1 && name[0] == 'D');
     static const size_t beyond[] = {7, 8, 720, (size_t)-1, (size_t)-1 / WIDREKAS_CARD + 1};
     for (size_t i = 0; i < sizeof beyond / sizeof beyond[0]; i++) {
-        CHECK(read_name(header, 7 * WIDREKAS_CARD, beyond[i], 80, name, &told) == WIDREKAS_NAME_NOT_FOUND);
-        CHECK(read_name(header, 79, beyond[i], 80, name, &told) == WIDREKAS_HEADER_LENGTH);
+        CHECK(read_name(header, 7 * WIDREKAS_CARD, beyond[i], 80, name, &told, &column) == WIDREKAS_NAME_NOT_FOUND);
+        CHECK(read_name(header, 79, beyond[i], 80, name, &told, &column) == WIDREKAS_HEADER_LENGTH);
     }
-    CHECK(read_name(header, 0, 0, 80, name, &told) == WIDREKAS_HEADER_LENGTH);
-    CHECK(read_name(header, 7 * WIDREKAS_CARD - 1, 0, 0, name, &told) == WIDREKAS_HEADER_LENGTH);
+    CHECK(read_name(header, 0, 0, 80, name, &told, &column) == WIDREKAS_HEADER_LENGTH);
+    CHECK(read_name(header, 7 * WIDREKAS_CARD - 1, 0, 0, name, &told, &column) == WIDREKAS_HEADER_LENGTH);
 
     /* The names of a list, each at its first card and at its last. */
     static const char *const names[] = {"B", "A.B", "C"};
     size_t *first, *last, count;
-    CHECK(list(header, 7, &first, &last, &count) == 0 && count == 3);
+    CHECK(list(header, 7, &first, &last, &count, &column) == 0 && count == 3);
     for (size_t k = 0; k < count; k++) {
         size_t length = strlen(names[k]);
-        CHECK(read_name(header, 7 * WIDREKAS_CARD, first[k], 80, name, &told) == 0);
+        CHECK(read_name(header, 7 * WIDREKAS_CARD, first[k], 80, name, &told, &column) == 0);
         CHECK(told == length && memcmp(name, names[k], length) == 0);
-        CHECK(read_name(header, 7 * WIDREKAS_CARD, last[k], length, name, &told) == 0);
+        CHECK(read_name(header, 7 * WIDREKAS_CARD, last[k], length, name, &told, &column) == 0);
         CHECK(told == length && memcmp(name, names[k], length) == 0);
     }
     free(first);
@@ -413,6 +439,7 @@ struct asked {
     uint8_t *text, *comment, *digits;
     size_t *out;
     int64_t number;
+    size_t column;
 };
 
 static uint8_t ask(struct asked *a, size_t text, size_t comment)
@@ -422,12 +449,17 @@ static uint8_t ask(struct asked *a, size_t text, size_t comment)
     a->digits = lent(WIDREKAS_DIGITS);
     a->out = lent(WIDREKAS_NUMBERS * sizeof(size_t));
     a->number = -1;
+    a->column = KEPT;
+    uint8_t answer;
     if (a->name != NULL) {
-        return widrekas_lookup(a->header, a->length, (const uint8_t *)a->name, strlen(a->name), a->text, text, a->comment,
-                               comment, a->digits, WIDREKAS_DIGITS, a->out, WIDREKAS_NUMBERS, &a->number);
+        answer = widrekas_lookup(a->header, a->length, (const uint8_t *)a->name, strlen(a->name), a->text, text, a->comment,
+                                 comment, a->digits, WIDREKAS_DIGITS, a->out, WIDREKAS_NUMBERS, &a->number, &a->column);
+    } else {
+        answer = widrekas_entry(a->header, a->length, a->card, a->text, text, a->comment, comment, a->digits,
+                                WIDREKAS_DIGITS, a->out, WIDREKAS_NUMBERS, &a->number, &a->column);
     }
-    return widrekas_entry(a->header, a->length, a->card, a->text, text, a->comment, comment, a->digits, WIDREKAS_DIGITS,
-                          a->out, WIDREKAS_NUMBERS, &a->number);
+    CHECK(told_or_kept(answer, a->column));
+    return answer;
 }
 
 static void give_back(struct asked *a)
@@ -447,11 +479,11 @@ static void is_refused_entry(struct asked a, size_t text, size_t comment, int re
     give_back(&a);
 }
 
-/* A refused card that is met leaves its number and nothing else, also where there is no room. */
-static void meets_refused(struct asked a, int refusal, size_t card)
+/* A refused card that is met leaves its number, its column and nothing else, also where there is no room. */
+static void meets_refused(struct asked a, int refusal, size_t card, size_t column)
 {
     for (size_t room = 0; room <= 80; room += 40) {
-        CHECK(ask(&a, room, room) == refusal && a.out[WIDREKAS_ENTRY_CARD] == card);
+        CHECK(ask(&a, room, room) == refusal && a.out[WIDREKAS_ENTRY_CARD] == card && a.column == column);
         CHECK(untouched(a.text, room) && untouched(a.comment, room) && untouched(a.digits, WIDREKAS_DIGITS));
         CHECK(untouched(a.out + 1, (WIDREKAS_NUMBERS - 1) * sizeof(size_t)) && a.number == -1);
         give_back(&a);
@@ -487,7 +519,7 @@ static void test_entries(void)
 {
     static const char *const example[] = {"SIZE    = 12", "KIT     = 'FKM-&'", "CONTINUE  '75' / ring", "END"};
     uint8_t *header = cards(example, 4);
-    struct asked a = {header, 320, "KIT", 0, NULL, NULL, NULL, NULL, 0};
+    struct asked a = {header, 320, "KIT", 0, NULL, NULL, NULL, NULL, 0, KEPT};
     is_entry(a, WIDREKAS_STRING, 0, 0, "", "FKM-75", " ring");
     a.name = "SIZE";
     is_entry(a, WIDREKAS_INTEGER, 0, 12, "", "", NULL);
@@ -509,7 +541,7 @@ static void test_entries(void)
                                         "E       = 'a&' /[mm]",    "CONTINUE '&'",   "CONTINUE 'b' / c", "F       = -1.5D3",
                                         "G       = what",          "D       = 6 /",  "END"};
     header = cards(edges, 15);
-    struct asked b = {header, 15 * WIDREKAS_CARD, "A", 0, NULL, NULL, NULL, NULL, 0};
+    struct asked b = {header, 15 * WIDREKAS_CARD, "A", 0, NULL, NULL, NULL, NULL, 0, KEPT};
     is_entry(b, WIDREKAS_STRING, 0, 0, "", "FKM-75", NULL);
     b.name = "B";
     is_entry(b, WIDREKAS_STRING, 0, 0, "", "FKM", NULL);
@@ -529,13 +561,15 @@ static void test_entries(void)
     uint8_t few[WIDREKAS_DIGITS] = {0};
     size_t out[WIDREKAS_NUMBERS] = {0};
     int64_t number = -1;
-    CHECK(widrekas_entry(few, 0, 0, few, 0, few, 0, few + 1, WIDREKAS_DIGITS - 1, out, WIDREKAS_NUMBERS, &number) == 255);
-    CHECK(widrekas_entry(few, 0, 0, few, 0, few, 0, few, WIDREKAS_DIGITS, out, WIDREKAS_NUMBERS - 1, &number) == 255);
+    size_t column = KEPT;
+    CHECK(widrekas_entry(few, 0, 0, few, 0, few, 0, few + 1, WIDREKAS_DIGITS - 1, out, WIDREKAS_NUMBERS, &number, &column) == 255);
+    CHECK(widrekas_entry(few, 0, 0, few, 0, few, 0, few, WIDREKAS_DIGITS, out, WIDREKAS_NUMBERS - 1, &number, &column) == 255);
+    CHECK(widrekas_lookup(few, 0, few, 0, few, 0, few, 0, few, 0, out, WIDREKAS_NUMBERS, &number, &column) == 255);
     out[0] = 5;
-    CHECK(widrekas_entry(few, 79, 0, few, 0, few, 0, few, 0, out, WIDREKAS_NUMBERS, &number) == 255 && out[0] == 5);
+    CHECK(widrekas_entry(few, 79, 0, few, 0, few, 0, few, 0, out, WIDREKAS_NUMBERS, &number, &column) == 255 && out[0] == 5);
     uint8_t digits[WIDREKAS_DIGITS];
-    CHECK(widrekas_entry(few, 79, 0, few, 0, few, 0, digits, WIDREKAS_DIGITS, out, WIDREKAS_NUMBERS, &number) == 9);
-    CHECK(out[0] == 0 && number == -1);
+    CHECK(widrekas_entry(few, 79, 0, few, 0, few, 0, digits, WIDREKAS_DIGITS, out, WIDREKAS_NUMBERS, &number, &column) == 9);
+    CHECK(out[0] == 0 && number == -1 && column == KEPT);
 }
 
 /* Entries by their cards' numbers, where refused cards and END stand around them. */
@@ -543,16 +577,16 @@ static void test_met(void)
 {
     static const char *const broken[] = {"KIT     = 'a&'", "WCS     = (1", "CONTINUE  'b'", "END"};
     uint8_t *header = cards(broken, 4);
-    struct asked a = {header, 320, NULL, 0, NULL, NULL, NULL, NULL, 0};
-    meets_refused(a, WIDREKAS_COMPLEX, 1);
+    struct asked a = {header, 320, NULL, 0, NULL, NULL, NULL, NULL, 0, KEPT};
+    meets_refused(a, WIDREKAS_COMPLEX, 1, 10);
     a.card = 1;
-    meets_refused(a, WIDREKAS_COMPLEX, 1);
+    meets_refused(a, WIDREKAS_COMPLEX, 1, 10);
     a.card = 2;
     is_refused_entry(a, 80, 80, WIDREKAS_NAME_NOT_FOUND);
     a.card = 3;
     is_refused_entry(a, 80, 80, WIDREKAS_NAME_NOT_FOUND);
     a.name = "KIT";
-    meets_refused(a, WIDREKAS_COMPLEX, 1);
+    meets_refused(a, WIDREKAS_COMPLEX, 1, 10);
     free(header);
 
     /* Only an open string meets a refused card, and the first one. */
@@ -560,16 +594,16 @@ static void test_met(void)
                                            "CONTINUE  'e",      "C       = 5",  "CONTINUE  f'",   "D       = '&'", "COMMENT",
                                            "CONTINUE  'g",      "CONTINUE  h'", "E       = '&'",  "END",       "F       = '"};
     header = cards(complete, 15);
-    struct asked b = {header, 15 * WIDREKAS_CARD, NULL, 0, NULL, NULL, NULL, NULL, 0};
+    struct asked b = {header, 15 * WIDREKAS_CARD, NULL, 0, NULL, NULL, NULL, NULL, 0, KEPT};
     is_entry(b, WIDREKAS_STRING, 0, 0, "", "a", " b");
     b.card = 2;
     is_entry(b, WIDREKAS_STRING, 0, 0, "", "cd", NULL);
     b.card = 6;
     is_entry(b, WIDREKAS_INTEGER, 0, 5, "", "", NULL);
     b.card = 7;
-    meets_refused(b, WIDREKAS_STRING_NOT_OPENED, 7);
+    meets_refused(b, WIDREKAS_STRING_NOT_OPENED, 7, 10);
     b.card = 8;
-    meets_refused(b, WIDREKAS_STRING_NOT_CLOSED, 10);
+    meets_refused(b, WIDREKAS_STRING_NOT_CLOSED, 10, 10);
     b.card = 12;
     is_entry(b, WIDREKAS_STRING, 0, 0, "", "&", NULL);
     free(header);
@@ -577,16 +611,138 @@ static void test_met(void)
     /* Behind END an entry is read by its number, and has no name for the others. */
     static const char *const behind[] = {"END", "KIT     = 'a&'", "CONTINUE  'b'", "END", "WCS     = (1"};
     header = cards(behind, 5);
-    struct asked c = {header, 5 * WIDREKAS_CARD, NULL, 1, NULL, NULL, NULL, NULL, 0};
+    struct asked c = {header, 5 * WIDREKAS_CARD, NULL, 1, NULL, NULL, NULL, NULL, 0, KEPT};
     is_entry(c, WIDREKAS_STRING, 0, 0, "", "ab", NULL);
     c.card = 4;
-    meets_refused(c, WIDREKAS_COMPLEX, 4);
+    meets_refused(c, WIDREKAS_COMPLEX, 4, 10);
     c.name = "KIT";
     is_refused_entry(c, 80, 80, WIDREKAS_NAME_NOT_FOUND);
-    size_t *first, *last, count;
-    CHECK(list(header, 5, &first, &last, &count) == 0 && count == 0);
+    size_t *first, *last, count, column;
+    CHECK(list(header, 5, &first, &last, &count, &column) == 0 && count == 0);
     free(first);
     free(last);
+    free(header);
+}
+
+/* ---- columns */
+
+/* Cards that are refused, with the byte at which they are: counted by hand, by the rule of enum widrekas_refusal. */
+static const struct {
+    const char *front;
+    int refusal;
+    size_t column;
+} columns[] = {
+    /* The first byte of 128 or more, wherever it stands. */
+    {"\xff       = 5", WIDREKAS_HIGH_BYTE, 0},
+    {"K       = 'a\xe9' / \xb0\xff", WIDREKAS_HIGH_BYTE, 12},
+    {"K       = 5 / 20 \xb0", WIDREKAS_HIGH_BYTE, 17},
+    {"COMMENT  20 \xb0", WIDREKAS_HIGH_BYTE, 12},
+    {"        \x80", WIDREKAS_HIGH_BYTE, 8},
+    {"END \x80\x80", WIDREKAS_HIGH_BYTE, 4},
+    {"NO VALUE  \x80", WIDREKAS_HIGH_BYTE, 10},
+    /* The byte where the scan stops, behind blanks and strings too. */
+    {"K       =  \x0b", WIDREKAS_ODD_BYTE, 11},
+    {"K       = 5 \x0b / \x0b", WIDREKAS_ODD_BYTE, 12},
+    {"K       = 5\t6", WIDREKAS_ODD_BYTE, 11},
+    {"K       = \t\n\f\r\x7f", WIDREKAS_ODD_BYTE, 14},
+    {"K       = '\x0b' \x0b", WIDREKAS_ODD_BYTE, 14},
+    {"K       = 'a'\x0b'b' \x0b", WIDREKAS_ODD_BYTE, 18},
+    {"K       = 'a'\x0b\x0b \x0b", WIDREKAS_ODD_BYTE, 16},
+    {"CONTINUE\x01", WIDREKAS_ODD_BYTE, 8},
+    {"CONTINUE 'a' \x01", WIDREKAS_ODD_BYTE, 13},
+    {"HIERARCH A=\x0b", WIDREKAS_ODD_BYTE, 11},
+    {"HIERARCH \x0b = \x01", WIDREKAS_ODD_BYTE, 13},
+    {"XTENSION\x0b\x0b\x0b", WIDREKAS_ODD_BYTE, 10},
+    /* The first byte of the raw text that is no blank: it is a quote. */
+    {"K       = 'a", WIDREKAS_STRING_NOT_CLOSED, 10},
+    {"K       =    'a", WIDREKAS_STRING_NOT_CLOSED, 13},
+    {"K       = \t'a' b", WIDREKAS_STRING_NOT_CLOSED, 11},
+    {"CONTINUE'a", WIDREKAS_STRING_NOT_CLOSED, 8},
+    {"CONTINUE\r\n'a", WIDREKAS_STRING_NOT_CLOSED, 10},
+    {"HIERARCH A='", WIDREKAS_STRING_NOT_CLOSED, 11},
+    {"HIERARCH A B = 'x", WIDREKAS_STRING_NOT_CLOSED, 15},
+    {"HIERARCH=A='x=", WIDREKAS_STRING_NOT_CLOSED, 11},
+    {"CONTINUEa'", WIDREKAS_STRING_NOT_OPENED, 8},
+    {"CONTINUE   a'", WIDREKAS_STRING_NOT_OPENED, 11},
+    {"CONTINUE \f a b'", WIDREKAS_STRING_NOT_OPENED, 11},
+    /* It is a parenthesis. */
+    {"K       = (", WIDREKAS_COMPLEX, 10},
+    {"K       =      (1, 2)", WIDREKAS_COMPLEX, 15},
+    {"HIERARCH A=(", WIDREKAS_COMPLEX, 11},
+    {"HIERARCH A =  (1, 2) / =", WIDREKAS_COMPLEX, 14},
+    /* HIERARCH without a = from byte 9 on, and without a name. */
+    {"HIERARCH", WIDREKAS_NO_EQUALS, 9},
+    {"HIERARCH A B C", WIDREKAS_NO_EQUALS, 9},
+    {"HIERARCH= 5", WIDREKAS_NO_EQUALS, 9},
+    {"HIERARCH = 5", WIDREKAS_NO_NAME, 9},
+    {"HIERARCH   = 5 = 6", WIDREKAS_NO_NAME, 11},
+    {"HIERARCH= = 5", WIDREKAS_NO_NAME, 10},
+    {"HIERARCH==", WIDREKAS_NO_NAME, 9},
+    /* XTENSION: the raw text may be empty or begin with the slash; bytes 8 and 9 are no part of it. */
+    {"XTENSION=", WIDREKAS_EXTENSION_NOT_QUOTED, 10},
+    {"XTENSION", WIDREKAS_EXTENSION_NOT_QUOTED, 10},
+    {"XTENSION''", WIDREKAS_EXTENSION_NOT_QUOTED, 10},
+    {"XTENSION= \t\f\r", WIDREKAS_EXTENSION_NOT_QUOTED, 10},
+    {"XTENSION= / c", WIDREKAS_EXTENSION_NOT_QUOTED, 10},
+    {"XTENSION=  /", WIDREKAS_EXTENSION_NOT_QUOTED, 11},
+    {"XTENSION=\t\t\tIMAGE", WIDREKAS_EXTENSION_NOT_QUOTED, 12},
+    {"XTENSION=    'IMAGE", WIDREKAS_EXTENSION_NOT_QUOTED, 13},
+    /* Two on one card: 1, then 6 and 7, then 2, then the rest. */
+    {"HIERARCH A \x80", WIDREKAS_HIGH_BYTE, 11},
+    {"K       = \x0b \x80", WIDREKAS_HIGH_BYTE, 12},
+    {"HIERARCH A \x0b", WIDREKAS_NO_EQUALS, 9},
+    {"HIERARCH \t =\x0b", WIDREKAS_NO_NAME, 11},
+    {"K       = (\x0b", WIDREKAS_ODD_BYTE, 11},
+    {"K       = 'a' b\x0b", WIDREKAS_ODD_BYTE, 15},
+    {"XTENSION= IMAGE\x0b", WIDREKAS_ODD_BYTE, 15},
+};
+
+/* The six functions tell the same column of a card, alone or as the second of a header. */
+static void test_columns(void)
+{
+    int seen[9] = {0};
+    for (size_t i = 0; i < sizeof columns / sizeof columns[0]; i++) {
+        const char *front = columns[i].front;
+        int refusal = columns[i].refusal;
+        size_t column = columns[i].column;
+        is_refused(front, refusal, column);
+        has_no_name(front, refusal, column);
+        const char *const fronts[] = {"A       = 'a&'", front, "K       = (", "END"};
+        is_header(fronts, 4, refusal, 1, column);
+        is_refused_header(fronts, 4, refusal, 1, column);
+        uint8_t *header = cards(fronts, 4);
+        /* By a name; by the card itself; by the entry whose string is open before it. */
+        struct asked a = {header, 4 * WIDREKAS_CARD, "A", 0, NULL, NULL, NULL, NULL, 0, KEPT};
+        meets_refused(a, refusal, 1, column);
+        a.name = NULL;
+        meets_refused(a, refusal, 1, column);
+        a.card = 1;
+        meets_refused(a, refusal, 1, column);
+        free(header);
+        seen[refusal]++;
+    }
+    for (int refusal = 1; refusal <= 8; refusal++) {
+        CHECK(seen[refusal] > 0);
+    }
+
+    /* The last byte of a card, and a refused card that an entry meets behind others. */
+    uint8_t card[WIDREKAS_CARD + 1];
+    memset(card, ' ', WIDREKAS_CARD);
+    card[WIDREKAS_CARD] = 0;
+    card[79] = 0xff;
+    is_refused((const char *)card, WIDREKAS_HIGH_BYTE, 79);
+    memcpy(card, "K       =", 9);
+    card[79] = '\'';
+    is_refused((const char *)card, WIDREKAS_STRING_NOT_CLOSED, 79);
+    memcpy(card, "HIERARCH ", 9);
+    card[79] = '=';
+    is_refused((const char *)card, WIDREKAS_NO_NAME, 79);
+    static const char *const joined[] = {"A       = 'a&'", "COMMENT", "CONTINUE  '&'", "CONTINUE   'b", "K       = (", "END"};
+    uint8_t *header = cards(joined, 6);
+    struct asked a = {header, 6 * WIDREKAS_CARD, NULL, 0, NULL, NULL, NULL, NULL, 0, KEPT};
+    meets_refused(a, WIDREKAS_STRING_NOT_CLOSED, 3, 11);
+    a.card = 4;
+    meets_refused(a, WIDREKAS_COMPLEX, 4, 10);
     free(header);
 }
 
@@ -607,7 +763,7 @@ static double double_of(const char *value)
     CHECK(snprintf(front, sizeof front, "K       = %s", value) <= WIDREKAS_CARD);
     const char *fronts = front;
     uint8_t *header = cards(&fronts, 1);
-    struct asked a = {header, WIDREKAS_CARD, NULL, 0, NULL, NULL, NULL, NULL, 0};
+    struct asked a = {header, WIDREKAS_CARD, NULL, 0, NULL, NULL, NULL, NULL, 0, KEPT};
     CHECK(ask(&a, 80, 80) == 0);
     double read = widrekas_double(a.out, a.digits, a.number);
     give_back(&a);
@@ -809,6 +965,24 @@ static size_t below(size_t n)
     return (size_t)(state >> 16) % n;
 }
 
+/* What stands at the column of a refused card. */
+static void is_column(const uint8_t *card, int refusal, size_t column)
+{
+    size_t high = 0;
+    while (high < WIDREKAS_CARD && card[high] < 128) {
+        high++;
+    }
+    switch (refusal) {
+    case WIDREKAS_HIGH_BYTE: CHECK(column == high); break;
+    case WIDREKAS_ODD_BYTE: CHECK(column >= 8 && (card[column] < 32 || card[column] == 127)); break;
+    case WIDREKAS_STRING_NOT_CLOSED: CHECK(column >= 8 && card[column] == '\''); break;
+    case WIDREKAS_STRING_NOT_OPENED: CHECK(column >= 8 && card[column] != '\'' && card[column] != ' '); break;
+    case WIDREKAS_COMPLEX: CHECK(column >= 10 && card[column] == '('); break;
+    default: CHECK(0); /* no HIERARCH or XTENSION card is made */
+    }
+    CHECK(refusal == WIDREKAS_HIGH_BYTE || high == WIDREKAS_CARD);
+}
+
 static void test_random(void)
 {
     for (int round = 0; round < 2000; round++) {
@@ -821,26 +995,32 @@ static void test_random(void)
         for (size_t i = 0; i < many; i++) {
             memcpy(header + i * WIDREKAS_CARD, i + 1 == many ? "END     " : below(2) == 0 ? "KIT     = '" : "CONTINUE '", 8);
         }
-        size_t *first, *last, count = 0;
+        size_t *first, *last, count = 0, column = KEPT;
         first = lent(WIDREKAS_PLACES * sizeof *first);
         last = lent(WIDREKAS_PLACES * sizeof *last);
-        int listed = widrekas_list(header, length, first, WIDREKAS_PLACES, last, WIDREKAS_PLACES, &count);
-        struct asked a = {header, length, "KIT", 0, NULL, NULL, NULL, NULL, 0};
+        uint8_t listed = widrekas_list(header, length, first, WIDREKAS_PLACES, last, WIDREKAS_PLACES, &count, &column);
+        CHECK(told_or_kept(listed, column));
+        if (column != KEPT) {
+            is_column(header + count * WIDREKAS_CARD, listed, column);
+        }
+        struct asked a = {header, length, "KIT", 0, NULL, NULL, NULL, NULL, 0, KEPT};
         int looked = ask(&a, below(100), below(100));
         CHECK(listed <= 10 && (listed == 0 ? looked == 0 || looked == 12 || looked == 13 : looked == listed));
+        CHECK(a.column == column);
         give_back(&a);
 
         /* Where END stands is refused as the list is; each name of the list is found, and no other number of a card bears it first. */
-        size_t card = 777;
-        CHECK(widrekas_header(header, length, &card) == listed && (listed == 0 ? card < many : card == count));
+        size_t card = 777, at = KEPT;
+        CHECK(widrekas_header(header, length, &card, &at) == listed && (listed == 0 ? card < many : card == count));
+        CHECK(at == column);
         for (size_t k = 0; listed == 0 && k < count; k++) {
             uint8_t name[WIDREKAS_LONGEST_NAME], text[1], comment[1], digits[WIDREKAS_DIGITS];
             size_t told = 0, out[WIDREKAS_NUMBERS];
             int64_t number;
-            CHECK(widrekas_name(header, length, first[k], name, sizeof name, &told) == 0 && first[k] < card);
+            CHECK(widrekas_name(header, length, first[k], name, sizeof name, &told, &at) == 0 && first[k] < card);
             int found = widrekas_lookup(header, length, name, told, text, 1, comment, 1, digits, WIDREKAS_DIGITS, out, WIDREKAS_NUMBERS,
-                                        &number);
-            CHECK(found == 0 || found == WIDREKAS_BUFFER_SHORT);
+                                        &number, &at);
+            CHECK((found == 0 || found == WIDREKAS_BUFFER_SHORT) && at == KEPT);
         }
         free(first);
         free(last);
@@ -860,7 +1040,7 @@ static void test_random(void)
 
 int main(void)
 {
-    CHECK(widrekas_version() == 1);
+    CHECK(widrekas_version() == 2);
     test_cards();
     test_units();
     test_lists();
@@ -868,6 +1048,7 @@ int main(void)
     test_names();
     test_entries();
     test_met();
+    test_columns();
     test_doubles();
     test_meanings();
     test_decode();

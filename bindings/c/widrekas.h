@@ -13,8 +13,10 @@
  *   lent in the same call, and every byte or number of it is in memory that may be written.
  * - The answer is 0, or the number of one refusal (enum widrekas_refusal), or 254 or 255 where it is said.
  * - 255 is tested first. A function that can answer it looks at no byte before the lengths are right, so with a wrong length no refusal
- *   is given. Refusals are tested in the order in which the comment names them; on one card that is 1, then 6 and 7, then 2, then 3 to 8.
+ *   is given. Refusals are tested in the order in which the comment names them; on one card that is 1, then 6 and 7, then 2, then the rest.
  * - Whatever the comment does not name stays as it was.
+ * - *column, which six functions have last, is where a card is refused: enum widrekas_refusal has the rule. Answers 1 to 8 set it, and
+ *   every other answer leaves it as it was.
  *
  * Stack. What a call takes of its caller's stack, as measured, up to the next hundred bytes: widrekas_list 79,300, widrekas_lookup
  * 62,100, widrekas_entry 62,000, widrekas_header 3,400, widrekas_name 3,300, widrekas_card 3,200, widrekas_decode and widrekas_step
@@ -59,7 +61,21 @@ extern "C" {
 #define WIDREKAS_NOTHING_LEFT 254
 #define WIDREKAS_WRONG_LENGTH 255
 
-/* The refusals, in words by widrekas_meaning. */
+/*
+ * The refusals, in words by widrekas_meaning.
+ *
+ * 1 to 8 refuse a card. They have a column: the byte of that card, 0 to 79, at which it is refused. widrekas_card, widrekas_header,
+ * widrekas_list, widrekas_name, widrekas_entry and widrekas_lookup write it to *column. The others have none.
+ *
+ *     1           the first byte of 128 or more
+ *     2           the byte outside 32..126 at which the scan for the slash stops
+ *     3, 4, 5, 8  the first byte of the raw text that is no blank; 10 if there is none, which 8 alone can meet
+ *     6           9
+ *     7           the first = from byte 9 on
+ *
+ * The raw text begins at byte 8 of a CONTINUE card, directly behind the first = from byte 9 on of a HIERARCH card, and at byte 10 of any
+ * other. Blanks are space, tab, line feed, form feed and return.
+ */
 enum widrekas_refusal {
     WIDREKAS_HIGH_BYTE = 1,            /* a byte of the card is 128 or more */
     WIDREKAS_ODD_BYTE = 2,             /* before the slash, a byte outside 32..126 that is not replaced */
@@ -131,7 +147,7 @@ enum widrekas_number {
     WIDREKAS_ENTRY_DIGITS_LENGTH = 6
 };
 
-/* The version of this boundary: 1. Functions may join without a change of it. */
+/* The version of this boundary: 2. Functions may join without a change of it. */
 uint32_t widrekas_version(void);
 
 /*
@@ -143,9 +159,11 @@ uint32_t widrekas_version(void);
  * card has its dotted name instead.
  * The text is the value's (a string, an invalid text, a decimal's digits), a CONTINUE or XTENSION card's string, a comment or history
  * text, or an undefined card whole. END and space cards have none.
- * 255: card_length is not 80 or out_length not 248. 1 to 8: the refusal. Both leave out and *number as they were.
+ * 255: card_length is not 80 or out_length not 248. 1 to 8: the refusal, and *column is the byte of the card at which it is refused.
+ * Both leave out and *number as they were. 0 and 255 leave *column.
  */
-uint8_t widrekas_card(const uint8_t *card, size_t card_length, uint8_t *out, size_t out_length, int64_t *number);
+uint8_t widrekas_card(const uint8_t *card, size_t card_length, uint8_t *out, size_t out_length, int64_t *number,
+                      size_t *column);
 
 /*
  * Finds the unit that a comment names: what stands between a [ that is its first byte and the first ] behind it.
@@ -160,9 +178,10 @@ size_t widrekas_unit(const uint8_t *comment, size_t comment_length);
  *
  * 0: *card is END's card number. The header has (*card + 1) * 80 bytes; in a file the data begin at this number, rounded up to a
  * multiple of 2,880.
- * 9: *card is 0. 1 to 8: *card is the number of the first card that is refused. 10: *card is the number of cards.
+ * 9: *card is 0. 1 to 8: *card is the number of the first card that is refused, and *column the byte of it at which it is refused.
+ * 10: *card is the number of cards. 0, 9 and 10 leave *column.
  */
-uint8_t widrekas_header(const uint8_t *header, size_t header_length, size_t *card);
+uint8_t widrekas_header(const uint8_t *header, size_t header_length, size_t *card, size_t *column);
 
 /*
  * Lists the names of a header, in the order of their first cards. Nothing behind the first END is looked at.
@@ -170,10 +189,11 @@ uint8_t widrekas_header(const uint8_t *header, size_t header_length, size_t *car
  * 0: *count is the number of names; for each of them first has the number of the first card that bears it, and last that of the
  * last one, whose entry counts. The places behind them are 720.
  * 255: first_length or last_length is not 720; *count stays as it was. 9, 1 to 8, 10: *count is the card's number, as in
- * widrekas_header. All leave first and last as they were.
+ * widrekas_header, and with 1 to 8 *column is the byte of that card. All leave first and last as they were. 0, 255, 9 and 10 leave
+ * *column.
  */
 uint8_t widrekas_list(const uint8_t *header, size_t header_length, size_t *first, size_t first_length, size_t *last,
-                      size_t last_length, size_t *count);
+                      size_t last_length, size_t *count, size_t *column);
 
 /*
  * Reads the name that the entry at a card's number bears. The name at place k of a list is that at card first[k]. No other card is
@@ -181,11 +201,12 @@ uint8_t widrekas_list(const uint8_t *header, size_t header_length, size_t *first
  *
  * 0: name begins with the name, what is beyond stays, and *length is the name's length. There is no zero behind it. Its bytes are the
  * card's, each below 128; control characters may stand among them.
- * 9. 1 to 8: that card is refused. 12: there is no such card, or it bears no entry (a commentary, CONTINUE, END or undefined card).
- * 13: name is shorter than the name; WIDREKAS_LONGEST_NAME bytes are always enough. All leave name and *length as they were.
+ * 9. 1 to 8: that card is refused, and *column is the byte of it at which it is. 12: there is no such card, or it bears no entry (a
+ * commentary, CONTINUE, END or undefined card). 13: name is shorter than the name; WIDREKAS_LONGEST_NAME bytes are always enough. All
+ * leave name and *length as they were. 0, 9, 12 and 13 leave *column.
  */
 uint8_t widrekas_name(const uint8_t *header, size_t header_length, size_t card, uint8_t *name, size_t name_length,
-                      size_t *length);
+                      size_t *length, size_t *column);
 
 /*
  * Reads the entry at a card's number, joined with the CONTINUE cards behind it. The header's length is tested. Of its cards that one
@@ -196,25 +217,28 @@ uint8_t widrekas_name(const uint8_t *header, size_t header_length, size_t card, 
  * by their lengths, and what is beyond stays; digits, 80 bytes, is the decimal's digits, then zeros; *number is the integer or
  * the power of ten, or 0.
  * 255: digits_length is not 80 or out_length not 7. 9: out[0] is 0.
- * 1 to 8: a refused card is met, and out[0] is that card's number. It is the card itself, or the first one that is refused while the
- * entry's string is open. A string that is complete before a refused card is read, as is any other value.
+ * 1 to 8: a refused card is met. out[0] is that card's number, and *column the byte of it at which it is refused. It is the card
+ * itself, or the first one that is refused while the entry's string is open. A string that is complete before a refused card is read, as
+ * is any other value.
  * 12: there is no such card, or it is no entry. 13: text or comment is too short; the answer does not say by how much, and
  * WIDREKAS_ROOM is always enough.
- * All leave the rest as it was: text, comment, digits, *number and out[1] to out[6], and but for 9 and 1 to 8 out[0] too.
+ * All leave the rest as it was: text, comment, digits, *number and out[1] to out[6], and but for 9 and 1 to 8 out[0] too. 0, 255, 9, 12
+ * and 13 leave *column.
  */
 uint8_t widrekas_entry(const uint8_t *header, size_t header_length, size_t card, uint8_t *text, size_t text_length,
                        uint8_t *comment, size_t comment_length, uint8_t *digits, size_t digits_length, size_t *out,
-                       size_t out_length, int64_t *number);
+                       size_t out_length, int64_t *number, size_t *column);
 
 /*
  * Looks a name up: the last entry that bears it, joined. Names are compared byte for byte.
  *
  * 0: as widrekas_entry. 255: as widrekas_entry. 9, 1 to 8, 10: the header's refusal, and out[0] is the card's number, as in
- * widrekas_header. 12: no entry bears the name. 13: as widrekas_entry. All leave the rest as it was, as in widrekas_entry.
+ * widrekas_header, and with 1 to 8 *column is the byte of that card. 12: no entry bears the name. 13: as widrekas_entry. All leave the
+ * rest as it was, as in widrekas_entry. 0, 255, 9, 10, 12 and 13 leave *column.
  */
 uint8_t widrekas_lookup(const uint8_t *header, size_t header_length, const uint8_t *name, size_t name_length,
                         uint8_t *text, size_t text_length, uint8_t *comment, size_t comment_length, uint8_t *digits,
-                        size_t digits_length, size_t *out, size_t out_length, int64_t *number);
+                        size_t digits_length, size_t *out, size_t out_length, int64_t *number, size_t *column);
 
 /*
  * Opens a Rice tile of nx pixels in blocks of nblock, with pixels of 8, 16 or 32 bits.

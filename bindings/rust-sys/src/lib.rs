@@ -1,7 +1,8 @@
 //! The C boundary of Widrekas: its declarations ([`raw`]), and safe functions over slices. The crate `widrekas` is made of these.
 //!
 //! Each function answers 0, the number of a refusal, [`NOTHING_LEFT`] or [`WRONG_LENGTH`]. The project's bindings/c/widrekas.h says
-//! of each what it reads and leaves, and docs/PROMISES.md what is proved of it.
+//! of each what it reads and leaves, and docs/PROMISES.md what is proved of it. Where a card is refused (answers 1 to 8), `column`
+//! is the byte of that card, 0 to 79, at which it is refused; every other answer leaves it as it was.
 //!
 //! Why the calls are sound, all of them: every pointer with its length is that of a live slice, and every number lent is a live
 //! one. What is lent by `&mut` is lent to nobody else, so nothing that is written aliases anything. The archive's functions take
@@ -38,9 +39,16 @@ pub const WRONG_LENGTH: u8 = 255;
 pub mod raw {
     extern "C" {
         pub fn widrekas_version() -> u32;
-        pub fn widrekas_card(card: *const u8, len: usize, out: *mut u8, room: usize, number: *mut i64) -> u8;
+        pub fn widrekas_card(
+            card: *const u8,
+            len: usize,
+            out: *mut u8,
+            room: usize,
+            number: *mut i64,
+            column: *mut usize,
+        ) -> u8;
         pub fn widrekas_unit(comment: *const u8, len: usize) -> usize;
-        pub fn widrekas_header(header: *const u8, len: usize, card: *mut usize) -> u8;
+        pub fn widrekas_header(header: *const u8, len: usize, card: *mut usize, column: *mut usize) -> u8;
         pub fn widrekas_list(
             header: *const u8,
             len: usize,
@@ -49,6 +57,7 @@ pub mod raw {
             last: *mut usize,
             last_room: usize,
             count: *mut usize,
+            column: *mut usize,
         ) -> u8;
         pub fn widrekas_name(
             header: *const u8,
@@ -57,6 +66,7 @@ pub mod raw {
             name: *mut u8,
             room: usize,
             length: *mut usize,
+            column: *mut usize,
         ) -> u8;
         pub fn widrekas_entry(
             header: *const u8,
@@ -71,6 +81,7 @@ pub mod raw {
             out: *mut usize,
             out_room: usize,
             number: *mut i64,
+            column: *mut usize,
         ) -> u8;
         pub fn widrekas_lookup(
             header: *const u8,
@@ -86,6 +97,7 @@ pub mod raw {
             out: *mut usize,
             out_room: usize,
             number: *mut i64,
+            column: *mut usize,
         ) -> u8;
         pub fn widrekas_open(
             tile: *const u8,
@@ -131,11 +143,13 @@ pub struct Told {
     pub out: [usize; NUMBERS],
     /// The integer, or a decimal's power of ten.
     pub number: i64,
+    /// The byte of a refused card at which it is refused.
+    pub column: usize,
 }
 
 impl Default for Told {
     fn default() -> Self {
-        Told { digits: [0; DIGITS], out: [0; NUMBERS], number: 0 }
+        Told { digits: [0; DIGITS], out: [0; NUMBERS], number: 0, column: 0 }
     }
 }
 
@@ -146,9 +160,9 @@ pub fn version() -> u32 {
 }
 
 /// Reads a card into its record.
-pub fn card(card: &[u8], record: &mut [u8], number: &mut i64) -> u8 {
-    // SAFETY: two live slices with their lengths and a live number, the last two lent alone.
-    unsafe { raw::widrekas_card(card.as_ptr(), card.len(), record.as_mut_ptr(), record.len(), number) }
+pub fn card(card: &[u8], record: &mut [u8], number: &mut i64, column: &mut usize) -> u8 {
+    // SAFETY: two live slices with their lengths and two live numbers, all but the first lent alone.
+    unsafe { raw::widrekas_card(card.as_ptr(), card.len(), record.as_mut_ptr(), record.len(), number, column) }
 }
 
 /// The end of a comment's unit, or 0.
@@ -158,28 +172,33 @@ pub fn unit(comment: &[u8]) -> usize {
 }
 
 /// Says where END stands: its card's number, or that of a refusal's card.
-pub fn header(header: &[u8], card: &mut usize) -> u8 {
-    // SAFETY: a live slice with its length, which is only read, and a live number, lent alone.
-    unsafe { raw::widrekas_header(header.as_ptr(), header.len(), card) }
+pub fn header(header: &[u8], card: &mut usize, column: &mut usize) -> u8 {
+    // SAFETY: a live slice with its length, which is only read, and two live numbers, each lent alone.
+    unsafe { raw::widrekas_header(header.as_ptr(), header.len(), card, column) }
 }
 
 /// Lists a header's names.
-pub fn list(header: &[u8], first: &mut [usize; PLACES], last: &mut [usize; PLACES], count: &mut usize) -> u8 {
-    // SAFETY: a live slice and two live arrays with their lengths and a live number, all but the first lent alone.
-    unsafe {
-        raw::widrekas_list(header.as_ptr(), header.len(), first.as_mut_ptr(), PLACES, last.as_mut_ptr(), PLACES, count)
-    }
+pub fn list(
+    header: &[u8],
+    first: &mut [usize; PLACES],
+    last: &mut [usize; PLACES],
+    count: &mut usize,
+    column: &mut usize,
+) -> u8 {
+    let (first, last) = (first.as_mut_ptr(), last.as_mut_ptr());
+    // SAFETY: a live slice and two live arrays with their lengths and two live numbers, all but the first lent alone.
+    unsafe { raw::widrekas_list(header.as_ptr(), header.len(), first, PLACES, last, PLACES, count, column) }
 }
 
 /// Reads the name that the entry at a card's number bears.
-pub fn name(header: &[u8], card: usize, name: &mut [u8], length: &mut usize) -> u8 {
-    // SAFETY: two live slices with their lengths, the first only read, and a live number; all that is written is lent alone.
-    unsafe { raw::widrekas_name(header.as_ptr(), header.len(), card, name.as_mut_ptr(), name.len(), length) }
+pub fn name(header: &[u8], card: usize, name: &mut [u8], length: &mut usize, column: &mut usize) -> u8 {
+    // SAFETY: two live slices with their lengths, the first only read, and two live numbers; all that is written is lent alone.
+    unsafe { raw::widrekas_name(header.as_ptr(), header.len(), card, name.as_mut_ptr(), name.len(), length, column) }
 }
 
 /// Reads the entry at a card's number.
 pub fn entry(header: &[u8], card: usize, text: &mut [u8], comment: &mut [u8], told: &mut Told) -> u8 {
-    // SAFETY: live slices and arrays with their lengths and a live number, all but the header lent alone; the parts of `told`
+    // SAFETY: live slices and arrays with their lengths and two live numbers, all but the header lent alone; the parts of `told`
     // are apart from each other.
     unsafe {
         raw::widrekas_entry(
@@ -195,6 +214,7 @@ pub fn entry(header: &[u8], card: usize, text: &mut [u8], comment: &mut [u8], to
             told.out.as_mut_ptr(),
             NUMBERS,
             &mut told.number,
+            &mut told.column,
         )
     }
 }
@@ -217,6 +237,7 @@ pub fn lookup(header: &[u8], name: &[u8], text: &mut [u8], comment: &mut [u8], t
             told.out.as_mut_ptr(),
             NUMBERS,
             &mut told.number,
+            &mut told.column,
         )
     }
 }

@@ -2,26 +2,71 @@
 
 use widrekas_sys::{self as boundary, Stepping, Told, CARD, NOTHING_LEFT, PLACES, RECORD, WRONG_LENGTH};
 
+/// No byte of a card: a column that is left as it was.
+const KEPT: usize = 1000;
+
 /// Cards, padded with spaces.
 fn cards(fronts: &[&str]) -> Vec<u8> {
     fronts.iter().flat_map(|front| format!("{front:80}").into_bytes()).collect()
 }
 
 #[test]
-fn the_version_is_1() {
-    assert_eq!(boundary::version(), 1);
+fn the_version_is_2() {
+    assert_eq!(boundary::version(), 2);
 }
 
 #[test]
 fn a_card_of_80_bytes_alone_is_read() {
     for (length, room) in [(79, RECORD), (81, RECORD), (CARD, RECORD - 1), (CARD, RECORD + 1), (0, 0)] {
-        let (mut record, mut number) = (vec![7; room], -1);
-        assert_eq!(boundary::card(&vec![b' '; length], &mut record, &mut number), WRONG_LENGTH);
-        assert!(number == -1 && record.iter().all(|&byte| byte == 7));
+        let (mut record, mut number, mut column) = (vec![7; room], -1, KEPT);
+        assert_eq!(boundary::card(&vec![b' '; length], &mut record, &mut number, &mut column), WRONG_LENGTH);
+        assert!(number == -1 && column == KEPT && record.iter().all(|&byte| byte == 7));
     }
-    let (mut record, mut number) = ([7; RECORD], -1);
-    assert_eq!(boundary::card(&cards(&["KIT     = 12"]), &mut record, &mut number), 0);
-    assert_eq!((record[0], record[1], number, &record[8..12]), (1, 1, 12, &b"KIT\0"[..]));
+    let (mut record, mut number, mut column) = ([7; RECORD], -1, KEPT);
+    assert_eq!(boundary::card(&cards(&["KIT     = 12"]), &mut record, &mut number, &mut column), 0);
+    assert_eq!((record[0], record[1], number, column, &record[8..12]), (1, 1, 12, KEPT, &b"KIT\0"[..]));
+}
+
+#[test]
+fn a_refused_card_has_a_column() {
+    let refused: [(&[u8], u8, usize); 8] = [
+        (b"END       \xe9 \xff", 1, 10),
+        (b"KIT     =  \x0b", 2, 11),
+        (b"CONTINUE'a", 3, 8),
+        (b"CONTINUE   a'", 4, 11),
+        (b"HIERARCH A=(", 5, 11),
+        (b"HIERARCH A", 6, 9),
+        (b"HIERARCH   = 1", 7, 11),
+        (b"XTENSION=", 8, 10),
+    ];
+    for (front, answer, byte) in refused {
+        let mut card = [b' '; CARD];
+        card[..front.len()].copy_from_slice(front);
+        let (mut record, mut number, mut column) = ([7; RECORD], -1, KEPT);
+        assert_eq!(boundary::card(&card, &mut record, &mut number, &mut column), answer);
+        assert_eq!((record, number, column), ([7; RECORD], -1, byte), "refusal {answer}");
+    }
+}
+
+#[test]
+fn a_refused_card_of_a_header_has_a_column() {
+    let header = cards(&["SIZE    = 12", "KIT     = 'a&'", "CONTINUE 'b", "END"]);
+    let (mut card, mut column) = (7, KEPT);
+    assert_eq!((boundary::header(&header, &mut card, &mut column), card, column), (3, 2, 9));
+    let (mut first, mut last, mut count, mut column) = ([7; PLACES], [7; PLACES], 7, KEPT);
+    assert_eq!(boundary::list(&header, &mut first, &mut last, &mut count, &mut column), 3);
+    assert_eq!((first, last, count, column), ([7; PLACES], [7; PLACES], 2, 9));
+    let (mut name, mut length, mut column) = ([b'.'; 4], 7, KEPT);
+    assert_eq!(boundary::name(&header, 2, &mut name, &mut length, &mut column), 3);
+    assert_eq!((&name, length, column), (b"....", 7, 9));
+    let (mut text, mut comment) = ([b'.'; 8], [b'.'; 8]);
+    let mut told = Told { column: KEPT, ..Told::default() };
+    assert_eq!(boundary::lookup(&header, b"SIZE", &mut text, &mut comment, &mut told), 3);
+    assert_eq!((told.out, told.number, told.column), ([2, 0, 0, 0, 0, 0, 0], 0, 9));
+    let mut told = Told { column: KEPT, ..Told::default() };
+    assert_eq!(boundary::entry(&header, 1, &mut text, &mut comment, &mut told), 3);
+    assert_eq!((told.out, told.number, told.column), ([2, 0, 0, 0, 0, 0, 0], 0, 9));
+    assert_eq!((&text, &comment), (b"........", b"........"));
 }
 
 #[test]
@@ -32,35 +77,39 @@ fn a_unit_ends_at_its_bracket() {
 #[test]
 fn a_list_a_lookup_and_an_entry() {
     let header = cards(&["SIZE    = 12", "KIT     = 'FKM-&'", "CONTINUE  '75' /r", "SIZE    = 13", "END"]);
-    let (mut first, mut last, mut count) = ([0; PLACES], [0; PLACES], 0);
-    assert_eq!(boundary::list(&header, &mut first, &mut last, &mut count), 0);
+    let (mut first, mut last, mut count, mut column) = ([0; PLACES], [0; PLACES], 0, KEPT);
+    assert_eq!(boundary::list(&header, &mut first, &mut last, &mut count, &mut column), 0);
     assert_eq!((count, &first[..3], &last[..3]), (2, &[0, 1, 720][..], &[3, 1, 720][..]));
-    let (mut text, mut comment, mut told) = ([b'.'; 8], [b'.'; 8], Told::default());
+    let (mut text, mut comment, mut told) = ([b'.'; 8], [b'.'; 8], Told { column: KEPT, ..Told::default() });
     assert_eq!(boundary::lookup(&header, b"KIT", &mut text, &mut comment, &mut told), 0);
     assert_eq!((&text, &comment, told.out), (b"FKM-75..", b"r.......", [0, 6, 0, 1, 6, 1, 0]));
     assert_eq!(boundary::entry(&header, 3, &mut text, &mut comment, &mut told), 0);
     assert_eq!((told.out, told.number), ([0, 1, 0, 0, 0, 0, 0], 13));
     assert_eq!(boundary::entry(&header, 2, &mut text, &mut comment, &mut told), 12);
     assert_eq!(boundary::lookup(&header, b"KIT", &mut text[..5], &mut comment, &mut told), 13);
-    assert_eq!(boundary::list(&header[..80], &mut first, &mut last, &mut count), 10);
-    assert_eq!(count, 1);
+    assert_eq!(boundary::lookup(&header[1..], b"KIT", &mut text, &mut comment, &mut told), 9);
+    assert_eq!(boundary::lookup(&header[..80], b"KIT", &mut text, &mut comment, &mut told), 10);
+    assert_eq!(told.column, KEPT);
+    assert_eq!(boundary::list(&header[..80], &mut first, &mut last, &mut count, &mut column), 10);
+    assert_eq!((count, column), (1, KEPT));
 }
 
 #[test]
 fn where_the_end_stands_and_the_name_at_a_card() {
     let header = cards(&["SIZE    = 12", "HIERARCH A B = 1", "", "  END", "KIT     = '"]);
-    let mut card = 7;
-    assert_eq!((boundary::header(&header, &mut card), card), (0, 3));
-    assert_eq!((boundary::header(&header[..160], &mut card), card), (10, 2));
-    assert_eq!((boundary::header(&header[1..], &mut card), card), (9, 0));
-    assert_eq!((boundary::header(&header[320..], &mut card), card), (3, 0));
-    let (mut name, mut length) = ([b'.'; 4], 7);
-    assert_eq!(boundary::name(&header, 1, &mut name, &mut length), 0);
+    let (mut card, mut column) = (7, KEPT);
+    assert_eq!((boundary::header(&header, &mut card, &mut column), card), (0, 3));
+    assert_eq!((boundary::header(&header[..160], &mut card, &mut column), card), (10, 2));
+    assert_eq!((boundary::header(&header[1..], &mut card, &mut column), card, column), (9, 0, KEPT));
+    assert_eq!((boundary::header(&header[320..], &mut card, &mut column), card, column), (3, 0, 10));
+    let (mut name, mut length, mut column) = ([b'.'; 4], 7, KEPT);
+    assert_eq!(boundary::name(&header, 1, &mut name, &mut length, &mut column), 0);
     assert_eq!((&name, length), (b"A.B.", 3));
-    assert_eq!(boundary::name(&header, 1, &mut name[..2], &mut length), 13);
-    assert_eq!([2, 3, 5].map(|card| boundary::name(&header, card, &mut name, &mut length)), [12; 3]);
-    assert_eq!(boundary::name(&header, 4, &mut name, &mut length), 3);
-    assert_eq!((&name, length), (b"A.B.", 3));
+    assert_eq!(boundary::name(&header, 1, &mut name[..2], &mut length, &mut column), 13);
+    assert_eq!([2, 3, 5].map(|card| boundary::name(&header, card, &mut name, &mut length, &mut column)), [12; 3]);
+    assert_eq!(column, KEPT);
+    assert_eq!(boundary::name(&header, 4, &mut name, &mut length, &mut column), 3);
+    assert_eq!((&name, length, column), (b"A.B.", 3, 10));
 }
 
 #[test]

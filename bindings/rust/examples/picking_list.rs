@@ -1,8 +1,8 @@
 //! picking_list NAME FILE...: prints a line for each FITS file: file, value of the name, comment, unit, with tabs between.
 //!
 //! A file that has no such line (it cannot be read, its header is refused, it has no such name, or a value that is undefined or
-//! invalid) is named on standard error with the reason, and the exit status is 1. Control characters are printed as \xNN, so that no
-//! file can forge a line.
+//! invalid) is named on standard error with the reason, and the exit status is 1. The reason of a refused card names the card and the
+//! byte of it, both counted from 0. Control characters are printed as \xNN, so that no file can forge a line.
 
 use std::ffi::OsString;
 use std::fmt::Display;
@@ -10,13 +10,24 @@ use std::fs::File;
 use std::io::{self, Read, Write};
 use std::path::Path;
 use std::process::ExitCode;
-use widrekas::{Entry, Header, Reason, Value, LONGEST};
+use widrekas::{Entry, Header, Reason, Refusal, Value, LONGEST};
+
+/// A refusal in words, with the card and the byte of it where a card is refused.
+fn in_words(refusal: Refusal) -> String {
+    match (refusal.card(), refusal.column()) {
+        (Some(card), Some(column)) => {
+            format!("refused {} at card {card}, byte {column}: {}", refusal.number(), refusal.meaning())
+        }
+        _ => refusal.reason().to_string(),
+    }
+}
 
 /// The entry of a name in a file's header.
 fn entry(file: &Path, name: &str) -> Result<Entry, Box<dyn std::error::Error>> {
     let mut bytes = Vec::new();
     File::open(file)?.take(LONGEST as u64).read_to_end(&mut bytes)?;
-    let entry = Header::parse_file(&bytes)?.get(name).ok_or(Reason::NameNotFound)?;
+    let header = Header::parse_file(&bytes).map_err(in_words)?;
+    let entry = header.get(name).ok_or(Reason::NameNotFound)?;
     match entry.value {
         Value::Undefined => Err(format!("{name} has no value").into()),
         Value::Invalid(text) => Err(format!("{name} has an invalid value: {}", text.trim_end()).into()),

@@ -56,19 +56,19 @@ fn part(record: &[u8; RECORD], at: usize, len: u8) -> &[u8] {
 /// The name with which a card is read; empty where it is refused.
 pub(crate) fn name(card: &[u8; CARD]) -> Text {
     let mut record = [0; RECORD];
-    boundary::card(card, &mut record, &mut 0);
+    boundary::card(card, &mut record, &mut 0, &mut 0);
     let [_, _, _, _, len, ..] = record;
     Text::new(part(&record, NAME, len))
 }
 
 impl Card {
-    /// Reads a card. A refusal is one of 1 to 8 and carries no card number, since the card stands alone.
+    /// Reads a card. A refusal is one of 1 to 8. It carries the column, and no card number, since the card stands alone.
     pub fn read(card: &[u8; CARD]) -> Result<Card, Refusal> {
         let mut record = [0; RECORD];
-        let mut number = 0;
-        match boundary::card(card, &mut record, &mut number) {
+        let (mut number, mut column) = (0, 0);
+        match boundary::card(card, &mut record, &mut number, &mut column) {
             0 => Ok(Card::told(&record, number)),
-            number => Err(Refusal::told(number)),
+            refused => Err(Refusal::told(refused).in_column(column)),
         }
     }
 

@@ -97,12 +97,12 @@ fn front_of(file: &[u8]) -> &[u8] {
 impl Header {
     /// Reads a header of 1 to 720 cards of 80 bytes. Nothing behind its END is looked at, or kept.
     ///
-    /// Every card up to END is tested, and the first that is refused refuses the header.
+    /// Every card up to END is tested, and the first that is refused refuses the header: the refusal has its number and column.
     pub fn parse(bytes: &[u8]) -> Result<Header, Refusal> {
-        let (mut first, mut last, mut count) = ([0; PLACES], [0; PLACES], 0);
-        match boundary::list(bytes, &mut first, &mut last, &mut count) {
+        let (mut first, mut last, mut count, mut column) = ([0; PLACES], [0; PLACES], 0, 0);
+        match boundary::list(bytes, &mut first, &mut last, &mut count, &mut column) {
             0 => (),
-            number => return Err(Refusal::told(number).at(count)),
+            number => return Err(Refusal::told(number).at(count).in_column(column)),
         }
         let places = first.iter().zip(&last).take(count).map(|(&first, &last)| Place { first, last }).collect();
         Ok(Header { cards: up_to_end(bytes).to_vec(), places, asked: OnceLock::new(), names: OnceLock::new() })

@@ -31,7 +31,7 @@ pub use refusal::{Reason, Refusal};
 pub use text::Text;
 pub use value::{Entry, Value};
 
-/// The version of the C boundary, which is 1.
+/// The version of the C boundary, which is 2.
 pub fn version() -> u32 {
     widrekas_sys::version()
 }

@@ -1,4 +1,4 @@
-//! Refusals: why an input was not read, and at which card.
+//! Refusals: why an input was not read, at which card, and at which byte of it.
 
 use std::fmt;
 
@@ -108,28 +108,41 @@ impl fmt::Display for Reason {
 
 impl std::error::Error for Reason {}
 
-/// A refusal: the reason, and the card it was met at if it carries one. Only this crate makes them.
+/// A refusal: the reason, and the card and the column it was met at if it carries them. Only this crate makes them.
 ///
-/// [`Reason`]s 1 to 8 of a header carry the card's number, counted from 0. [`Reason::NoEnd`] carries the number of cards,
-/// [`Reason::HeaderLength`] carries 0. The refusals of a lone card and of a tile carry none.
+/// [`Reason`]s 1 to 8 refuse a card. They carry the column, and the card's number if the card stands in a header. [`Reason::NoEnd`]
+/// carries the number of cards and [`Reason::HeaderLength`] carries 0, both without a column. All others carry neither.
+///
+/// ```
+/// let header = format!("{:80}{:80}{:80}", "SIZE    = 12", "WCS     =   (1, 2)", "END");
+/// let refusal = widrekas::Header::parse(header.as_bytes()).unwrap_err();
+/// assert_eq!((refusal.number(), refusal.card(), refusal.column()), (5, Some(1), Some(12)));
+/// assert!(refusal.to_string().starts_with("refused 5 at 1:12: the value begins with a parenthesis"));
+/// ```
 #[derive(Clone, Copy, Debug, PartialEq, Eq, Hash)]
 pub struct Refusal {
     reason: Reason,
     card: Option<usize>,
+    column: Option<usize>,
 }
 
 impl Refusal {
     /// The refusal of an answer of the boundary, which is proved to be one of the numbers.
     pub(crate) fn told(number: u8) -> Self {
         match Reason::from_number(number) {
-            Some(reason) => Refusal { reason, card: None },
-            None => unreachable!("version 1 of the boundary has no refusal {number}"),
+            Some(reason) => Refusal { reason, card: None, column: None },
+            None => unreachable!("version 2 of the boundary has no refusal {number}"),
         }
     }
 
     /// The same, met at a card.
     pub(crate) fn at(self, card: usize) -> Self {
         Refusal { card: Some(card), ..self }
+    }
+
+    /// The same with the column that the boundary left. It sets one where a card is refused, 1 to 8, and nowhere else.
+    pub(crate) fn in_column(self, column: usize) -> Self {
+        Refusal { column: (self.reason <= Reason::ExtensionNotQuoted).then_some(column), ..self }
     }
 
     /// Why the input was not read.
@@ -147,19 +160,40 @@ impl Refusal {
         self.reason.meaning()
     }
 
-    /// The card's number.
+    /// The card's number, counted from 0.
     pub fn card(&self) -> Option<usize> {
         self.card
     }
+
+    /// The byte of the refused card, 0 to 79, at which it is refused. Reasons 1 to 8 have one, in a header and alone.
+    ///
+    /// | Reason | Column |
+    /// |---|---|
+    /// | [`HighByte`](Reason::HighByte) | the first byte of 128 or more |
+    /// | [`OddByte`](Reason::OddByte) | the byte outside 32..126 at which the scan for the slash stops |
+    /// | [`StringNotClosed`](Reason::StringNotClosed), [`StringNotOpened`](Reason::StringNotOpened), [`Complex`](Reason::Complex), [`ExtensionNotQuoted`](Reason::ExtensionNotQuoted) | the first byte of the raw text that is no blank; 10 if there is none |
+    /// | [`NoEquals`](Reason::NoEquals) | 9 |
+    /// | [`NoName`](Reason::NoName) | the first = from byte 9 on |
+    ///
+    /// The raw text begins at byte 8 of a CONTINUE card, directly behind the first = from byte 9 on of a HIERARCH card, and at byte 10
+    /// of any other. Blanks are space, tab, line feed, form feed and return.
+    pub fn column(&self) -> Option<usize> {
+        self.column
+    }
 }
 
-/// `refused`, the number, `at` and the card's number if there is one, and the words.
+/// `refused`, the number, where it was met, and the words. Where is `at 2:10` for byte 10 of card 2, `at byte 10` for a card that
+/// stands alone, and `at 2` where there is a card's number and no column.
 impl fmt::Display for Refusal {
     fn fmt(&self, f: &mut fmt::Formatter<'_>) -> fmt::Result {
-        match self.card {
-            Some(card) => write!(f, "refused {} at {card}: {}", self.number(), self.meaning()),
-            None => self.reason.fmt(f),
+        write!(f, "refused {}", self.number())?;
+        match (self.card, self.column) {
+            (Some(card), Some(column)) => write!(f, " at {card}:{column}")?,
+            (Some(card), None) => write!(f, " at {card}")?,
+            (None, Some(column)) => write!(f, " at byte {column}")?,
+            (None, None) => (),
         }
+        write!(f, ": {}", self.meaning())
     }
 }
 

@@ -2,7 +2,7 @@
 
 mod common;
 
-use common::{at, card, cards, entry, header, refused, told, value};
+use common::{at, card, cards, entry, header, of_header, refused, told, value};
 use widrekas::{Card, Header, Reason, Value, LONGEST};
 
 #[test]
@@ -147,24 +147,24 @@ fn all_classes_of_cards() {
 }
 
 #[test]
-fn refusals_of_headers_with_their_cards() {
+fn refusals_of_headers_with_their_cards_and_columns() {
     let refusal = |fronts: &[&str]| told(Header::parse(&cards(fronts)).unwrap_err());
-    assert_eq!(refusal(&["A       = 1", "B       = 5 \u{b}6", "END"]), at(2, 1));
-    assert_eq!(refusal(&["A       = '", "END"]), at(3, 0));
-    assert_eq!(refusal(&["A       = 1", "", "CONTINUE  a'", "END"]), at(4, 2));
-    assert_eq!(refusal(&["A       = (1, 2)", "END"]), at(5, 0));
-    assert_eq!(refusal(&["HIERARCH A", "END"]), at(6, 0));
-    assert_eq!(refusal(&["HIERARCH  = 1", "END"]), at(7, 0));
-    assert_eq!(refusal(&["XTENSION= IMAGE", "END"]), at(8, 0));
-    assert_eq!(refusal(&["XTENSION= '", "END"]), at(8, 0));
-    assert_eq!(refusal(&["A       = 1", "B       = 2"]), at(10, 2));
+    assert_eq!(refusal(&["A       = 1", "B       = 5 \u{b}6", "END"]), at(2, 1, 12));
+    assert_eq!(refusal(&["A       = '", "END"]), at(3, 0, 10));
+    assert_eq!(refusal(&["A       = 1", "", "CONTINUE  a'", "END"]), at(4, 2, 10));
+    assert_eq!(refusal(&["A       = (1, 2)", "END"]), at(5, 0, 10));
+    assert_eq!(refusal(&["HIERARCH A", "END"]), at(6, 0, 9));
+    assert_eq!(refusal(&["HIERARCH  = 1", "END"]), at(7, 0, 10));
+    assert_eq!(refusal(&["XTENSION= IMAGE", "END"]), at(8, 0, 10));
+    assert_eq!(refusal(&["XTENSION= '", "END"]), at(8, 0, 10));
+    assert_eq!(refusal(&["A       = 1", "B       = 2"]), of_header(10, 2));
     let mut high = cards(&["A       = 1", "B       = 'x'", "END"]);
     high[80 + 70] = 128;
-    assert_eq!(Header::parse(&high).map_err(told), Err(at(1, 1)));
+    assert_eq!(Header::parse(&high).map_err(told), Err(at(1, 1, 70)));
     for bytes in [vec![], vec![b' '; 79], vec![b' '; 81], vec![b' '; LONGEST + 80]] {
-        assert_eq!(Header::parse(&bytes).map_err(told), Err(at(9, 0)));
+        assert_eq!(Header::parse(&bytes).map_err(told), Err(of_header(9, 0)));
     }
-    assert_eq!(Card::read(&card("A       = (1")).map_err(told), Err((5, None)));
+    assert_eq!(Card::read(&card("A       = (1")).map_err(told), Err((5, None, Some(10))));
 }
 
 #[test]
@@ -176,8 +176,8 @@ fn whole_files() {
     assert_eq!((header.get("SIZE").unwrap().value, header.as_bytes().len()), (Value::Integer(12), 160));
     // What is left of a card at the end is cut off.
     assert_eq!(Header::parse_file(&file[..160 + 79]), Ok(header));
-    assert_eq!(Header::parse_file(&file[..159]).map_err(told), Err(at(10, 1)));
-    assert_eq!(Header::parse_file(b"SIMPLE").map_err(told), Err(at(9, 0)));
+    assert_eq!(Header::parse_file(&file[..159]).map_err(told), Err(of_header(10, 1)));
+    assert_eq!(Header::parse_file(b"SIMPLE").map_err(told), Err(of_header(9, 0)));
     // END may be the last of 720 cards, and not the one behind them.
     for (before, read) in [(719, true), (720, false)] {
         let mut file = [card(""); 720][..before.min(720)].concat();
@@ -270,5 +270,5 @@ fn headers_go_between_threads() {
     assert!(one == other && one == one.clone() && one != header(&["KIT     = 'b'"]));
     let kit = std::thread::spawn(move || other.get("KIT")).join().unwrap();
     assert_eq!(kit, one.get("KIT"));
-    assert_eq!(widrekas::version(), 1);
+    assert_eq!(widrekas::version(), 2);
 }

@@ -3,7 +3,7 @@
 mod common;
 
 use common::random::Random;
-use common::{at, card, cards, header, told, Told};
+use common::{at, card, cards, header, of_header, told, Told};
 use std::collections::BTreeSet;
 use std::time::{Duration, Instant};
 use widrekas::{Card, Entry, Header, ReadOn, Value, LONGEST};
@@ -45,9 +45,9 @@ fn listed(read: &ReadOn) -> Vec<(String, Result<String, Told>)> {
 fn a_kit_with_a_damaged_card_inside_is_an_error_and_no_other_kit() {
     let fronts = ["SIZE    = 12", "KIT     = 'FKM-&'", "CONTINUE  '75-&", "CONTINUE  'A2'", "RING    = 'NBR'"];
     let read = read_on(&fronts);
-    assert_eq!(get(&read, "KIT"), Err(at(3, 2)));
+    assert_eq!(get(&read, "KIT"), Err(at(3, 2, 10)));
     assert_eq!((integer(&read, "SIZE"), string(&read, "RING")), (12, "NBR".to_string()));
-    assert_eq!((get(&read, "NONE"), refusals(&read)), (Ok(None), vec![at(3, 2)]));
+    assert_eq!((get(&read, "NONE"), refusals(&read)), (Ok(None), vec![at(3, 2, 10)]));
     // The header that is not damaged has the kit.
     let good = header(&["KIT     = 'FKM-&'", "CONTINUE  '75-&'", "CONTINUE  'A2'"]);
     assert_eq!(good.get("KIT").unwrap().value.as_str(), Some("FKM-75-A2"));
@@ -69,18 +69,18 @@ fn names_before_between_and_behind_answer() {
     ]);
     assert_eq!(string(&read, "A"), "before!");
     assert_eq!(read.get("A").unwrap().unwrap().comment.unwrap(), " joined");
-    assert_eq!((get(&read, "B"), get(&read, "C")), (Err(at(5, 4)), Err(at(5, 4))));
-    assert_eq!((string(&read, "D"), get(&read, "C2")), ("behind".to_string(), Err(at(2, 8))));
+    assert_eq!((get(&read, "B"), get(&read, "C")), (Err(at(5, 4, 10)), Err(at(5, 4, 10))));
+    assert_eq!((string(&read, "D"), get(&read, "C2")), ("behind".to_string(), Err(at(2, 8, 12))));
     assert_eq!(integer(&read, "E.F"), 7);
-    assert_eq!(refusals(&read), [at(5, 4), at(2, 8)]);
+    assert_eq!(refusals(&read), [at(5, 4, 10), at(2, 8, 12)]);
 }
 
 #[test]
 fn a_damaged_card_while_nothing_is_open_touches_its_own_name_alone() {
     let read = read_on(&["A       = 'a'", "B       = 'b", "CONTINUE  'c", "D       = 4"]);
     assert_eq!((string(&read, "A"), integer(&read, "D")), ("a".to_string(), 4));
-    assert_eq!(get(&read, "B"), Err(at(3, 1)));
-    assert_eq!(refusals(&read), [at(3, 1), at(3, 2)]);
+    assert_eq!(get(&read, "B"), Err(at(3, 1, 10)));
+    assert_eq!(refusals(&read), [at(3, 1, 10), at(3, 2, 10)]);
     // A string that was closed, that another entry ended, or that is no string, is not open.
     let fronts = ["A       = 'a&'", "CONTINUE  'b'", "COMMENT", "CONTINUE  c'"];
     assert_eq!(string(&read_on(&fronts), "A"), "ab");
@@ -118,60 +118,67 @@ fn the_keyword_alone_says_which_name_a_refused_card_bears() {
     let mut bytes = cards(&["HIERARCH ESO DET = 1", "Z       = 1", "END"]);
     bytes[8] = 200;
     let read = Header::read_on(&bytes).unwrap();
-    assert_eq!((get(&read, "ESO.DET"), integer(&read, "Z")), (Err(at(1, 0)), 1));
+    assert_eq!((get(&read, "ESO.DET"), integer(&read, "Z")), (Err(at(1, 0, 8)), 1));
 }
 
 #[test]
 fn a_name_that_cannot_be_read_touches_every_name() {
-    for (front, number) in [
-        ("K\u{b0}T    = 5", 1),
-        ("HIERARCH E\u{b0} DET = 5", 1),
-        ("HIERARCH DET \u{b0} 'a=b'", 1),
-        ("HIERARCH \u{b0}", 1),
-        ("HIERARCH ESO DET", 6),
-        ("HIERARCH  = 5", 7),
-        ("END     \u{b0}", 1),
+    for (front, number, column) in [
+        ("K\u{b0}T    = 5", 1, 1),
+        ("HIERARCH E\u{b0} DET = 5", 1, 10),
+        ("HIERARCH DET \u{b0} 'a=b'", 1, 13),
+        ("HIERARCH \u{b0}", 1, 9),
+        ("HIERARCH ESO DET", 6, 9),
+        ("HIERARCH  = 5", 7, 10),
+        ("END     \u{b0}", 1, 8),
     ] {
         let read = read_on(&["A       = 1", front, "B       = 2"]);
         for name in ["A", "B", "KIT", "ESO.DET", "END", "NONE", ""] {
-            assert_eq!(get(&read, name), Err(at(number, 1)), "{front}: {name}");
+            assert_eq!(get(&read, name), Err(at(number, 1, column)), "{front}: {name}");
         }
-        assert_eq!(read.keywords().err().map(told), Some(at(number, 1)));
-        assert_eq!(read.entries().err().map(told), Some(at(number, 1)));
-        assert_eq!(refusals(&read), [at(number, 1)]);
+        assert_eq!(read.keywords().err().map(told), Some(at(number, 1, column)));
+        assert_eq!(read.entries().err().map(told), Some(at(number, 1, column)));
+        assert_eq!(refusals(&read), [at(number, 1, column)]);
     }
     // The first card that touches a name counts.
     let read = read_on(&["A       = (1", "K\u{b0}      = 5", "B       = (1", "A       = (1"]);
-    assert_eq!((get(&read, "A"), get(&read, "B"), get(&read, "C")), (Err(at(5, 0)), Err(at(1, 1)), Err(at(1, 1))));
-    assert_eq!(refusals(&read), [at(5, 0), at(1, 1), at(5, 2), at(5, 3)]);
-    assert_eq!(get(&read_on(&["HIERARCH", "K\u{b0}      = 5"]), "A"), Err(at(6, 0)));
+    assert_eq!(
+        (get(&read, "A"), get(&read, "B"), get(&read, "C")),
+        (Err(at(5, 0, 10)), Err(at(1, 1, 1)), Err(at(1, 1, 1)))
+    );
+    assert_eq!(refusals(&read), [at(5, 0, 10), at(1, 1, 1), at(5, 2, 10), at(5, 3, 10)]);
+    assert_eq!(get(&read_on(&["HIERARCH", "K\u{b0}      = 5"]), "A"), Err(at(6, 0, 9)));
 }
 
 #[test]
 fn a_touched_name_stays_an_error_whatever_good_cards_say() {
     let read = read_on(&["A       = 1", "A       = (2", "A       = 3", "B       = 'b&'", "CONTINUE  (", "B       = 4"]);
-    assert_eq!((get(&read, "A"), integer(&read, "B")), (Err(at(5, 1)), 4));
+    assert_eq!((get(&read, "A"), integer(&read, "B")), (Err(at(5, 1, 10)), 4));
     let read =
         read_on(&["B       = 'b&'", "CONTINUE  '", "B       = 4", "A       = (1", "B       = 'c&'", "A       = ("]);
-    assert_eq!((get(&read, "A"), get(&read, "B")), (Err(at(5, 3)), Err(at(3, 1))));
+    assert_eq!((get(&read, "A"), get(&read, "B")), (Err(at(5, 3, 10)), Err(at(3, 1, 10))));
 }
 
 #[test]
 fn two_damaged_cards_in_one_string_or_in_two() {
     let read = read_on(&["A       = 'a&'", "CONTINUE  'b", "CONTINUE  c'", "CONTINUE  'd'", "B       = 2"]);
-    assert_eq!((get(&read, "A"), integer(&read, "B")), (Err(at(3, 1)), 2));
-    assert_eq!(refusals(&read), [at(3, 1), at(4, 2)]);
+    assert_eq!((get(&read, "A"), integer(&read, "B")), (Err(at(3, 1, 10)), 2));
+    assert_eq!(refusals(&read), [at(3, 1, 10), at(4, 2, 10)]);
     let read =
         read_on(&["A       = 'a&'", "CONTINUE  'b", "B       = 'c&'", "COMMENT", "C       = (1", "CONTINUE  'd'"]);
-    assert_eq!((get(&read, "A"), get(&read, "B"), get(&read, "C")), (Err(at(3, 1)), Err(at(5, 4)), Err(at(5, 4))));
+    assert_eq!(
+        (get(&read, "A"), get(&read, "B"), get(&read, "C")),
+        (Err(at(3, 1, 10)), Err(at(5, 4, 10)), Err(at(5, 4, 10)))
+    );
 }
 
 #[test]
 fn names_are_listed_by_their_first_cards_refused_ones_too() {
     let read =
         read_on(&["C       = (1", "A       = 1", "B       = (1", "A       = 2", "C       = 3", "HIERARCH D E = '"]);
-    let refused = |number, card| Err(at(number, card));
-    let expected = [("C", refused(5, 0)), ("A", Ok("2".into())), ("B", refused(5, 2)), ("D.E", refused(3, 5))];
+    let refused = |number, card, column| Err(at(number, card, column));
+    let expected =
+        [("C", refused(5, 0, 10)), ("A", Ok("2".into())), ("B", refused(5, 2, 10)), ("D.E", refused(3, 5, 15))];
     assert_eq!(listed(&read), expected.map(|(name, answer)| (name.to_string(), answer)));
     assert_eq!(read.keywords().unwrap().len(), 4);
     let shown = format!("{read:?}");
@@ -191,23 +198,23 @@ fn a_header_without_refused_cards_answers_as_ever() {
 
 #[test]
 fn length_and_missing_end_refuse_it_all() {
-    assert_eq!(Header::read_on(b"").err().map(told), Some(at(9, 0)));
-    assert_eq!(Header::read_on(&[b' '; 79]).err().map(told), Some(at(9, 0)));
-    assert_eq!(Header::read_on(&cards(&["A       = 1"])).err().map(told), Some(at(10, 1)));
+    assert_eq!(Header::read_on(b"").err().map(told), Some(of_header(9, 0)));
+    assert_eq!(Header::read_on(&[b' '; 79]).err().map(told), Some(of_header(9, 0)));
+    assert_eq!(Header::read_on(&cards(&["A       = 1"])).err().map(told), Some(of_header(10, 1)));
     assert_eq!(
         Header::read_on(&cards(&["A       = (1", "B       = 2", "END     \u{b0}"])).err().map(told),
-        Some(at(10, 3))
+        Some(of_header(10, 3))
     );
     assert_eq!(
         Header::read_on(&[cards(&["A       = (1"]), vec![200; 2 * LONGEST]].concat()).err().map(told),
-        Some(at(10, 720))
+        Some(of_header(10, 720))
     );
     // Nothing behind END is looked at, and what is left of a card is cut off.
     let mut file = cards(&["A       = (1", "B       = 2", "END"]);
     file.extend(vec![200; LONGEST + 17]);
     for file in [&file[..], &file[..3 * 80 + 79]] {
         let read = Header::read_on(file).unwrap();
-        assert_eq!((integer(&read, "B"), refusals(&read)), (2, vec![at(5, 0)]));
+        assert_eq!((integer(&read, "B"), refusals(&read)), (2, vec![at(5, 0, 10)]));
     }
 }
 

@@ -62,7 +62,10 @@ fn more(entry: &Entry) -> String {
 fn lines(bytes: &[u8]) -> String {
     let header = match Header::parse(bytes) {
         Ok(header) => header,
-        Err(refusal) => return format!("refused {} at {}\n", refusal.number(), refusal.card().unwrap()),
+        Err(refusal) => {
+            let column = refusal.column().map_or(String::new(), |column| format!(":{column}"));
+            return format!("refused {} at {}{column}\n", refusal.number(), refusal.card().unwrap());
+        }
     };
     let mut all = String::new();
     for (name, entry) in header.entries() {

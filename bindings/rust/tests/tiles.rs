@@ -10,9 +10,9 @@ fn shape(nx: usize, bits: usize) -> Shape {
     Shape { nx, nblock: 32, bits }
 }
 
-/// What a refusal tells, which names no card.
+/// What a refusal tells, which names no card and no column.
 fn told(refusal: Refusal) -> u8 {
-    assert_eq!(refusal.card(), None);
+    assert_eq!((refusal.card(), refusal.column()), (None, None));
     refusal.number()
 }
 

@@ -32,7 +32,7 @@ use widrekas_sys::{self as boundary, Told, CARD};
 /// }
 /// let read = Header::read_on(&file)?;
 /// let refusal = read.get("KIT").unwrap_err();
-/// assert_eq!((refusal.reason(), refusal.card()), (Reason::StringNotClosed, Some(2)));
+/// assert_eq!((refusal.reason(), refusal.card(), refusal.column()), (Reason::StringNotClosed, Some(2), Some(10)));
 /// assert_eq!(read.get("SIZE")?.unwrap().value.as_i64(), Some(12));
 /// assert_eq!(read.get("NONE")?, None);
 /// # Ok(())
@@ -161,7 +161,8 @@ impl ReadOn {
         Ok(ReadOn { blanked: Header::parse(&blanked)?, touched })
     }
 
-    /// The entry of a name, as [`Header::get`] gives it. An error is the refusal of the first card that touches the name.
+    /// The entry of a name, as [`Header::get`] gives it. An error is the refusal of the first card that touches the name, with that
+    /// card's number and column.
     pub fn get(&self, name: impl AsRef<[u8]>) -> Result<Option<Entry>, Refusal> {
         let name = name.as_ref();
         match self.touched.first(name) {
@@ -200,7 +201,8 @@ impl ReadOn {
         self.blanked.data_start()
     }
 
-    /// The refusals of all refused cards, in the order of the cards; none where [`Header::parse`] accepts the header.
+    /// The refusals of all refused cards, each with its card's number and column, in the order of the cards; none where
+    /// [`Header::parse`] accepts the header.
     pub fn refusals(&self) -> &[Refusal] {
         &self.touched.refusals
     }

@@ -62,10 +62,10 @@ fn the_list_finds_what_a_lookup_finds() {
         let header = Header::parse(&bytes).unwrap();
         assert_eq!(header.as_bytes().len(), bytes.len() - CARD, "the cards up to END are kept");
         let mut end = 0;
-        assert_eq!((boundary::header(&bytes, &mut end), header.end()), (0, end));
+        assert_eq!((boundary::header(&bytes, &mut end, &mut 0), header.end()), (0, end));
         for (name, place) in header.keywords().zip(&header.places) {
             let (mut room, mut length) = ([0; CARD], 0);
-            assert_eq!(boundary::name(&bytes, place.first, &mut room, &mut length), 0);
+            assert_eq!(boundary::name(&bytes, place.first, &mut room, &mut length, &mut 0), 0);
             assert_eq!(name.as_bytes(), &room[..length]);
         }
         let names: Vec<Text> = header.keywords().cloned().collect();
@@ -136,10 +136,15 @@ fn bytes_at_random_give_a_reading_or_a_refusal() {
             Err(refusal) => {
                 assert!((1..=10).contains(&refusal.number()), "{refusal}");
                 assert_eq!(looked_up(&bytes, b"KIT"), Err(refusal.number()));
-                let mut count = 0;
-                let listed = boundary::list(&bytes, &mut [0; PLACES], &mut [0; PLACES], &mut count);
+                let (mut count, mut column) = (0, 0);
+                let listed = boundary::header(&bytes, &mut count, &mut column);
                 assert_eq!((refusal.number(), refusal.card()), (listed, Some(count)));
-                assert_eq!((boundary::header(&bytes, &mut count), refusal.card()), (listed, Some(count)));
+                assert_eq!(refusal.column(), (listed <= 8).then_some(column));
+                if listed <= 8 {
+                    // The card is refused alike alone.
+                    let card = bytes[count * CARD..].first_chunk().unwrap();
+                    assert_eq!(Card::read(card).map_err(|alone| alone.at(count)), Err(refusal));
+                }
             }
         }
     }

@@ -41,15 +41,20 @@ pub fn refused(text: &str) -> u8 {
     Header::parse(&bytes).unwrap_err().number()
 }
 
-/// A refusal's number, and that of its card.
-pub type Told = (u8, Option<usize>);
+/// A refusal's number, that of its card, and the column.
+pub type Told = (u8, Option<usize>, Option<usize>);
 
 /// What a refusal tells.
 pub fn told(refusal: Refusal) -> Told {
-    (refusal.number(), refusal.card())
+    (refusal.number(), refusal.card(), refusal.column())
 }
 
-/// What a refusal tells that was met at a card.
-pub fn at(number: u8, card: usize) -> Told {
-    (number, Some(card))
+/// What the refusal of a card tells, 1 to 8.
+pub fn at(number: u8, card: usize, column: usize) -> Told {
+    (number, Some(card), Some(column))
+}
+
+/// What the refusal of a header tells that is no card's, 9 or 10.
+pub fn of_header(number: u8, card: usize) -> Told {
+    (number, Some(card), None)
 }
