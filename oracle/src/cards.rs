@@ -1,10 +1,11 @@
 //! Single cards: cases, and the comparison of one case.
 
+use crate::columns::BY_HAND;
 use crate::faults::Fault;
 use crate::model::Model;
 use crate::random::Random;
 use crate::reading::{shown, Card};
-use crate::tally::Outcome;
+use crate::tally::{Columns, Outcome};
 use crate::{ours, theirs};
 
 /// What takes a part's name and a case, and says whether more are wanted.
@@ -195,6 +196,63 @@ fn pairs(visit: Visit) -> bool {
     true
 }
 
+/// How the names of the parts begin that are about the byte of a refusal. The choice of the stored list leaves them out.
+pub const ABOUT_COLUMNS: &str = "columns";
+
+/// Texts that are refused, each behind what it may follow.
+const REFUSED: &[(&str, &str)] = &[
+    ("K       = ", "(1,2)"),
+    ("K       = ", "'open"),
+    ("K       = ", "5\x0b"),
+    ("CONTINUE", "'a"),
+    ("CONTINUE", "a'"),
+    ("CONTINUE", "\x7f"),
+    ("HIERARCH A=", "("),
+    ("HIERARCH A B =", "'x"),
+    ("HIERARCH A=", "\x0b"),
+    ("HIERARCH ", "= 5"),
+    ("HIERARCH", "nothing"),
+    ("XTENSION=", "/ c"),
+    ("XTENSION= ", "5"),
+    ("XTENSION= ", "'"),
+];
+
+/// Cards for the byte at which they are refused.
+fn refused(depth: usize, visit: Visit) -> bool {
+    let extensions = [("XTENSION", ""), ("XTENSION= ", ""), ("XTENSION= '", "' / c")];
+    let high = ["", "END", "COMMENT", "K       = 'a' / c", "HIERARCH A = 5"];
+    let odd = ["K       = 'a'5 'b'", "CONTINUE a 'b' c'", "HIERARCH A ='"];
+    BY_HAND.iter().all(|(text, ..)| visit("columns, by hand", &card_of(text)))
+        && placed("columns, XTENSION", b"'/ a\x0b\t", depth - 1, &extensions, visit)
+        && placed("columns, blanks in front", b" \t\n\x0c\r", 3, REFUSED, visit)
+        && at_each_byte("columns, at each byte", visit)
+        && doubled("columns, two high bytes", 200, &high, visit)
+        && doubled("columns, two odd bytes", 11, &odd, visit)
+}
+
+/// Refused texts at each byte, spaces before them, the last ones cut at the card's end.
+fn at_each_byte(part: &'static str, visit: Visit) -> bool {
+    let at_bytes = |(front, text): &(&str, &str)| -> Vec<[u8; 80]> {
+        (front.len()..80).map(|at| card_of(format!("{front:<at$}{text}").as_bytes())).collect()
+    };
+    REFUSED.iter().flat_map(at_bytes).all(|card| visit(part, &card))
+}
+
+/// Cards with a byte put at each place, and at every two.
+fn doubled(part: &'static str, byte: u8, bases: &[&str], visit: Visit) -> bool {
+    for base in bases {
+        for (first, second) in (0..80).flat_map(|first| (first..80).map(move |second| (first, second))) {
+            let mut card = card_of(base.as_bytes());
+            card[first] = byte;
+            card[second] = byte;
+            if !visit(part, &card) {
+                return false;
+            }
+        }
+    }
+    true
+}
+
 /// Numbers that lie near a limit.
 fn number(random: &mut Random) -> Vec<u8> {
     let mut text = Vec::new();
@@ -348,7 +406,7 @@ pub fn cases(seed: u64, depth: usize, many: usize, visit: Visit) -> bool {
             return false;
         }
     }
-    if !exhaustive(depth, visit) || !pairs(visit) {
+    if !exhaustive(depth, visit) || !refused(depth, visit) || !pairs(visit) {
         return false;
     }
     let mut random = Random::new(seed);
@@ -402,10 +460,10 @@ pub fn aside(card: &[u8; 80]) -> Option<&'static str> {
     None
 }
 
-/// Whether two answers differ; a message that tells no number stands against any refusal.
-fn differ(theirs: &Card, ours: &Card) -> bool {
+/// Whether another answer than the Rust's. It tells no byte, and a message that tells no number stands against any refusal.
+pub fn differ(theirs: &Card, ours: &Card) -> bool {
     match (theirs, ours) {
-        (Card::Refused(0), Card::Refused(_)) => false,
+        (Card::Refused(a, _), Card::Refused(b, _)) => *a != 0 && a != b,
         _ => theirs != ours,
     }
 }
@@ -445,14 +503,35 @@ fn weight(card: &[u8; 80]) -> usize {
 }
 
 /// Whether our answer differs from the Rust's inside the domain, or from the model's anywhere.
-fn different(card: &[u8; 80]) -> bool {
+fn different(card: &[u8; 80], seen: &mut Columns) -> bool {
     let ours = ours::card(card);
-    ours != Model(Fault::None).card(card) || (aside(card).is_none() && judge(card, &ours))
+    let model = Model(Fault::None).card(card);
+    if let Card::Refused(number, column) = model {
+        seen.count(number, column);
+    }
+    ours != model || (aside(card).is_none() && judge(card, &ours))
+}
+
+/// The model names the bytes that are written by hand, and a byte of 128 or more at each place.
+pub fn check_columns() {
+    let hold = |card: &[u8; 80], number, column| {
+        let told = Model(Fault::None).card(card);
+        assert!(told == Card::Refused(number, Some(column)), "\"{}\": {told:?}, not at {column}", shown(card));
+    };
+    for &(text, number, column) in BY_HAND {
+        hold(&card_of(text), number, column);
+    }
+    for at in 0..80 {
+        let mut card = card_of(b"K       = 5 / c");
+        card[at..].fill(200);
+        hold(&card, 1, at);
+    }
+    println!("{} cards by hand, and a byte of 200 at each place: the model names their bytes", BY_HAND.len());
 }
 
 /// One case.
-pub fn compare(card: &[u8; 80]) -> Outcome {
-    if different(card) {
+pub fn compare(card: &[u8; 80], seen: &mut Columns) -> Outcome {
+    if different(card, seen) {
         return Outcome::Different;
     }
     aside(card).map_or(Outcome::Same, Outcome::Aside)
@@ -460,7 +539,7 @@ pub fn compare(card: &[u8; 80]) -> Outcome {
 
 /// A case that differs, in its smallest form, with all answers.
 pub fn explain(card: &[u8; 80]) -> String {
-    let small = smallest(card, &different);
+    let small = smallest(card, &|c| different(c, &mut Columns::new("")));
     format!(
         "\"{}\"\n    Rust  {:?}\n    ours  {:?}\n    model {:?}",
         shown(small.trim_ascii_end()),

@@ -1,4 +1,5 @@
-//! Misreadings of the specification. Each one, put into the model, must be told apart from the Rust.
+//! Misreadings of the specification. Each one, put into the model, must be told apart from the Rust, and those of a column from the model
+//! without them.
 
 macro_rules! faults {
     ($($subject:ident { $($name:ident = $words:literal,)+ })+) => {
@@ -22,6 +23,8 @@ pub enum Subject {
     Cards,
     /// A card's decimal record, of which the Rust tells the nearest float alone.
     Records,
+    /// The byte at which a card is refused, of which the Rust tells nothing.
+    Columns,
     Headers,
     Tiles,
 }
@@ -128,6 +131,33 @@ faults! {
         CapLower = "an exponent is capped at 99,998",
         CapOfPower = "the power is capped, not the written exponent",
         CapInvalid = "an exponent beyond the cap is invalid",
+    }
+    Columns {
+        ColumnFromOne = "columns count from 1",
+        ColumnInTrimmed = "2 to 5 and 8 count in the trimmed text",
+        ColumnInRaw = "2 to 5 and 8 count in the raw text",
+        ColumnUntrimmed = "3, 4, 5 and 8 name the raw text's first byte, a blank too",
+        ColumnAfterSpaces = "3, 4, 5 and 8 pass over spaces alone",
+        HighLast = "1 names the last byte of 128 or more",
+        HighFirstByte = "1 names byte 0",
+        OddSecond = "2 names the second odd byte",
+        OddInString = "2 names an odd byte that is replaced",
+        OddTextFirst = "2 names the text's first byte",
+        UnclosedLast = "3 names the text's last byte",
+        UnclosedBehind = "3 names the byte behind the text",
+        UnopenedQuote = "4 names the last quote",
+        ContinueLooksFrom10 = "CONTINUE's byte is looked for from byte 10 on",
+        ContinueCountsFrom10 = "CONTINUE's byte is counted from byte 10",
+        HierarchLooksFrom10 = "HIERARCH's byte is looked for from byte 10 on",
+        HierarchCountsFrom10 = "HIERARCH's byte is counted from byte 10",
+        HierarchAtEquals = "HIERARCH's 3 and 5 name the =",
+        NoEqualsLast = "6 names the card's last byte",
+        NoEqualsAt8 = "6 names byte 8",
+        NoNameAt9 = "7 names byte 9",
+        NoNameLastEquals = "7 names the last =",
+        NoNameBehind = "7 names the byte behind the =",
+        ExtensionValue = "8 names the value text's first byte",
+        ExtensionEmptyLast = "8 names the card's last byte where the text is empty",
     }
     Headers {
         CommentCloses = "a comment closes an open string",

@@ -1,11 +1,12 @@
 //! Headers: cases, and the comparison of one case.
 
 use crate::cards::{self, card_of, mutated, random_card, REALISTIC};
+use crate::columns::BY_HAND;
 use crate::faults::Fault;
 use crate::model::Model;
 use crate::random::Random;
-use crate::reading::{shown, Header};
-use crate::tally::Outcome;
+use crate::reading::{shown, Entry, Header, Refusal};
+use crate::tally::{Columns, Outcome};
 use crate::{ours, theirs};
 
 /// What takes a part's name and a case, and says whether more are wanted.
@@ -142,9 +143,43 @@ pub fn random_header(random: &mut Random) -> Vec<[u8; 80]> {
     header
 }
 
+/// Refused cards of every kind, behind other cards.
+fn refused(visit: Visit) -> bool {
+    let fronts: [&[&str]; 5] = [
+        &[],
+        &["A       = 5 / five"],
+        &["A       = 'x&'"],
+        &["XTENSION= 'IMAGE'", "HIERARCH A = 'x&'"],
+        &["A       = 'x&'", "COMMENT c", "B       = 'y&'", "CONTINUE 'z&'"],
+    ];
+    for front in fronts {
+        for (text, ..) in BY_HAND {
+            let rear = [card_of(text), card_of(b"CONTINUE 'e"), card_of(b"END"), card_of(b"X       = (")];
+            if !visit("columns, cards by hand", &[&cards_of(front)[..], &rear].concat()) {
+                return false;
+            }
+        }
+    }
+    true
+}
+
+/// A header with a refused card in it, or one that is almost refused.
+fn with_refused(random: &mut Random) -> Vec<[u8; 80]> {
+    let mut header = random_header(random);
+    header.truncate(12);
+    let mut card = card_of(random.pick(BY_HAND).0);
+    match random.below(3) {
+        0 => card = mutated(random, &card),
+        1 => card[random.below(80)] = 128 + random.below(128) as u8,
+        _ => (),
+    }
+    header.insert(random.below(header.len() + 1), card);
+    header
+}
+
 /// All the cases: every sequence up to a length, and so many random ones.
 pub fn cases(seed: u64, longest: usize, many: usize, visit: Visit) -> bool {
-    if !sequences(longest, visit) {
+    if !sequences(longest, visit) || !refused(visit) {
         return false;
     }
     let mut random = Random::new(seed);
@@ -176,6 +211,11 @@ pub fn cases(seed: u64, longest: usize, many: usize, visit: Visit) -> bool {
             return false;
         }
     }
+    for _ in 0..many / 4 {
+        if !visit("columns, a refused card among others", &with_refused(&mut random)) {
+            return false;
+        }
+    }
     true
 }
 
@@ -195,13 +235,17 @@ fn mine(header: &[[u8; 80]]) -> Header {
     ours::header(header)
 }
 
+/// Whether another answer than the Rust's. It tells no byte, and a message that tells no number stands against any refusal.
+pub fn differ(theirs: &Header, ours: &Header) -> bool {
+    match (theirs, ours) {
+        (Header::Refused(a, at, _), Header::Refused(b, card, _)) => at != card || (*a != 0 && a != b),
+        _ => theirs != ours,
+    }
+}
+
 /// Whether the Rust's answer is another one.
 pub fn judge(header: &[[u8; 80]], ours: &Header) -> bool {
-    match (theirs::header(header), ours) {
-        (Some(Header::Refused(0, a)), Header::Refused(_, b)) => a != *b,
-        (Some(theirs), ours) => theirs != *ours,
-        (None, _) => true,
-    }
+    theirs::header(header).map_or(true, |t| differ(&t, ours))
 }
 
 fn smallest(header: &[[u8; 80]], holds: &dyn Fn(&[[u8; 80]]) -> bool) -> Vec<[u8; 80]> {
@@ -216,38 +260,90 @@ fn smallest(header: &[[u8; 80]], holds: &dyn Fn(&[[u8; 80]]) -> bool) -> Vec<[u8
     best
 }
 
-/// Whether an entry by a card's number is another one than the model's, in a header of any kind, behind END and of refused cards too.
-fn entries_differ(model: Model, header: &[[u8; 80]]) -> bool {
-    let mut lent = ours::Lent::new();
-    header.len() < FEW
-        && (0..header.len()).any(|at| {
-            let expected = model.entry_at(header, at);
-            let name = expected.as_ref().map_or(Vec::new(), |entry| entry.name.clone());
-            let told = lent.entry(header.as_flattened(), ours::Asked::Card(at), &name);
-            lent.clear(0, 0);
-            told != expected.map_err(|(number, card)| (number, card.unwrap_or(usize::MAX)))
-        })
+/// The bytes of refused cards that were compared: those of headers, and of entries and names by a card's number.
+pub struct Seen {
+    headers: Columns,
+    entries: Columns,
+    names: Columns,
 }
 
-fn different(header: &[[u8; 80]]) -> bool {
+impl Seen {
+    pub fn new() -> Self {
+        let of = Columns::new;
+        Seen { headers: of("headers"), entries: of("entries by their card"), names: of("names by their card") }
+    }
+
+    pub fn print(&self) {
+        [&self.headers, &self.entries, &self.names].into_iter().for_each(Columns::print);
+    }
+}
+
+/// What stands at a card's number: the entry and the name.
+#[derive(PartialEq, Debug)]
+struct Standing {
+    entry: Result<Entry, Refusal>,
+    name: Result<Vec<u8>, Refusal>,
+}
+
+impl Standing {
+    fn of(model: Model, header: &[[u8; 80]], at: usize) -> Self {
+        Standing { entry: model.entry_at(header, at), name: model.name_at(header, at) }
+    }
+
+    /// Ours, with the bytes of refused cards counted that the model names.
+    fn ours(expected: &Self, header: &[[u8; 80]], at: usize, lent: &mut ours::Lent, seen: &mut Seen) -> Self {
+        if let Err(refusal) = &expected.entry {
+            seen.entries.count(refusal.number, refusal.column);
+        }
+        if let Err(refusal) = &expected.name {
+            seen.names.count(refusal.number, refusal.column);
+        }
+        let named = expected.entry.as_ref().map_or(&[][..], |entry| &entry.name);
+        let entry = lent.entry(header.as_flattened(), ours::Asked::Card(at), named);
+        lent.clear(0, 0);
+        Standing { entry, name: ours::name(header.as_flattened(), at) }
+    }
+}
+
+/// The first card's number at which ours and the model's differ, in a header of any kind, behind END and at refused cards too.
+fn differs_at(model: Model, header: &[[u8; 80]], seen: &mut Seen) -> Option<usize> {
+    let mut lent = ours::Lent::new();
+    let few = if header.len() < FEW { header.len() } else { 0 };
+    (0..few).find(|&at| {
+        let expected = Standing::of(model, header, at);
+        Standing::ours(&expected, header, at, &mut lent, seen) != expected
+    })
+}
+
+fn different(header: &[[u8; 80]], seen: &mut Seen) -> bool {
     let model = Model(Fault::None);
     let mine = mine(header);
-    mine != model.header(header, |c| model.card(c))
-        || (aside(header).is_none() && judge(header, &mine))
-        || entries_differ(model, header)
+    let expected = model.header(header, |c| model.card(c));
+    if let Header::Refused(number, _, column) = expected {
+        seen.headers.count(number, column);
+    }
+    mine != expected || (aside(header).is_none() && judge(header, &mine)) || differs_at(model, header, seen).is_some()
 }
 
 /// One case.
-pub fn compare(header: &[[u8; 80]]) -> Outcome {
-    if different(header) {
+pub fn compare(header: &[[u8; 80]], seen: &mut Seen) -> Outcome {
+    if different(header, seen) {
         return Outcome::Different;
     }
     aside(header).map_or(Outcome::Same, Outcome::Aside)
 }
 
-/// A case that differs, in its smallest form, with both answers.
+/// A case that differs, in its smallest form, with all answers.
 pub fn explain(header: &[[u8; 80]]) -> String {
-    let small = smallest(header, &different);
+    let small = smallest(header, &|h| different(h, &mut Seen::new()));
     let cards: Vec<String> = small.iter().map(|c| format!("\"{}\"", shown(c.trim_ascii_end()))).collect();
-    format!("{}\n    Rust {:?}\n    ours {:?}", cards.join("\n    "), theirs::header(&small), mine(&small))
+    let model = Model(Fault::None);
+    let (rust, ours) = (theirs::header(&small), mine(&small));
+    let expected = model.header(&small, |c| model.card(c));
+    let at_card = differs_at(model, &small, &mut Seen::new()).map_or(String::new(), |at| {
+        let expected = Standing::of(model, &small, at);
+        let ours = Standing::ours(&expected, &small, at, &mut ours::Lent::new(), &mut Seen::new());
+        format!("\n    card {at}\n    ours  {ours:?}\n    model {expected:?}")
+    });
+    format!("{}\n    Rust  {rust:?}\n    ours  {ours:?}\n    model {expected:?}{at_card}", cards.join("\n    "))
 }

@@ -2,7 +2,7 @@
 
 use crate::faults::Fault;
 use crate::model::Model;
-use crate::reading::{Card, Entry, Header, Value};
+use crate::reading::{Card, Entry, Header, Refusal, Value};
 
 /// The entries so far, and which of them a CONTINUE joins.
 struct Listing {
@@ -30,11 +30,11 @@ impl Model {
                         break;
                     }
                 }
-                Card::Refused(_) if self.has(Fault::RefusedPassed) => (),
-                Card::Refused(_)
+                Card::Refused(..) if self.has(Fault::RefusedPassed) => (),
+                Card::Refused(..)
                     if self.has(Fault::OrphanUnread) && list.open.is_none() && bytes.starts_with(b"CONTINUE") => {}
-                Card::Refused(number) => {
-                    refused = Some(Header::Refused(number, at + base));
+                Card::Refused(number, column) => {
+                    refused = Some(Header::Refused(number, at + base, column));
                     if !self.has(Fault::RefusedLast) {
                         break;
                     }
@@ -65,7 +65,7 @@ impl Model {
         }
         if !ended && !self.has(Fault::EndNotNeeded) {
             let last = usize::from(self.has(Fault::NoEndLastCard));
-            return Header::Refused(10, cards.len().saturating_sub(last));
+            return Header::Refused(10, cards.len().saturating_sub(last), None);
         }
         for entry in &mut list.entries {
             if self.has(Fault::AmpersandAtEnd) && ends_open(&entry.value) {
@@ -77,9 +77,19 @@ impl Model {
         Header::Entries(list.entries)
     }
 
+    /// The name at a card's number, or the refusal. No other card has a say, so the refusal carries no card.
+    pub fn name_at(self, cards: &[[u8; 80]], at: usize) -> Result<Vec<u8>, Refusal> {
+        match self.card(&cards[at]) {
+            Card::Value(entry) | Card::Hierarch(entry) => Ok(entry.name),
+            Card::Xtension(_) => Ok(b"XTENSION".to_vec()),
+            Card::Refused(number, column) => Err(Refusal { number, card: None, column }),
+            _ => Err(Refusal::NOT_FOUND),
+        }
+    }
+
     /// The entry at a card's number, or the refusal with the card that it carries. A refused card counts where it is met: at that number,
     /// or while the string is open.
-    pub fn entry_at(self, cards: &[[u8; 80]], at: usize) -> Result<Entry, (u8, Option<usize>)> {
+    pub fn entry_at(self, cards: &[[u8; 80]], at: usize) -> Result<Entry, Refusal> {
         let mut list = Listing { entries: Vec::new(), dotted: Vec::new(), open: None };
         match self.card(&cards[at]) {
             Card::Value(entry) => self.put(&mut list, entry, false),
@@ -88,16 +98,16 @@ impl Model {
                 let name = b"XTENSION".to_vec();
                 return Ok(Entry { name, value: Value::Text(text), comment: None, unit: None });
             }
-            Card::Refused(number) => return Err((number, Some(at))),
-            _ => return Err((12, None)),
+            Card::Refused(number, column) => return Err(Refusal { number, card: Some(at), column }),
+            _ => return Err(Refusal::NOT_FOUND),
         }
-        for (number, bytes) in cards.iter().enumerate().skip(at + 1) {
+        for (met, bytes) in cards.iter().enumerate().skip(at + 1) {
             if list.open.is_none() {
                 break;
             }
             match self.card(bytes) {
                 Card::Continue(text, comment) => self.go_on(&mut list, text, comment),
-                Card::Refused(refusal) => return Err((refusal, Some(number))),
+                Card::Refused(number, column) => return Err(Refusal { number, card: Some(met), column }),
                 Card::Value(_) | Card::Hierarch(_) | Card::Xtension(_) | Card::End => break,
                 _ => (),
             }

@@ -5,9 +5,11 @@
 //! oracle stored [SEED [FOLDER]]  the stored list, with the Rust's answers
 
 mod cards;
+mod columns;
 mod faults;
 mod headers;
 mod joining;
+mod miscounts;
 mod model;
 mod ours;
 mod power;
@@ -23,7 +25,7 @@ mod unpacking;
 mod variants;
 mod views;
 
-use tally::{Outcome, Tally};
+use tally::{Columns, Outcome, Tally};
 
 /// The length of the short texts that are all tried, and of the short sequences of cards.
 const TEXTS: usize = 6;
@@ -58,15 +60,19 @@ impl Counter {
 fn compare(seed: u64, many: usize) -> u64 {
     ours::check_lengths();
     let mut counter = Counter::new("cards");
+    let mut seen = Columns::new("cards");
     cards::cases(seed, TEXTS, many, &mut |part, card| {
-        counter.count(part, cards::compare(card), || cards::explain(card))
+        counter.count(part, cards::compare(card, &mut seen), || cards::explain(card))
     });
     let mut different = counter.end();
+    seen.print();
     let mut counter = Counter::new("headers");
+    let mut seen = headers::Seen::new();
     headers::cases(seed, SEQUENCES, many / 2, &mut |part, header| {
-        counter.count(part, headers::compare(header), || headers::explain(header))
+        counter.count(part, headers::compare(header, &mut seen), || headers::explain(header))
     });
     different += counter.end();
+    seen.print();
     let mut counter = Counter::new("tiles");
     tiles::cases(seed, true, many / 2, &mut |part, case| {
         counter.count(part, tiles::compare(case), || tiles::explain(case))
@@ -80,6 +86,7 @@ fn main() {
     let number = |at: usize, default: u64| words.get(at).and_then(|w| w.parse().ok()).unwrap_or(default);
     let (seed, many) = (number(2, 1), number(3, 200_000) as usize);
     println!("boundary version {}, seed {seed}, {many} random cases a part", widrekas_sys::version());
+    cards::check_columns();
     let bad = match words.get(1).map(String::as_str) {
         Some("power") => power::run(seed, many) as u64,
         Some("stored") => {

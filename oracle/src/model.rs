@@ -3,6 +3,7 @@
 
 use crate::faults::Fault;
 use crate::reading::{Card, Decimal, Entry, Value};
+use crate::{columns, miscounts};
 
 /// The specification with at most one misreading.
 #[derive(Clone, Copy)]
@@ -512,7 +513,12 @@ impl Model {
 
     /// One card.
     pub fn card(self, card: &[u8; 80]) -> Card {
-        self.class(card).unwrap_or_else(Card::Refused)
+        self.class(card).unwrap_or_else(|number| Card::Refused(number, self.column(card, number)))
+    }
+
+    /// The byte at which a card is refused.
+    fn column(self, card: &[u8; 80], number: u8) -> Option<usize> {
+        columns::column(card, number).map(|right| miscounts::named(self.0, card, number, right))
     }
 
     /// Whether a text that is to be a string, or XTENSION's, is one quote alone.

@@ -1,8 +1,8 @@
 //! Our answers, through the archive's C boundary.
 
-use crate::reading::{Card, Decimal, Entry, Header, Tile, Value};
+use crate::reading::{Card, Decimal, Entry, Header, Refusal, Tile, Value};
 
-use widrekas_sys::{self as boundary, Stepping, Told, DIGITS, NUMBERS, PLACES, RECORD};
+use widrekas_sys::{self as boundary, Stepping, Told, CARD, DIGITS, NUMBERS, PLACES, RECORD};
 
 /// Where the texts of a card's record stand.
 const NAME: usize = 8;
@@ -21,25 +21,90 @@ fn unit(comment: &Option<Vec<u8>>) -> Option<Vec<u8>> {
 /// What lent memory holds before a call, to see that a refusal leaves it.
 const BEFORE: u8 = 0xa5;
 
-/// Slices of other lengths are answered by 255 and left alone.
+/// What a lent number holds before a call: no card and no byte of a card has this number.
+const LEFT: usize = usize::MAX;
+
+/// The byte that an answer tells. Answers other than 1 to 8 leave what is lent.
+fn column_of(answer: u8, column: usize) -> Option<usize> {
+    assert!(column == LEFT || (1..=8).contains(&answer), "answer {answer} touches the column: {column}");
+    (column != LEFT).then_some(column)
+}
+
+/// Slices of other lengths are answered by 255, headers of other lengths by 9, and what is lent is left alone.
 pub fn check_lengths() {
+    check_card_lengths();
+    check_header_lengths();
+    check_lent_lengths();
+}
+
+fn check_card_lengths() {
     for (card, room) in [(0, RECORD), (79, RECORD), (81, RECORD), (80, 0), (80, RECORD - 1), (80, RECORD + 1), (160, 0)]
     {
         let mut record = vec![BEFORE; room];
-        let mut number = -1;
-        let answer = boundary::card(&vec![b' '; card], &mut record, &mut number);
+        let (mut number, mut column) = (-1, LEFT);
+        let answer = boundary::card(&vec![200; card], &mut record, &mut number, &mut column);
         assert!(answer == 255 && number == -1 && record.iter().all(|&b| b == BEFORE), "lengths {card} and {room}");
+        assert!(column == LEFT, "lengths {card} and {room}: the column is touched");
     }
+}
+
+/// Every card of these headers would be refused.
+fn check_header_lengths() {
+    for length in [0, 1, 79, 81, 57_599, 57_680] {
+        let header = vec![200; length];
+        let (mut at, mut column) = (LEFT, LEFT);
+        let answer = boundary::header(&header, &mut at, &mut column);
+        assert!((answer, at, column) == (9, 0, LEFT), "a header of {length} bytes");
+        let (mut first, mut last) = ([LEFT; PLACES], [LEFT; PLACES]);
+        at = LEFT;
+        let answer = boundary::list(&header, &mut first, &mut last, &mut at, &mut column);
+        assert!((answer, at, column) == (9, 0, LEFT), "a list of {length} bytes");
+        assert!(first == [LEFT; PLACES] && last == [LEFT; PLACES], "a refusal touches lent memory");
+        assert!(name(&header, 0) == Err(Refusal { number: 9, card: None, column: None }), "a name of {length} bytes");
+        for asked in [Asked::Card(0), Asked::Name(b"A")] {
+            let told = Lent::new().entry(&header, asked, b"A");
+            assert!(told == Err(Refusal { number: 9, card: Some(0), column: None }), "an entry of {length} bytes");
+        }
+    }
+}
+
+/// The slices whose lengths the safe functions fix, one number short.
+fn check_lent_lengths() {
+    let card = [200u8; 80];
+    let mut bytes = [BEFORE; 2 * DIGITS];
+    let mut numbers = [LEFT; 2 * PLACES];
+    let (mut number, mut count, mut column) = (-1i64, LEFT, LEFT);
+    let (text, digits) = bytes.split_at_mut(DIGITS);
+    let (first, last) = numbers.split_at_mut(PLACES);
+    let (head, t, d) = (card.as_ptr(), text.as_mut_ptr(), digits.as_mut_ptr());
+    let (f, l) = (first.as_mut_ptr(), last.as_mut_ptr());
+    let mut answers = Vec::new();
+    for (a, b) in [(PLACES - 1, PLACES), (PLACES, PLACES - 1)] {
+        // SAFETY: each pointer has at least as much behind it as its length says, and nothing that is written is lent twice.
+        answers.push(unsafe { boundary::raw::widrekas_list(head, 80, f, a, l, b, &mut count, &mut column) });
+    }
+    for (a, b) in [(DIGITS - 1, NUMBERS), (DIGITS, NUMBERS - 1)] {
+        let (n, c) = (&mut number, &mut column);
+        // SAFETY: as above; the comment is lent with no byte.
+        answers.push(unsafe { boundary::raw::widrekas_entry(head, 80, 0, t, 0, t, 0, d, a, f, b, n, c) });
+        let (n, c) = (&mut number, &mut column);
+        // SAFETY: as above; the name is the card's first byte, which is only read.
+        answers.push(unsafe { boundary::raw::widrekas_lookup(head, 80, head, 1, t, 0, t, 0, d, a, f, b, n, c) });
+    }
+    assert!(answers == [255; 6], "slices of other lengths: {answers:?}");
+    assert!((number, count, column) == (-1, LEFT, LEFT), "255 touches a lent number");
+    assert!(bytes == [BEFORE; 2 * DIGITS] && numbers == [LEFT; 2 * PLACES], "255 touches lent memory");
 }
 
 /// One card.
 pub fn card(card: &[u8; 80]) -> Card {
     let mut record = [BEFORE; RECORD];
-    let mut number = -1;
-    let refused = boundary::card(card, &mut record, &mut number);
+    let (mut number, mut column) = (-1, LEFT);
+    let refused = boundary::card(card, &mut record, &mut number, &mut column);
+    let column = column_of(refused, column);
     if refused != 0 {
         assert!(record == [BEFORE; RECORD] && number == -1, "a refusal touches lent memory");
-        return Card::Refused(refused);
+        return Card::Refused(refused, column);
     }
     let part = |at: usize, len: u8| record[at..at + len as usize].to_vec();
     let text = || part(TEXT, record[5]);
@@ -88,7 +153,7 @@ const ROOM: usize = 58_400;
 
 impl Lent {
     pub fn new() -> Self {
-        let told = Told { digits: [BEFORE; DIGITS], out: [usize::MAX; NUMBERS], number: -1 };
+        let told = Told { digits: [BEFORE; DIGITS], out: [LEFT; NUMBERS], number: -1, column: LEFT };
         Lent { text: vec![BEFORE; ROOM], comment: vec![BEFORE; ROOM], told }
     }
 
@@ -102,17 +167,19 @@ impl Lent {
 
     /// The entry that is asked for, or the refusal with what it tells beside it. Buffers that are just as long as the texts are
     /// lent; one byte less is refused.
-    pub fn entry(&mut self, header: &[u8], asked: Asked, name: &[u8]) -> Result<Entry, (u8, usize)> {
-        self.told.out = [usize::MAX; NUMBERS];
-        self.told.number = -1;
+    pub fn entry(&mut self, header: &[u8], asked: Asked, name: &[u8]) -> Result<Entry, Refusal> {
+        self.told.out = [LEFT; NUMBERS];
+        (self.told.number, self.told.column) = (-1, LEFT);
         let refused = self.ask(header, &asked, ROOM, ROOM);
+        let column = column_of(refused, self.told.column);
         if refused != 0 {
             assert!(
-                self.told.number == -1 && self.told.out[1..] == [usize::MAX; NUMBERS - 1],
+                self.told.number == -1 && self.told.out[1..] == [LEFT; NUMBERS - 1],
                 "a refusal touches lent memory"
             );
             assert!(self.untouched(0, 0) && self.told.digits == [BEFORE; DIGITS], "a refusal touches lent memory");
-            return Err((refused, self.told.out[0]));
+            let card = self.told.out[0];
+            return Err(Refusal { number: refused, card: (card != LEFT).then_some(card), column });
         }
         let [zero, kind, flag, commented, text, comment, digits] = self.told.out;
         assert!(zero == 0 && self.untouched(text, comment), "bytes beyond a length are touched");
@@ -147,6 +214,7 @@ impl Lent {
             assert!(self.ask(header, &asked, text, comment - 1) == 13, "room that is too little");
         }
         assert!(self.untouched(0, 0) && (self.told.out, self.told.number) == kept, "a refusal touches lent memory");
+        assert!(self.told.column == LEFT, "0 or 13 touches the column");
         let comment = (commented == 1).then_some(remark);
         Ok(Entry { name: name.to_vec(), value, unit: unit(&comment), comment })
     }
@@ -163,26 +231,66 @@ impl Lent {
     }
 }
 
+/// The name at a card's number, or the refusal. A name that is just as long is lent; one byte less is refused.
+pub fn name(header: &[u8], card: usize) -> Result<Vec<u8>, Refusal> {
+    let mut held = [BEFORE; CARD];
+    let (mut length, mut column) = (LEFT, LEFT);
+    let refused = boundary::name(header, card, &mut held, &mut length, &mut column);
+    let column = column_of(refused, column);
+    if refused != 0 {
+        assert!(held == [BEFORE; CARD] && length == LEFT, "a refusal touches lent memory");
+        return Err(Refusal { number: refused, card: None, column });
+    }
+    assert!(held[length..].iter().all(|&b| b == BEFORE), "bytes beyond a length are touched");
+    let (mut short, mut kept, mut column) = (vec![BEFORE; length], LEFT, LEFT);
+    if length > 0 {
+        let refused = boundary::name(header, card, &mut short[1..], &mut kept, &mut column);
+        assert!((refused, kept, column) == (13, LEFT, LEFT), "room that is too little");
+        assert!(short.iter().all(|&b| b == BEFORE), "a refusal touches lent memory");
+    }
+    let told = boundary::name(header, card, &mut short, &mut kept, &mut column);
+    assert!((told, kept, column) == (0, length, LEFT) && held[..length] == short, "room that is enough");
+    Ok(short)
+}
+
 /// The names that are looked up beside those of a header.
 const ABSENT: [&[u8]; 6] = [b"", b"A", b"a", b"END", b"CONTINUE", b"NO.SUCH"];
 
 /// The most cards of a header in which every name is looked up.
 const FEW: usize = 60;
 
-/// One header: its list, each entry by its last card, and each name looked up.
+/// Where END stands, or the refusal.
+fn end(header: &[u8]) -> Result<usize, Refusal> {
+    let (mut card, mut column) = (LEFT, LEFT);
+    let refused = boundary::header(header, &mut card, &mut column);
+    let column = column_of(refused, column);
+    if refused != 0 {
+        return Err(Refusal { number: refused, card: Some(card), column });
+    }
+    Ok(card)
+}
+
+/// One header: where END stands, its list, each entry by its last card, and each name looked up.
 pub fn header(cards: &[[u8; 80]]) -> Header {
     let bytes = cards.as_flattened();
-    let mut first = [usize::MAX; PLACES];
-    let mut last = [usize::MAX; PLACES];
-    let mut count = usize::MAX;
-    let refused = boundary::list(bytes, &mut first, &mut last, &mut count);
+    let mut first = [LEFT; PLACES];
+    let mut last = [LEFT; PLACES];
+    let (mut count, mut column) = (LEFT, LEFT);
+    let refused = boundary::list(bytes, &mut first, &mut last, &mut count, &mut column);
+    let column = column_of(refused, column);
     let mut lent = Lent::new();
+    let end = end(bytes);
     if refused != 0 {
-        assert!(first == [usize::MAX; PLACES] && last == [usize::MAX; PLACES], "a refusal touches lent memory");
+        assert!(first == [LEFT; PLACES] && last == [LEFT; PLACES], "a refusal touches lent memory");
+        let refusal = Refusal { number: refused, card: Some(count), column };
         let told = lent.entry(bytes, Asked::Name(b"A"), b"A");
-        assert!(matches!(told, Err(r) if r == (refused, count)), "lookup refuses a header otherwise: {told:?}");
-        return Header::Refused(refused, count);
+        assert!(told == Err(refusal), "lookup refuses a header otherwise: {told:?}, the list by {refusal:?}");
+        assert!(end == Err(refusal), "the search for END refuses a header otherwise: {end:?}, the list by {refusal:?}");
+        return Header::Refused(refused, count, column);
     }
+    assert!(end.is_ok_and(|at| card(&cards[at]) == Card::End), "END: {end:?}");
+    let beyond = (lent.entry(bytes, Asked::Card(cards.len()), b""), name(bytes, cards.len()));
+    assert!(beyond == (Err(Refusal::NOT_FOUND), Err(Refusal::NOT_FOUND)), "a card that is not there: {beyond:?}");
     assert!(first[count..].iter().chain(&last[count..]).all(|&n| n == PLACES), "free places");
     let mut entries: Vec<Entry> = Vec::new();
     for at in 0..count {
@@ -205,7 +313,7 @@ pub fn header(cards: &[[u8; 80]]) -> Header {
     for name in ABSENT {
         if (cards.len() < FEW || name.is_empty()) && entries.iter().all(|e| e.name != name) {
             let told = lent.entry(bytes, Asked::Name(name), name);
-            assert!(matches!(told, Err((12, usize::MAX))), "lookup of an absent name: {told:?}");
+            assert!(told == Err(Refusal::NOT_FOUND), "lookup of an absent name: {told:?}");
         }
     }
     Header::Entries(entries)

@@ -116,7 +116,10 @@ fn more(entry: &Entry) -> String {
 /// What is printed of a header.
 pub fn header(header: &Header) -> Vec<u8> {
     let entries = match header {
-        Header::Refused(number, at) => return format!("refused {number} at {at}\n").into_bytes(),
+        Header::Refused(number, at, column) => {
+            let byte = column.map_or(String::new(), |c| format!(":{c}"));
+            return format!("refused {number} at {at}{byte}\n").into_bytes();
+        }
         Header::Entries(entries) => entries,
     };
     let mut out = Vec::new();

@@ -212,6 +212,157 @@ pub fn behind_end() -> Vec<Vec<Cards>> {
     fronts.iter().map(family).collect()
 }
 
+/// Blanks before a text.
+const BLANKS: [&str; 9] = ["", " ", "   ", "\t", " \t ", "\r\n", "\x0c  ", "\t\n\x0c\r ", "                         "];
+
+/// Texts that are refused, each behind what it may follow.
+const REFUSED: [(&str, &str); 11] = [
+    ("K       = ", "(1,2) / c"),
+    ("K       = ", "'open / c"),
+    ("K       = ", "5\x0b"),
+    ("K       = ", "\x7f/"),
+    ("CONTINUE", "'a"),
+    ("CONTINUE", "a'' / c"),
+    ("CONTINUE", "b\x00"),
+    ("HIERARCH A=", "("),
+    ("HIERARCH K L =", "'x"),
+    ("HIERARCH  K.L  M =", "\x1f"),
+    ("HIERARCH ", "= 5 = 6"),
+];
+
+/// Texts with more than one odd byte: some are replaced, some stand behind the slash.
+const ODD: [&str; 14] = [
+    "5\x0b\x0b",
+    "5 \x0b 6 \x7f",
+    "\x00\x00\x00",
+    "a\x0b/\x0b",
+    "5\t6\t7",
+    "'a\x0bb' \x7f c\x0b",
+    "'a'\x0bb\x0b",
+    "'a'\x0b\x0c\x00 \x0b",
+    "'a''\x0b'' \x7f'\x0b\x7f5\x01\x02",
+    "'a/\x0b' \x0b/\x0b",
+    "''\x0b'\x0b'\x0b-\x0b-\x0b",
+    "x'\x0b' '\x0b''' \x0b\x0b",
+    "'\x0b'5\x0b'\x0b'\x0b",
+    "-'\t\t'\t\t.\t\t.",
+];
+
+/// Cards of which more than one thing is wrong.
+const SEVERAL: [&str; 19] = [
+    "HIERARCH no sign \x0b",
+    "HIERARCH \x0b\x7f",
+    "HIERARCH=none (\x00",
+    "HIERARCH\t\t'\x0b",
+    "HIERARCH= = \x0b",
+    "HIERARCH   =(\x7f",
+    "HIERARCH \t \t= 'a = \x0b",
+    "HIERARCH =\x0b= 5",
+    "HIERARCH A=(\x0b",
+    "HIERARCH A B =(1,\t2) = \x0b",
+    "HIERARCH A='a' b\x0b = (",
+    "K       = (\x0b",
+    "K       =   (1,2)\x7f / c",
+    "K       = (1,\t2)",
+    "K       = 'a' b\x0b",
+    "K       = ''''' \x0b",
+    "CONTINUE a\x0b'",
+    "CONTINUE=\x0b'a'",
+    "CONTINUE'a' 'b' \x0bc",
+];
+
+/// The bytes at which a refused text is put.
+const PLACES: [usize; 20] = [8, 9, 10, 11, 12, 13, 17, 22, 29, 30, 38, 45, 51, 56, 64, 69, 74, 77, 78, 79];
+
+/// A refused card behind none, one or three others, by its number in a list.
+fn behind_others(at: usize, card: [u8; 80]) -> Cards {
+    let before: &[&str] = match at % 4 {
+        0 => &[],
+        1 => &["A       = 5 / five"],
+        2 => &["A       = 'x&'"],
+        _ => &["A       = 'x&'", "COMMENT c", "CONTINUE 'y&' / c"],
+    };
+    let mut header: Cards = before.iter().map(|t| card_of(t.as_bytes())).collect();
+    header.extend([card, card_of(b"B       = T"), card_of(b"END")]);
+    header
+}
+
+fn each_behind_others(texts: Vec<String>) -> Vec<Cards> {
+    texts.iter().enumerate().map(|(at, text)| behind_others(at, card_of(text.as_bytes()))).collect()
+}
+
+/// Refused texts behind every kind of blanks.
+fn behind_blanks() -> Vec<Cards> {
+    let texts = REFUSED.iter().flat_map(|(front, text)| BLANKS.map(|blanks| format!("{front}{blanks}{text}")));
+    each_behind_others(texts.collect())
+}
+
+/// Refused texts at many bytes, spaces before them. A string that is not closed and a CONTINUE text have two bytes at least.
+fn at_places() -> Vec<Cards> {
+    let mut texts = Vec::new();
+    for (front, text, least) in [
+        ("K       = ", "\x0b", 10),
+        ("K       = ", "'a", 10),
+        ("K       = ", "(", 10),
+        ("CONTINUE", "\x7f", 8),
+        ("CONTINUE", "'a", 8),
+        ("CONTINUE", "a'", 8),
+        ("HIERARCH", "=", 9),
+        ("HIERARCH A=", "(", 11),
+        ("HIERARCH A=", "\x00", 11),
+    ] {
+        let places = PLACES.iter().filter(|&&at| at >= least && at + text.len() <= 80);
+        texts.extend(places.map(|&at| format!("{front:<at$}{text}")));
+    }
+    // The = of HIERARCH at many bytes, and the text directly behind it.
+    let places = PLACES.iter().filter(|&&at| (11..=76).contains(&at));
+    texts.extend(places.map(|at| format!("{:<at$}='b", "HIERARCH A")));
+    each_behind_others(texts)
+}
+
+fn odd_bytes() -> Vec<Cards> {
+    let fronts = ["K       = ", "CONTINUE", "HIERARCH K="];
+    each_behind_others(fronts.iter().flat_map(|front| ODD.map(|text| format!("{front}{text}"))).collect())
+}
+
+/// HIERARCH cards without a = from byte 9 on.
+fn without_equals() -> Vec<Cards> {
+    let texts = ["", "=", " A", " ESO DET CHIP", "=A B", " 'x' / c", "\t\t/", "A", "  (1,2)", " T"];
+    each_behind_others(texts.iter().map(|text| format!("HIERARCH{text}")).collect())
+}
+
+/// Headers for the byte at which a card is refused.
+pub fn columns() -> Vec<Purpose<Cards>> {
+    vec![
+        ("a refused byte behind blanks", behind_blanks()),
+        ("a refused byte at many places", at_places()),
+        ("odd bytes that are replaced, and several of them", odd_bytes()),
+        ("HIERARCH without its =", without_equals()),
+        ("cards of which more than one thing is wrong", each_behind_others(SEVERAL.map(String::from).to_vec())),
+    ]
+}
+
+/// Headers with several bytes of 128 and more, the first of them in a keyword. No run of them is UTF-8.
+pub fn high_bytes() -> Purpose<Cards> {
+    let texts = ["K       = 5 / c", "HIERARCH A = (", "COMMENT c", "        \x0b"];
+    let mut all = Vec::new();
+    for first in 0..8 {
+        for (at, text) in texts.iter().enumerate() {
+            let mut card = card_of(text.as_bytes());
+            let others: &[usize] = match at {
+                0 => &[],
+                1 => &[7, 20],
+                2 => &[8, 79],
+                _ => &[(first + 7) / 2, 7],
+            };
+            card[first] = 200;
+            others.iter().for_each(|&other| card[other] = 255);
+            all.push(behind_others(first + at, card));
+        }
+    }
+    ("several bytes of 128 and more, the first in a keyword", all)
+}
+
 /// Headers for what a comment, a unit, a decimal's record and the cards behind END are.
 pub fn headers() -> Vec<Purpose<Cards>> {
     vec![

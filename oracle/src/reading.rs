@@ -70,15 +70,48 @@ pub enum Card {
     Space,
     End,
     Undefined(Vec<u8>),
-    /// A refusal's number; 0 where the message does not tell it.
-    Refused(u8),
+    /// A refusal's number, 0 where the message does not tell it, and the byte of the card. The Rust tells no byte.
+    Refused(u8, Option<usize>),
 }
 
-/// One header: its entries in order, or a refusal with the card's number.
+impl Card {
+    /// The byte at which a card is refused.
+    pub fn column(&self) -> Option<usize> {
+        match self {
+            Card::Refused(_, column) => *column,
+            _ => None,
+        }
+    }
+}
+
+/// One header: its entries in order, or a refusal with the card's number and the byte of that card. The Rust tells no byte.
 #[derive(Clone, PartialEq, Debug)]
 pub enum Header {
     Entries(Vec<Entry>),
-    Refused(u8, usize),
+    Refused(u8, usize, Option<usize>),
+}
+
+impl Header {
+    /// The byte at which the refused card is refused.
+    pub fn column(&self) -> Option<usize> {
+        match self {
+            Header::Refused(_, _, column) => *column,
+            Header::Entries(_) => None,
+        }
+    }
+}
+
+/// A refusal, with the card and the byte of that card where it carries them.
+#[derive(Clone, Copy, PartialEq, Debug)]
+pub struct Refusal {
+    pub number: u8,
+    pub card: Option<usize>,
+    pub column: Option<usize>,
+}
+
+impl Refusal {
+    /// No entry bears a name or stands at a card.
+    pub const NOT_FOUND: Self = Refusal { number: 12, card: None, column: None };
 }
 
 /// One tile, decoded whole.
@@ -138,7 +171,8 @@ impl fmt::Debug for Card {
             Card::Space => write!(f, "space card"),
             Card::End => write!(f, "END"),
             Card::Undefined(text) => write!(f, "undefined card \"{}\"", shown(text)),
-            Card::Refused(number) => write!(f, "refused {number}"),
+            Card::Refused(number, None) => write!(f, "refused {number}"),
+            Card::Refused(number, Some(column)) => write!(f, "refused {number} at byte {column}"),
         }
     }
 }

@@ -2,18 +2,18 @@
 //!
 //! `headers.bin` and `tiles.bin` hold one case behind the other, `headers.txt` and `tiles.txt` what is printed of them.
 //! The digits and power of a decimal, of which the Rust has the nearest float alone, are the model's; both floats are
-//! compared when the list is made.
+//! compared when the list is made. The byte of a refused card, of which the Rust says nothing, is the model's too.
 
 use crate::faults::{Fault, Subject, FAULTS};
 use crate::model::Model;
 use crate::printed::{self, Whole, UNTOUCHED};
-use crate::purposes::{self, Cards};
+use crate::purposes::{self, Cards, Purpose};
 use crate::random::Random;
 use crate::reading::{shown, Header, Value};
 use crate::tiles::Case;
 use crate::variants::{self, WITNESSES};
 use crate::{cards, headers, theirs, tiles};
-use std::collections::{BTreeMap, HashSet};
+use std::collections::{BTreeMap, BTreeSet, HashSet};
 use std::path::Path;
 use std::{fs, io};
 
@@ -30,22 +30,27 @@ const TILE_PIXELS: usize = 256;
 
 // ---- headers
 
-/// The Rust's answer with the model's digits and powers, or nothing where the Rust panics or tells no refusal's number.
-/// All else of the model's answer, and the nearest floats, must be the Rust's.
+/// The Rust's answer with the model's digits, powers and bytes of refused cards, or nothing where the Rust panics or tells no refusal's
+/// number. All else of the model's answer, and the nearest floats, must be the Rust's.
 fn recorded(header: &[[u8; 80]]) -> Option<Header> {
     let mut rust = theirs::header(header)?;
-    if matches!(rust, Header::Refused(0, _)) {
+    if matches!(rust, Header::Refused(0, ..)) {
         return None;
     }
     let plain = Model(Fault::None);
     let model = plain.header(header, |c| plain.card(c));
-    assert!(rust == model, "{}: the Rust has {rust:?}, the model {model:?}", shown(header.as_flattened()));
-    if let (Header::Entries(theirs), Header::Entries(ours)) = (&mut rust, model) {
-        for (entry, other) in theirs.iter_mut().zip(ours) {
-            if let (Value::Decimal(d), Value::Decimal(e)) = (&mut entry.value, other.value) {
-                d.record = e.record;
+    let differ = headers::differ(&rust, &model);
+    assert!(!differ, "{}: the Rust has {rust:?}, the model {model:?}", shown(header.as_flattened()));
+    match (&mut rust, model) {
+        (Header::Entries(theirs), Header::Entries(ours)) => {
+            for (entry, other) in theirs.iter_mut().zip(ours) {
+                if let (Value::Decimal(d), Value::Decimal(e)) = (&mut entry.value, other.value) {
+                    d.record = e.record;
+                }
             }
         }
+        (Header::Refused(_, _, column), model) => *column = model.column(),
+        _ => (),
     }
     Some(rust)
 }
@@ -62,13 +67,14 @@ fn answer(header: &[[u8; 80]]) -> Option<Header> {
 struct Chosen {
     headers: Vec<(Cards, Header)>,
     seen: HashSet<Vec<u8>>,
+    /// Those of a misread column are made on purpose, not chosen.
     witnesses: Vec<(Subject, Fault, usize)>,
     refusals: BTreeMap<u8, usize>,
 }
 
 impl Chosen {
     fn new() -> Self {
-        let witnesses = variants::misreadings().map(|(subject, fault, _)| (subject, fault, 0)).collect();
+        let witnesses = variants::misreadings().filter(|m| m.0 != Subject::Columns).map(|m| (m.0, m.1, 0)).collect();
         Chosen { headers: Vec::new(), seen: HashSet::new(), witnesses, refusals: BTreeMap::new() }
     }
 
@@ -76,7 +82,7 @@ impl Chosen {
     fn take(&mut self, header: &[[u8; 80]], answer: Header) -> bool {
         let new = self.seen.insert(printed::packed(header));
         if new {
-            if let Header::Refused(number, _) = answer {
+            if let Header::Refused(number, ..) = answer {
                 *self.refusals.entry(number).or_default() += 1;
             }
             self.headers.push((header.to_vec(), answer));
@@ -93,7 +99,7 @@ impl Chosen {
         let few = |w: &(Subject, Fault, usize)| w.2 < WITNESSES && variants::misread(header, w.0, w.1) != told;
         let hits: Vec<usize> = (0..self.witnesses.len()).filter(|&i| few(&self.witnesses[i])).collect();
         let rare = match rust {
-            Header::Refused(number, _) => self.refusals.get(&number).copied().unwrap_or(0) < REFUSALS,
+            Header::Refused(number, ..) => self.refusals.get(&number).copied().unwrap_or(0) < REFUSALS,
             Header::Entries(_) => false,
         };
         if (rare || !hits.is_empty()) && self.take(header, rust) {
@@ -101,16 +107,29 @@ impl Chosen {
         }
     }
 
+    /// Takes headers that are made on purpose, with their answers.
+    fn take_made(&mut self, (words, made): Purpose<Cards>, answer: fn(&[[u8; 80]]) -> Option<Header>) {
+        let before = self.headers.len();
+        for header in made {
+            let rust = answer(&header).expect("a header made on purpose lies outside the domain");
+            self.take(&header, rust);
+        }
+        println!("    {:>6} headers on purpose: {words}", self.headers.len() - before);
+    }
+
+    /// Takes the headers for the byte of a refused card. The Rust refuses a byte of 128 or more in a keyword, though it lies outside the
+    /// domain.
+    fn take_columns(&mut self) {
+        let before = self.headers.len();
+        purposes::columns().into_iter().for_each(|purpose| self.take_made(purpose, answer));
+        self.take_made(purposes::high_bytes(), recorded);
+        let refused = self.headers[before..].iter().all(|h| h.1.column().is_some());
+        assert!(refused, "a header made for a refused card's byte names none");
+    }
+
     /// Takes the headers that are made on purpose. Those that differ behind END alone have the same answer.
     fn take_purposes(&mut self) {
-        for (words, made) in purposes::headers() {
-            let before = self.headers.len();
-            for header in made {
-                let rust = answer(&header).expect("a header made on purpose lies outside the domain");
-                self.take(&header, rust);
-            }
-            println!("    {:>6} headers on purpose: {words}", self.headers.len() - before);
-        }
+        purposes::headers().into_iter().for_each(|purpose| self.take_made(purpose, answer));
         for family in purposes::behind_end() {
             let first = answer(&family[0]).map(|a| printed::header(&a));
             assert!(family.iter().all(|h| answer(h).map(|a| printed::header(&a)) == first), "a card behind END counts");
@@ -149,20 +168,21 @@ fn choose(seed: u64) -> Chosen {
     let mut random = Random::new(seed);
     chosen.take_purposes();
     cards::cases(seed, 4, 30_000, &mut |part, card| {
-        if !part.starts_with("all pairs") || random.once_in(40) {
+        let about_columns = part.starts_with(cards::ABOUT_COLUMNS);
+        if !about_columns && (!part.starts_with("all pairs") || random.once_in(40)) {
             chosen.offer(&alone(card));
         }
         true
     });
-    headers::cases(seed, 3, 30_000, &mut |_, header| {
-        if header.len() < 60 {
+    headers::cases(seed, 3, 30_000, &mut |part, header| {
+        if header.len() < 60 && !part.starts_with(cards::ABOUT_COLUMNS) {
             chosen.offer(header);
         }
         true
     });
     while chosen.refusals.get(&1).copied().unwrap_or(0) < REFUSALS {
         let header = high(&mut random);
-        if matches!(theirs::header(&header), Some(Header::Refused(1, _))) {
+        if matches!(theirs::header(&header), Some(Header::Refused(1, ..))) {
             let rust = recorded(&header).expect("a refusal");
             chosen.take(&header, rust);
         }
@@ -178,17 +198,20 @@ fn choose(seed: u64) -> Chosen {
     }
     let rust = answer(&most()).expect("the most cards");
     chosen.take(&most(), rust);
+    chosen.take_columns();
     chosen
 }
 
 /// Prints how many entries of each kind and refusals of each number there are, and on what decimals rest.
 fn print_kinds(chosen: &Chosen) {
     let mut kinds: BTreeMap<String, usize> = BTreeMap::new();
+    let mut bytes: BTreeMap<u8, BTreeSet<usize>> = BTreeMap::new();
     let (mut decimals, mut given_back) = (0, 0);
     for (_, answer) in &chosen.headers {
         let entries = match answer {
-            Header::Refused(number, _) => {
+            Header::Refused(number, _, column) => {
                 *kinds.entry(format!("refused {number}")).or_default() += 1;
+                bytes.entry(*number).or_default().extend(column);
                 continue;
             }
             Header::Entries(entries) => entries,
@@ -203,6 +226,9 @@ fn print_kinds(chosen: &Chosen) {
         }
     }
     println!("    {kinds:?}");
+    for (number, bytes) in bytes.iter().filter(|b| !b.1.is_empty()) {
+        println!("    refusal {number} names {} bytes: {bytes:?}", bytes.len());
+    }
     let rest = decimals - given_back;
     println!("    {decimals} decimals: {given_back} whose record the Rust's float gives back, {rest} by the model");
 }

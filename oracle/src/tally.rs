@@ -15,6 +15,34 @@ pub enum Outcome {
     Different,
 }
 
+/// How often each byte of a card was held to the model's, by the refusal's number.
+pub struct Columns {
+    what: &'static str,
+    seen: [[u64; 80]; 9],
+}
+
+impl Columns {
+    pub fn new(what: &'static str) -> Self {
+        Columns { what, seen: [[0; 80]; 9] }
+    }
+
+    /// Counts the byte that a refusal names, if it names one.
+    pub fn count(&mut self, number: u8, column: Option<usize>) {
+        if let Some(column) = column {
+            self.seen[usize::from(number)][column] += 1;
+        }
+    }
+
+    pub fn print(&self) {
+        let total: u64 = self.seen.iter().flatten().sum();
+        println!("    {total:>9} columns compared: {}", self.what);
+        for (number, seen) in self.seen.iter().enumerate().skip(1) {
+            let bytes = seen.iter().filter(|&&n| n > 0).count();
+            println!("    {:>9}     of refusal {number}, at {bytes} bytes", seen.iter().sum::<u64>());
+        }
+    }
+}
+
 /// The counts of one subject.
 pub struct Tally {
     subject: &'static str,

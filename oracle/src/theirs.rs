@@ -81,7 +81,7 @@ fn told(read: Result<published::Card, Error>) -> Card {
         Ok(published::Card::Space) => Card::Space,
         Ok(published::Card::End) => Card::End,
         Ok(published::Card::Undefined(text)) => Card::Undefined(bytes(&text)),
-        Err(error) => Card::Refused(number(&error)),
+        Err(error) => Card::Refused(number(&error), None),
     }
 }
 
@@ -101,12 +101,12 @@ pub fn header(cards: &[[u8; 80]]) -> Option<Header> {
                     break;
                 }
                 Ok(card) => read.push(card),
-                Err(error) => return Header::Refused(number(&error), at),
+                Err(error) => return Header::Refused(number(&error), at, None),
             }
         }
         match fitsrs::header(read) {
             Ok(header) => Header::Entries(header.iter().map(|(name, value)| entry(name, value)).collect()),
-            Err(error) => Header::Refused(number(&error), cards.len()),
+            Err(error) => Header::Refused(number(&error), cards.len(), None),
         }
     })
 }

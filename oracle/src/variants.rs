@@ -10,7 +10,8 @@ use crate::views;
 /// How many stored cases each wrong variant must answer otherwise at least.
 pub const WITNESSES: usize = 8;
 
-/// Misreadings that the stored list cannot show: a header's entries hold no commentary and no undefined card.
+/// Misreadings that the stored list cannot show: a header's entries hold no commentary and no undefined card, and XTENSION lies
+/// outside the equality domain.
 const UNSEEN: &[Fault] = &[
     Fault::EmptyTab,
     Fault::EmptyIsSpace,
@@ -18,6 +19,8 @@ const UNSEEN: &[Fault] = &[
     Fault::CommentaryEndKept,
     Fault::CommentaryFrom9,
     Fault::UndefinedCut,
+    Fault::ExtensionValue,
+    Fault::ExtensionEmptyLast,
 ];
 
 /// A wrong view of what a whole decoding leaves.

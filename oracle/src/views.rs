@@ -39,13 +39,23 @@ fn raise(pixel: Option<&mut i32>) {
 
 pub const CARDS: &[View<Card>] = &[
     ("a refusal is one higher", |c| {
-        if let Card::Refused(n) = c {
+        if let Card::Refused(n, _) = c {
             *n += 1;
         }
     }),
     ("a refusal is a space card", |c| {
-        if let Card::Refused(_) = c {
+        if let Card::Refused(..) = c {
             *c = Card::Space;
+        }
+    }),
+    ("a refusal names the byte behind", |c| {
+        if let Card::Refused(_, Some(column)) = c {
+            *column += 1;
+        }
+    }),
+    ("a refusal names no byte", |c| {
+        if let Card::Refused(_, column) = c {
+            *column = None;
         }
     }),
     ("a name loses its last byte", |c| entry(c, |e| shorten(&mut e.name))),
@@ -164,13 +174,33 @@ pub const HEADERS: &[View<Header>] = &[
     ("comments are lost", |h| entries(h, |e| e.iter_mut().for_each(|e| e.comment = None))),
     ("units are lost", |h| entries(h, |e| e.iter_mut().for_each(|e| e.unit = None))),
     ("a refusal names the card before", |h| {
-        if let Header::Refused(_, at) = h {
+        if let Header::Refused(_, at, _) = h {
             *at = at.wrapping_sub(1);
         }
     }),
     ("a refusal has another number", |h| {
-        if let Header::Refused(n, _) = h {
+        if let Header::Refused(n, ..) = h {
             *n += 1;
+        }
+    }),
+    ("a refusal names the byte behind", |h| {
+        if let Header::Refused(_, _, Some(column)) = h {
+            *column += 1;
+        }
+    }),
+    ("a refusal names no byte", |h| {
+        if let Header::Refused(_, _, column) = h {
+            *column = None;
+        }
+    }),
+    ("refusal 10 names byte 0", |h| {
+        if let Header::Refused(10, _, column) = h {
+            *column = Some(0);
+        }
+    }),
+    ("the card and the byte change places", |h| {
+        if let Header::Refused(_, at, Some(column)) = h {
+            std::mem::swap(at, column);
         }
     }),
     ("a refused header is empty", |h| {
