@@ -1,4 +1,4 @@
--- What the C boundary writes: a card as a record of 248 bytes and a number.
+-- What the C boundary writes: a card as a record of 248 bytes and a number, or the column of a refusal.
 use Prim.Native.Nat.{ℕ, min}
 use mathlib.Core.Path.{_≡_}
 use mathlib.Core.Bool.{Bool, false, cond, _&&_}
@@ -15,7 +15,7 @@ use Rattle.card.specs.declared.CardAnswer.the-variants.{Read, Refused}
 use Rattle.card.specs.declared.CardRead.{CardRead}
 use Rattle.card.specs.Cards.{cardOf}
 use Rattle.abi_value.specs.declared.Told.{Told}
-use Rattle.abi_value.specs.Telling.{told, valueTold, bitOf, wrongLength}
+use Rattle.abi_value.specs.Telling.{told, valueTold, bitOf, wrongLength, columnAfter}
 
 -- ---- a card in numbers
 
@@ -61,28 +61,31 @@ recordOf c r = recordHead r (classNumber c) (cardTold c) ++ r .name .bytes ++ r 
 
 -- ---- what reading a card answers, and leaves in lent memory
 
--- an answer, and the lent record and number after it
+-- an answer, and the lent record, number and column after it
 pub record CardOutcome : Type 0 where
   pub answer : ℕ
   pub content : List ℕ
   pub number : ℤ
+  pub column : ℕ
 
-abbrev pub cardOutcome : ℕ → List ℕ → ℤ → CardOutcome
-cardOutcome answer content number = record { answer = answer; content = content; number = number }
+abbrev pub cardOutcome : ℕ → List ℕ → ℤ → ℕ → CardOutcome
+cardOutcome answer content number column = record { answer = answer; content = content; number = number; column = column }
 
--- 0, with the card's record and number; a refusal answers its own number and leaves all as it was
-abbrev pub recordedAs : CardAnswer → CardRead → List ℕ → ℤ → CardOutcome
-recordedAs (Read c) r out number = cardOutcome 0 (recordOf c r) (cardTold c .number)
-recordedAs (Refused fault) r out number = cardOutcome (numberOf (fault .why)) out number
+-- 0, with the card's record and number; a refusal answers its own number, with its column, and leaves all else as it was
+abbrev pub recordedAs : CardAnswer → CardRead → List ℕ → ℤ → ℕ → CardOutcome
+recordedAs (Read c) r out number column = cardOutcome 0 (recordOf c r) (cardTold c .number) column
+recordedAs (Refused fault) r out number column = cardOutcome (numberOf (fault .why)) out number (columnAfter (fault .column) column)
 
 -- the lengths that are asked for: a card's and a record's
 unfoldable pub isCardFit : List ℕ → List ℕ → Bool
 isCardFit card out = eqb (length card) 80 && eqb (length out) 248
 
-abbrev pub cardInto : List ℕ → List ℕ → ℤ → CardOutcome
-cardInto card out number =
-    cond (isCardFit card out) (recordedAs (cardOf card .answer) (cardOf card) out number) (cardOutcome wrongLength out number)
+abbrev pub cardInto : List ℕ → List ℕ → ℤ → ℕ → CardOutcome
+cardInto card out number column =
+    cond (isCardFit card out) (recordedAs (cardOf card .answer) (cardOf card) out number column)
+    (cardOutcome wrongLength out number column)
 
--- what reading a card leaves of a record and a number that are lent, where r is the answer
-abbrev pub CardLeft : List ℕ → Lent (List ℕ) → Lent ℤ → ℕ → Type 0
-CardLeft card out number r = cardOutcome r (out .left) (number .left) ≡ cardInto card (out .was) (number .was)
+-- what reading a card leaves of a record, a number and a column that are lent, where r is the answer
+abbrev pub CardLeft : List ℕ → Lent (List ℕ) → Lent ℤ → Lent ℕ → ℕ → Type 0
+CardLeft card out number column r =
+    cardOutcome r (out .left) (number .left) (column .left) ≡ cardInto card (out .was) (number .was) (column .was)

@@ -24,9 +24,10 @@ const TEXT: usize = 88;
 const COMMENT: usize = 168;
 
 // Reads a card of 80 bytes into a record of 248 bytes and a number, and answers 0.
-// Otherwise it answers the refusal's number, or 255 where a slice has another length, and both stay as they are.
-pub fn read_into(card: &[u8], out: &mut [u8], number: &mut i64) -> u8
-    ensures { λ r. ⌜ CardLeft (now (card .entry)) (lentOf out) (lentOf number) r ⌝ }
+// Otherwise it answers the refusal's number, with the byte at which the card is refused as the column, or 255 where a slice has another
+// length. All else stays as it is.
+pub fn read_into(card: &[u8], out: &mut [u8], number: &mut i64, column: &mut usize) -> u8
+    ensures { λ r. ⌜ CardLeft (now (card .entry)) (lentOf out) (lentOf number) (lentOf column) r ⌝ }
 {
     if card.len() != CARD {
         return abi_value::WRONG_LENGTH;
@@ -37,7 +38,7 @@ pub fn read_into(card: &[u8], out: &mut [u8], number: &mut i64) -> u8
     let copy = text::text_of(card);
     let bytes = copy.bytes;
     let read = card::read_card(&bytes);
-    write_card(read, out, number)
+    write_card(read, out, number, column)
 }
 
 // ---- a card in numbers
@@ -130,14 +131,18 @@ fn write_record(card: Card, read: CardRead, out: &mut [u8])
 }
 
 // What a card was read as, in lent memory.
-fn write_card(read: CardRead, out: &mut [u8], number: &mut i64) -> u8
+fn write_card(read: CardRead, out: &mut [u8], number: &mut i64, column: &mut usize) -> u8
     requires { ⌜ length (now out) ≡ 248 ⌝ }
-    ensures { λ r. ⌜ cardOutcome r (now (out .exit)) (now (number .exit))
-        ≡ recordedAs (read .answer) read (now (out .entry)) (now (number .entry)) ⌝ }
+    ensures { λ r. ⌜ cardOutcome r (now (out .exit)) (now (number .exit)) (now (column .exit))
+        ≡ recordedAs (read .answer) read (now (out .entry)) (now (number .entry)) (now (column .entry)) ⌝ }
 {
     let answer = read.answer;
     match answer {
-        CardAnswer::Refused(fault) => fault.number(),
+        CardAnswer::Refused(fault) => {
+            let at = fault.column;
+            *column = abi_value::column_after(at, *column);
+            fault.number()
+        }
         CardAnswer::Read(c) => {
             write_record(c, read, out);
             let value = card_told(c);

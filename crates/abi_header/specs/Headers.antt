@@ -10,7 +10,7 @@ use Rattle.laws.specs.Lending.{Lent}
 use Rattle.refusal.specs.Numbers.{numberOf}
 use Rattle.text.specs.Text.{size}
 use Rattle.abi_value.specs.declared.Told.{Told}
-use Rattle.abi_value.specs.Telling.{valueTold, bitOf, wrongLength}
+use Rattle.abi_value.specs.Telling.{valueTold, bitOf, wrongLength, columnAfter}
 use Rattle.finding.specs.declared.Header.{Header}
 use Rattle.finding.specs.declared.Header.the-variants.{Accepted, Refused}
 use Rattle.entries.specs.declared.LookupAnswer.{LookupAnswer}
@@ -25,19 +25,22 @@ use Rattle.naming.specs.Naming.{NameOutcome}
 
 -- ---- where END stands
 
--- an answer, and the lent card's number after it
+-- an answer, and the lent card's number and column after it
 pub record HeaderOutcome : Type 0 where
   pub answer : ℕ
   pub card : ℕ
+  pub column : ℕ
 
--- 0, with the number of END; or the refusal's number, with the number of the card at which the header is refused
-abbrev pub headerTold : Header → HeaderOutcome
-headerTold (Accepted end) = record { answer = 0; card = end }
-headerTold (Refused s) = record { answer = numberOf (s .fault .why); card = s .card }
+-- 0, with the number of END; or the refusal's number, with the number of the card at which the header is refused and its column
+abbrev pub headerTold : Header → ℕ → HeaderOutcome
+headerTold (Accepted end) column = record { answer = 0; card = end; column = column }
+headerTold (Refused s) column =
+    record { answer = numberOf (s .fault .why); card = s .card; column = columnAfter (s .fault .column) column }
 
 -- what saying where END stands leaves, where x is what the header is read as and r the answer
-abbrev pub HeaderLeft : Header → Lent ℕ → ℕ → Type 0
-HeaderLeft x card r = _≡_ {A = HeaderOutcome} (record { answer = r; card = card .left }) (headerTold x)
+abbrev pub HeaderLeft : Header → Lent ℕ → Lent ℕ → ℕ → Type 0
+HeaderLeft x card column r =
+    _≡_ {A = HeaderOutcome} (record { answer = r; card = card .left; column = column .left }) (headerTold x (column .was))
 
 -- ---- an entry
 
@@ -73,6 +76,12 @@ numberAfter (L.Found v) z = valueTold v .number
 numberAfter (L.Header s) z = z
 numberAfter (L.Refused f) z = z
 
+-- the column of a refusal; otherwise it stays as it was
+abbrev pub entryColumn : LookupAnswer → ℕ → ℕ
+entryColumn (L.Found v) column = column
+entryColumn (L.Header s) column = columnAfter (s .fault .column) column
+entryColumn (L.Refused f) column = columnAfter (f .column) column
+
 -- an answer, and the lent memory after it
 pub record EntryOutcome : Type 0 where
   pub answer : ℕ
@@ -81,10 +90,11 @@ pub record EntryOutcome : Type 0 where
   pub digits : List ℕ
   pub numbers : List ℕ
   pub number : ℤ
+  pub column : ℕ
 
--- what was read of an entry, told to lent digits, numbers and a number
-abbrev pub entryTold : LookupOutcome → List ℕ → List ℕ → ℤ → EntryOutcome
-entryTold x digits out number =
+-- what was read of an entry, told to lent digits, numbers, a number and a column
+abbrev pub entryTold : LookupOutcome → List ℕ → List ℕ → ℤ → ℕ → EntryOutcome
+entryTold x digits out number column =
     record {
       answer = entrySaid (x .answer .answer);
       text = x .text;
@@ -92,6 +102,7 @@ entryTold x digits out number =
       digits = digitsAfter (x .answer .answer) (x .answer) digits;
       numbers = numbersAfter (x .answer .answer) (x .answer) out;
       number = numberAfter (x .answer .answer) number;
+      column = entryColumn (x .answer .answer) column;
     }
 
 -- the lengths that are asked for: those of digits and numbers
@@ -99,19 +110,27 @@ abbrev pub entryFits : List ℕ → List ℕ → Bool
 entryFits digits out = eqb (length digits) size && eqb (length out) numberCount
 
 -- with other lengths nothing is read, and all stays as it was
-abbrev pub entryInto : Bool → LookupOutcome → List ℕ → List ℕ → List ℕ → List ℕ → ℤ → EntryOutcome
-entryInto fit x text comment digits out number =
-    cond fit (entryTold x digits out number)
-    (record { answer = wrongLength; text = text; comment = comment; digits = digits; numbers = out; number = number })
+abbrev pub entryInto : Bool → LookupOutcome → List ℕ → List ℕ → List ℕ → List ℕ → ℤ → ℕ → EntryOutcome
+entryInto fit x text comment digits out number column =
+    cond fit (entryTold x digits out number column)
+    (record { answer = wrongLength; text = text; comment = comment; digits = digits; numbers = out; number = number; column = column })
 
 -- what looking a name up, or reading an entry, leaves: `read` says what is read with the lent buffers, and r is the answer
 abbrev pub EntryLeft : (List ℕ → List ℕ → LookupOutcome)
-    → Lent (List ℕ) → Lent (List ℕ) → Lent (List ℕ) → Lent (List ℕ) → Lent ℤ → ℕ → Type 0
-EntryLeft read text comment digits out number r =
+    → Lent (List ℕ) → Lent (List ℕ) → Lent (List ℕ) → Lent (List ℕ) → Lent ℤ → Lent ℕ → ℕ → Type 0
+EntryLeft read text comment digits out number column r =
     _≡_ {A = EntryOutcome}
-    (record { answer = r; text = text .left; comment = comment .left; digits = digits .left; numbers = out .left; number = number .left })
+    (record {
+      answer = r;
+      text = text .left;
+      comment = comment .left;
+      digits = digits .left;
+      numbers = out .left;
+      number = number .left;
+      column = column .left;
+    })
     (entryInto (entryFits (digits .was) (out .was)) (read (text .was) (comment .was)) (text .was) (comment .was) (digits .was) (out .was)
-    (number .was))
+    (number .was) (column .was))
 
 -- ---- a list of names
 
@@ -121,27 +140,37 @@ pub record ListOutcome : Type 0 where
   pub first : List ℕ
   pub last : List ℕ
   pub count : ℕ
+  pub column : ℕ
 
--- 0, with the places and the number of names; or the refusal's number, with the card's number as the count
-abbrev pub listTold : Header → Listing → List ℕ → List ℕ → ListOutcome
-listTold (Accepted end) x first last = record { answer = 0; first = x .first; last = x .last; count = x .count }
-listTold (Refused s) x first last = record { answer = numberOf (s .fault .why); first = first; last = last; count = s .card }
+-- 0, with the places and the number of names; or the refusal's number, with the card's number as the count and its column
+abbrev pub listTold : Header → Listing → List ℕ → List ℕ → ℕ → ListOutcome
+listTold (Accepted end) x first last column =
+    record { answer = 0; first = x .first; last = x .last; count = x .count; column = column }
+listTold (Refused s) x first last column =
+    record {
+      answer = numberOf (s .fault .why);
+      first = first;
+      last = last;
+      count = s .card;
+      column = columnAfter (s .fault .column) column;
+    }
 
 -- the lengths that are asked for: those of first cards and last entries
 abbrev pub listFits : List ℕ → List ℕ → Bool
 listFits first last = eqb (length first) places && eqb (length last) places
 
 -- with other lengths nothing is read, and all stays as it was
-abbrev pub listInto : Bool → Listing → List ℕ → List ℕ → ℕ → ListOutcome
-listInto fit x first last count =
-    cond fit (listTold (x .header) x first last) (record { answer = wrongLength; first = first; last = last; count = count })
+abbrev pub listInto : Bool → Listing → List ℕ → List ℕ → ℕ → ℕ → ListOutcome
+listInto fit x first last count column =
+    cond fit (listTold (x .header) x first last column)
+    (record { answer = wrongLength; first = first; last = last; count = count; column = column })
 
 -- what listing leaves, where x is the list and r the answer
-abbrev pub ListLeft : Listing → Lent (List ℕ) → Lent (List ℕ) → Lent ℕ → ℕ → Type 0
-ListLeft x first last count r =
+abbrev pub ListLeft : Listing → Lent (List ℕ) → Lent (List ℕ) → Lent ℕ → Lent ℕ → ℕ → Type 0
+ListLeft x first last count column r =
     _≡_ {A = ListOutcome}
-    (record { answer = r; first = first .left; last = last .left; count = count .left })
-    (listInto (listFits (first .was) (last .was)) x (first .was) (last .was) (count .was))
+    (record { answer = r; first = first .left; last = last .left; count = count .left; column = column .left })
+    (listInto (listFits (first .was) (last .was)) x (first .was) (last .was) (count .was) (column .was))
 
 -- ---- a name
 
@@ -150,16 +179,18 @@ pub record NamedOutcome : Type 0 where
   pub answer : ℕ
   pub name : List ℕ
   pub bytes : ℕ
+  pub column : ℕ
 
--- 0, with the length of the name; or the refusal's number, and the length stays as it was
-abbrev pub nameTold : Named → List ℕ → ℕ → NamedOutcome
-nameTold (N.Bears n) name bytes = record { answer = 0; name = name; bytes = n }
-nameTold (N.Refused f) name bytes = record { answer = numberOf (f .why); name = name; bytes = bytes }
+-- 0, with the length of the name; or the refusal's number, with its column, and the length stays as it was
+abbrev pub nameTold : Named → List ℕ → ℕ → ℕ → NamedOutcome
+nameTold (N.Bears n) name bytes column = record { answer = 0; name = name; bytes = n; column = column }
+nameTold (N.Refused f) name bytes column =
+    record { answer = numberOf (f .why); name = name; bytes = bytes; column = columnAfter (f .column) column }
 
 -- what reading a name leaves: `read` says what is read with the lent buffer, and r is the answer
-abbrev pub NameLeft : (List ℕ → NameOutcome) → Lent (List ℕ) → Lent ℕ → ℕ → Type 0
-NameLeft read name bytes r =
+abbrev pub NameLeft : (List ℕ → NameOutcome) → Lent (List ℕ) → Lent ℕ → Lent ℕ → ℕ → Type 0
+NameLeft read name bytes column r =
     let x = read (name .was) in
     _≡_ {A = NamedOutcome}
-    (record { answer = r; name = name .left; bytes = bytes .left })
-    (nameTold (x .answer) (x .name) (bytes .was))
+    (record { answer = r; name = name .left; bytes = bytes .left; column = column .left })
+    (nameTold (x .answer) (x .name) (bytes .was) (column .was))

@@ -22,15 +22,17 @@ const NUMBERS: usize = 7;
 const DIGITS: usize = 80;
 
 // Says where END stands. Answers 0, with the card's number of END; otherwise the refusal's number, with the number of the card at which
-// the header is refused.
-pub fn header_into(header: &[u8], card: &mut usize) -> u8
-    ensures { λ r. ⌜ HeaderLeft (headerOf (now (header .entry))) (lentOf card) r ⌝ }
+// the header is refused and, if that card is, the byte as the column. The column stays as it is otherwise.
+pub fn header_into(header: &[u8], card: &mut usize, column: &mut usize) -> u8
+    ensures { λ r. ⌜ HeaderLeft (headerOf (now (header .entry))) (lentOf card) (lentOf column) r ⌝ }
 {
     match finding::read_header(header) {
         Header::Refused(stop) => {
             let fault = stop.fault;
             let i = stop.card;
             *card = i;
+            let at = fault.column;
+            *column = abi_value::column_after(at, *column);
             fault.number()
         }
         Header::Accepted(end) => {
@@ -42,7 +44,7 @@ pub fn header_into(header: &[u8], card: &mut usize) -> u8
 
 // Looks a name up. Answers 0, and lays the entry's numbers, text, comment and digits into the lent memory.
 // Otherwise it answers the refusal's number, or 255 where digits or numbers have another length. Nothing is written then, except
-// that a header refusal stores the card's number in the first of the numbers.
+// that a header refusal stores the card's number in the first of the numbers, and a refused card's byte in the column.
 pub fn lookup_into(
     header: &[u8],
     name: &[u8],
@@ -51,13 +53,14 @@ pub fn lookup_into(
     digits: &mut [u8],
     out: &mut [usize],
     number: &mut i64,
+    column: &mut usize,
 ) -> u8
     ensures { λ r. ⌜ EntryLeft (lookupOf (now (header .entry)) (now (name .entry)))
-        (lentOf text) (lentOf comment) (lentOf digits) (lentOf out) (lentOf number) r ⌝ }
+        (lentOf text) (lentOf comment) (lentOf digits) (lentOf out) (lentOf number) (lentOf column) r ⌝ }
 {
     if (digits.len() == DIGITS) & (out.len() == NUMBERS) {
         let read = entries::lookup(header, name, text, comment);
-        return write_looked(read, digits, out, number);
+        return write_looked(read, digits, out, number, column);
     }
     abi_value::WRONG_LENGTH
 }
@@ -71,33 +74,47 @@ pub fn entry_into(
     digits: &mut [u8],
     out: &mut [usize],
     number: &mut i64,
+    column: &mut usize,
 ) -> u8
     ensures { λ r. ⌜ EntryLeft (entryOf (now (header .entry)) card)
-        (lentOf text) (lentOf comment) (lentOf digits) (lentOf out) (lentOf number) r ⌝ }
+        (lentOf text) (lentOf comment) (lentOf digits) (lentOf out) (lentOf number) (lentOf column) r ⌝ }
 {
     if (digits.len() == DIGITS) & (out.len() == NUMBERS) {
         let read = entries::read_entry(header, card, text, comment);
-        return write_looked(read, digits, out, number);
+        return write_looked(read, digits, out, number, column);
     }
     abi_value::WRONG_LENGTH
 }
 
 // Lists a header's names. Answers 0, with the first cards, the last entries and their count. Otherwise it answers the refusal's
-// number, with the card's number as the count, or 255 where a slice has another length than 720. Nothing else is written then.
-pub fn list_into(header: &[u8], first: &mut [usize], last: &mut [usize], count: &mut usize) -> u8
-    ensures { λ r. ⌜ ListLeft (listOf (now (header .entry))) (lentOf first) (lentOf last) (lentOf count) r ⌝ }
+// number, with the card's number as the count and a refused card's byte as the column, or 255 where a slice has another length than
+// 720. Nothing else is written then.
+pub fn list_into(
+    header: &[u8],
+    first: &mut [usize],
+    last: &mut [usize],
+    count: &mut usize,
+    column: &mut usize,
+) -> u8
+    ensures { λ r. ⌜ ListLeft (listOf (now (header .entry))) (lentOf first) (lentOf last) (lentOf count) (lentOf column) r ⌝ }
 {
     if (first.len() == PLACES) & (last.len() == PLACES) {
         let read = listing::list(header);
-        return write_listing(read, first, last, count);
+        return write_listing(read, first, last, count, column);
     }
     abi_value::WRONG_LENGTH
 }
 
 // Reads the name that the entry at a card's number bears. Answers 0, with the name at the front of the lent bytes and its length.
-// Otherwise it answers the refusal's number, and nothing is written.
-pub fn name_into(header: &[u8], card: usize, name: &mut [u8], length: &mut usize) -> u8
-    ensures { λ r. ⌜ NameLeft (nameAt (now (header .entry)) card) (lentOf name) (lentOf length) r ⌝ }
+// Otherwise it answers the refusal's number, with a refused card's byte as the column, and nothing else is written.
+pub fn name_into(
+    header: &[u8],
+    card: usize,
+    name: &mut [u8],
+    length: &mut usize,
+    column: &mut usize,
+) -> u8
+    ensures { λ r. ⌜ NameLeft (nameAt (now (header .entry)) card) (lentOf name) (lentOf length) (lentOf column) r ⌝ }
 {
     let read = naming::read_name(header, card, name);
     match read {
@@ -105,23 +122,39 @@ pub fn name_into(header: &[u8], card: usize, name: &mut [u8], length: &mut usize
             *length = n;
             0
         }
-        Named::Refused(fault) => fault.number(),
+        Named::Refused(fault) => {
+            let at = fault.column;
+            *column = abi_value::column_after(at, *column);
+            fault.number()
+        }
     }
 }
 
 // What was looked up, in lent memory.
-fn write_looked(read: Looked, digits: &mut [u8], out: &mut [usize], number: &mut i64) -> u8
+fn write_looked(
+    read: Looked,
+    digits: &mut [u8],
+    out: &mut [usize],
+    number: &mut i64,
+    column: &mut usize,
+) -> u8
     requires { ⌜ (length (now digits) ≡ 80) × (length (now out) ≡ 7) ⌝ }
-    ensures { λ r. ⌜ EntryWritten (read .answer) read (lentOf digits) (lentOf out) (lentOf number) r ⌝ }
+    ensures { λ r. ⌜ EntryWritten (read .answer) read (lentOf digits) (lentOf out) (lentOf number) (lentOf column) r ⌝ }
 {
     let answer = read.answer;
     match answer {
         LookupAnswer::Header(stop) => {
             let fault = stop.fault;
             out[0] = stop.card;
+            let at = fault.column;
+            *column = abi_value::column_after(at, *column);
             fault.number()
         }
-        LookupAnswer::Refused(fault) => fault.number(),
+        LookupAnswer::Refused(fault) => {
+            let at = fault.column;
+            *column = abi_value::column_after(at, *column);
+            fault.number()
+        }
         LookupAnswer::Found(v) => {
             let value = abi_value::value_told(v);
             let numbers = numbers_of(value, read);
@@ -137,9 +170,15 @@ fn write_looked(read: Looked, digits: &mut [u8], out: &mut [usize], number: &mut
 }
 
 // What was listed, in lent memory.
-fn write_listing(read: Listing, first: &mut [usize], last: &mut [usize], count: &mut usize) -> u8
+fn write_listing(
+    read: Listing,
+    first: &mut [usize],
+    last: &mut [usize],
+    count: &mut usize,
+    column: &mut usize,
+) -> u8
     requires { ⌜ (length (now first) ≡ 720) × (length (now last) ≡ 720) ⌝ }
-    ensures { λ r. ⌜ ListWritten (read .header) read (lentOf first) (lentOf last) (lentOf count) r ⌝ }
+    ensures { λ r. ⌜ ListWritten (read .header) read (lentOf first) (lentOf last) (lentOf count) (lentOf column) r ⌝ }
 {
     let answer = read.header;
     match answer {
@@ -147,6 +186,8 @@ fn write_listing(read: Listing, first: &mut [usize], last: &mut [usize], count: 
             let fault = stop.fault;
             let card = stop.card;
             *count = card;
+            let at = fault.column;
+            *column = abi_value::column_after(at, *column);
             fault.number()
         }
         Header::Accepted(_) => {

@@ -1,7 +1,9 @@
--- What the C boundary says of a value: numbers, a unit's end, and a wrong length.
+-- What the C boundary says of a value, a unit's end, a wrong length and a column.
 use Prim.Native.Nat.{ℕ}
 use mathlib.Core.Bool.{Bool, false, cond}
 use lib.IntN.{ℤ, pos}
+use Rattle.refusal.specs.declared.Column.{Column}
+use Rattle.refusal.specs.declared.Column.the-variants.{At, Absent}
 use Rattle.numbers.specs.declared.Size.{Size}
 use Rattle.numbers.specs.declared.Size.the-variants.{Finite, Infinite, Nan}
 use Rattle.numbers.specs.declared.Value.{Value}
@@ -39,3 +41,8 @@ wrongLength = 255
 abbrev pub unitEnd : UnitPlace → ℕ
 unitEnd (Between from to) = to
 unitEnd Nowhere = 0
+
+-- what a lent column holds behind a refusal: the byte of the refused card; where the refusal has none the column stays
+abbrev pub columnAfter : Column → ℕ → ℕ
+columnAfter (At byte) was = byte
+columnAfter Absent was = was

@@ -1,9 +1,10 @@
 // A value as the C boundary gives it, in numbers, and what its records share.
 ghost use mathlib.Core.Path.{_≡_};
 ghost use Rattle.value.specs.Units.{unitOf};
-ghost use Rattle.abi_value.specs.Telling.{sizeTold, valueTold, bitOf, unitEnd};
+ghost use Rattle.abi_value.specs.Telling.{sizeTold, valueTold, bitOf, unitEnd, columnAfter};
 use numbers::Size;
 use numbers::Value;
+use refusal::Column;
 use value::UnitPlace;
 
 // What a value comes to in numbers: its kind, whether it is true or negative, and its integer or power of ten.
@@ -87,5 +88,15 @@ pub fn unit_end(comment: &[u8]) -> usize
     match place {
         UnitPlace::Between(_, end) => end,
         UnitPlace::Nowhere => 0,
+    }
+}
+
+// What a lent column holds behind a refusal: the byte of the refused card. Where the refusal has none the column stays.
+pub fn column_after(column: Column, was: usize) -> usize
+    ensures { λ r. ⌜ r ≡ columnAfter column was ⌝ }
+{
+    match column {
+        Column::At(byte) => byte,
+        Column::Absent => was,
     }
 }

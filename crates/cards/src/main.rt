@@ -7,6 +7,7 @@ use libc::STDERR_FILENO;
 use libc::STDIN_FILENO;
 use libc::STDOUT_FILENO;
 use output::Printed;
+use refusal::Column;
 use refusal::Refusal;
 
 // How it went, as the digit of the command's exit status: each header was read and written; one was refused; a file could not be read;
@@ -264,20 +265,47 @@ fn tell_no_end(cards: usize, more: bool) {
     io::print_decimal(STDERR_FILENO, cards as u64);
 }
 
-// Tells of a refused card: its number, what is wrong in words, and its 80 bytes made visible.
+// Tells of a refused card: its number, its byte where the refusal has one, what is wrong in words, and its 80 bytes made visible.
 fn tell_card(stop: Stop, header: &[u8]) {
     let card = stop.card;
     tell(b" at card ");
     io::print_decimal(STDERR_FILENO, card as u64);
+    let fault = stop.fault;
+    let column = fault.column;
+    let byte = tell_byte(column);
     tell(b": ");
-    let words = meanings::meaning(stop.fault);
+    let words = meanings::meaning(fault);
     let bytes = words.bytes;
     tell(text::first_of(&bytes, words.len));
-    tell(b": \"");
-    output::write_visibly(
-        STDERR_FILENO,
-        text::first_of(card_bytes(header, card), CARD),
-    );
+    tell(b": ");
+    tell_parts(text::first_of(card_bytes(header, card), CARD), byte);
+}
+
+// Tells the byte of a card. Answers where the card is parted: at its front where there is no such byte.
+fn tell_byte(column: Column) -> usize {
+    match column {
+        Column::At(byte) => {
+            tell(b", byte ");
+            io::print_decimal(STDERR_FILENO, byte as u64);
+            byte
+        }
+        Column::Absent => 0,
+    }
+}
+
+// Shows the bytes of a card before the one where it is refused, and those from it on; at its front there are none before.
+fn tell_parts(card: &[u8], byte: usize) {
+    if 0 < byte {
+        tell_quoted(text::first_of(card, byte));
+        tell(b" then ");
+    }
+    tell_quoted(text::rest_of(card, byte));
+}
+
+// Shows bytes in double quotes, made visible.
+fn tell_quoted(s: &[u8]) {
+    tell(b"\"");
+    output::write_visibly(STDERR_FILENO, s);
     tell(b"\"");
 }
 

@@ -7,6 +7,7 @@ use mathlib.Core.List.{List, [], _∷_, _++_, map}
 use lib.IntN.{pos, negsuc}
 use Rattle.text.specs.Bytes.{ascii, lineFeed}
 use Rattle.refusal.specs.declared.Refusal.the-variants as R
+use Rattle.refusal.specs.Numbers.{faultOf, faultAt}
 use Rattle.numbers.specs.declared.Size.the-variants.{Finite, Infinite, Nan}
 use Rattle.numbers.specs.declared.Value.the-variants.{Integer, Float, Logical, String, Undefined, Invalid}
 use Rattle.numerals.specs.Numerals.{digitsBefore, decimalDigits}
@@ -32,10 +33,15 @@ pub edges :
     ∷ entryLine (ascii "A") String [] (ascii " ")
     ∷ entryLine (ascii "A") Undefined [] []
     ∷ entryLine (ascii "A") Invalid [] (ascii "1E")
-    ∷ refusedLine R.NoEnd 720
+    ∷ refusedLine (faultOf R.NoEnd) 720
+    ∷ refusedLine (faultAt R.Complex 10) 0
+    ∷ refusedLine (faultAt R.HighByte 0) 719
+    ∷ refusedLine (faultOf R.NoEnd) 3
+    ∷ refusedLine (faultOf R.HeaderLength) 0
     ∷ []
     ≡ map ended
     ("SIZE I 12" ∷ "KIT S FKM-75" ∷ "2 keywords" ∷ "1 keywords" ∷ "A I -12" ∷ "A I 0" ∷ "A D -15e-3" ∷ "A D 1e20" ∷ "A D -0e0"
-    ∷ "A D -inf" ∷ "A D nan" ∷ "A L T" ∷ "A S" ∷ "A S  " ∷ "A U" ∷ "A X 1E" ∷ "refused 10 at 720" ∷ [])
+    ∷ "A D -inf" ∷ "A D nan" ∷ "A L T" ∷ "A S" ∷ "A S  " ∷ "A U" ∷ "A X 1E" ∷ "refused 10 at 720"
+    ∷ "refused 5 at 0:10" ∷ "refused 1 at 719:0" ∷ "refused 10 at 3" ∷ "refused 9 at 0" ∷ [])
 unfolding entryLine countLine refusedLine decimalDigits digitsBefore
 edges = refl

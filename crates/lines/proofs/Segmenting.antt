@@ -20,10 +20,11 @@ use Rattle.text.specs.Text.{textOf, bytesOf}
 use Rattle.text.proofs.Texts.{text-bytes}
 use Rattle.numerals.specs.Numerals.{decimalDigits, signedDigits}
 use Rattle.numerals.proofs.Decimals.{some-digits}
-use Rattle.refusal.specs.declared.Refusal.{Refusal}
+use Rattle.refusal.specs.declared.Fault.{Fault}
 use Rattle.refusal.specs.Numbers.{numberOf}
 use Rattle.lines.specs.declared.Line.the-variants.{Written, Short}
-use Rattle.lines.specs.Lines.{kindLetter, readingOf, spacedReading, entryLine, countLine, refusedLine, lineOutcome, laid}
+use Rattle.lines.specs.Lines.{kindLetter, readingOf, spacedReading, entryLine, countLine, columnPart, refusedLine}
+use Rattle.lines.specs.Lines.{lineOutcome, laid}
 use Rattle.lines.specs.Segments.{lineHead, middleOf, middleBytes, readingTail}
 
 -- ---- an entry
@@ -77,13 +78,17 @@ count-segments n p q =
     (λ j. text-bytes (decimalDigits n) p j ++ text-bytes [] q j ++ ascii " keywords" ++ text-bytes [] q j ++ lineFeed ∷ [])
     ∙ simp append-nil
 
-pub refused-segments : (why : Refusal) (card : ℕ) {word number at : Text} → word ≡ textOf (ascii "refused ")
-    → number ≡ textOf (decimalDigits (numberOf why)) → at ≡ textOf (decimalDigits card)
-    → bytesOf word ++ bytesOf number ++ ascii " at " ++ bytesOf at ++ lineFeed ∷ [] ≡ refusedLine why card
+pub refused-segments : (fault : Fault) (card : ℕ) {word number place : Text} → word ≡ textOf (ascii "refused ")
+    → number ≡ textOf (decimalDigits (numberOf (fault .why))) → place ≡ textOf (decimalDigits card ++ columnPart (fault .column))
+    → bytesOf word ++ bytesOf number ++ ascii " at " ++ bytesOf place ++ lineFeed ∷ [] ≡ refusedLine fault card
 unfolding refusedLine
-refused-segments why card p q r =
-    λ j. text-bytes (ascii "refused ") p j ++ text-bytes (decimalDigits (numberOf why)) q j ++ ascii " at "
-    ++ text-bytes (decimalDigits card) r j ++ lineFeed ∷ []
+refused-segments fault card p q r =
+    let number = decimalDigits (numberOf (fault .why)) in
+    let front = ascii "refused " ++ number ++ ascii " at " in
+    let column = columnPart (fault .column) in
+    (λ j. text-bytes (ascii "refused ") p j ++ text-bytes number q j ++ ascii " at "
+    ++ text-bytes (decimalDigits card ++ column) r j ++ lineFeed ∷ [])
+    ∙ ap (λ (l : List ℕ). l ++ lineFeed ∷ []) (sym (append-assoc front (decimalDigits card) column))
 
 -- ---- a line in a buffer
 

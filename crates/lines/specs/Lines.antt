@@ -6,7 +6,9 @@ use mathlib.Core.List.{List, [], _∷_, _++_}
 use lib.Dec.{leb}
 use lib.ListN.{length}
 use lib.Seq.{sets}
-use Rattle.refusal.specs.declared.Refusal.{Refusal}
+use Rattle.refusal.specs.declared.Column.{Column}
+use Rattle.refusal.specs.declared.Column.the-variants.{At, Absent}
+use Rattle.refusal.specs.declared.Fault.{Fault}
 use Rattle.refusal.specs.Numbers.{numberOf}
 use Rattle.text.specs.Bytes.{ascii, lineFeed}
 use Rattle.numbers.specs.declared.Size.{Size}
@@ -58,9 +60,15 @@ entryLine name v digits text = name ++ ascii " " ++ kindLetter v ∷ spacedReadi
 unfoldable pub countLine : ℕ → List ℕ
 countLine n = decimalDigits n ++ ascii " keywords" ++ lineFeed ∷ []
 
-unfoldable pub refusedLine : Refusal → ℕ → List ℕ
-refusedLine why card =
-    ascii "refused " ++ decimalDigits (numberOf why) ++ ascii " at " ++ decimalDigits card ++ lineFeed ∷ []
+-- the byte of the card, behind a colon, where the refusal has a column
+abbrev pub columnPart : Column → List ℕ
+columnPart (At byte) = ascii ":" ++ decimalDigits byte
+columnPart Absent = []
+
+unfoldable pub refusedLine : Fault → ℕ → List ℕ
+refusedLine fault card =
+    ascii "refused " ++ decimalDigits (numberOf (fault .why)) ++ ascii " at " ++ decimalDigits card ++ columnPart (fault .column)
+    ++ lineFeed ∷ []
 
 -- no line is longer than its text and so many bytes
 abbrev pub lineRoom : ℕ

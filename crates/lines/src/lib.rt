@@ -8,10 +8,13 @@ ghost use lib.Seq.{sets};
 ghost use Rattle.text.specs.Bytes.{lineFeed};
 ghost use Rattle.text.specs.Text.{size, textOf, bytesOf};
 ghost use Rattle.numbers.specs.Digits.{isEmpty};
-ghost use Rattle.lines.specs.Lines.{entryLine, countLine, refusedLine, lineRoom, lineOutcome, laid};
+ghost use Rattle.numerals.specs.Numerals.{decimalDigits};
+ghost use Rattle.refusal.specs.declared.Column.the-variants.{At};
+ghost use Rattle.lines.specs.Lines.{entryLine, countLine, columnPart, refusedLine, lineRoom, lineOutcome, laid};
 ghost use Rattle.lines.specs.Segments.{lineHead, middleOf, sizeTail, readingTail, segmentRoom};
 use numbers::Size;
 use numbers::Value;
+use refusal::Column;
 use refusal::Fault;
 use text::Text;
 
@@ -57,15 +60,44 @@ pub fn count_line(n: usize, out: &mut [u8]) -> Line
     put_line(count, none, b" keywords", none, out)
 }
 
-// The line of a refused header: the refusal's number, and the card's.
+// The line of a refused header: the refusal's number, the card's, and the byte of the card where the refusal has a column.
 pub fn refused_line(fault: Fault, card: usize, out: &mut [u8]) -> Line
-    ensures { λ r. ⌜ lineOutcome r (now (out .exit)) ≡ laid (refusedLine (fault .why) card) (now (out .entry)) ⌝ }
-    ensures { λ _. ⌜ length (refusedLine (fault .why) card) ≤ lineRoom ⌝ }
+    ensures { λ r. ⌜ lineOutcome r (now (out .exit)) ≡ laid (refusedLine fault card) (now (out .entry)) ⌝ }
+    ensures { λ _. ⌜ length (refusedLine fault card) ≤ lineRoom ⌝ }
 {
     let word = text::text_of(b"refused ");
     let number = numerals::natural_text(fault.number() as u64);
-    let at = numerals::natural_text(card as u64);
-    put_line(word, number, b" at ", at, out)
+    let column = fault.column;
+    let place = place_text(card, column);
+    put_line(word, number, b" at ", place, out)
+}
+
+// ---- the place of a refusal
+
+// A colon, and a byte of a card.
+fn column_text(byte: usize) -> Text
+    ensures { λ r. ⌜ r ≡ textOf (columnPart (At byte)) ⌝ }
+{
+    let digits = numerals::natural_text(byte as u64);
+    let bytes = digits.bytes;
+    text::joined_text(b":", text::first_of(&bytes, digits.len))
+}
+
+// A card's number, and its byte where there is a column.
+fn place_text(card: usize, column: Column) -> Text
+    ensures { λ r. ⌜ r ≡ textOf (decimalDigits card ++ columnPart column) ⌝ }
+{
+    let number = numerals::natural_text(card as u64);
+    let own = number.bytes;
+    match column {
+        Column::At(byte) => {
+            let front = text::first_of(&own, number.len);
+            let behind = column_text(byte);
+            let bytes = behind.bytes;
+            text::joined_text(front, text::first_of(&bytes, behind.len))
+        }
+        Column::Absent => number,
+    }
 }
 
 // ---- the segments of an entry's line

@@ -12,6 +12,7 @@ use Rattle.one_answer.proofs.Both.{both}
 use Rattle.abi_value.proofs.value_told.Reads as value-told-reads
 use Rattle.abi_value.proofs.bit.Reads as bit-reads
 use Rattle.abi_value.proofs.unit_end.Reads as unit-end-reads
+use Rattle.abi_value.proofs.column_after.Reads as column-after-reads
 use Rattle.abi_card.proofs.read_into.Reads as read-into-reads
 use Rattle.abi_header.proofs.header_into.Reads as header-into-reads
 use Rattle.abi_header.proofs.lookup_into.Reads as lookup-into-reads
@@ -33,18 +34,18 @@ use Rattle.widrekas.proofs.widrekas_open.Reads as widrekas-open-reads
 use Rattle.widrekas.proofs.widrekas_step.Reads as widrekas-step-reads
 use Rattle.widrekas.proofs.widrekas_decode.Reads as widrekas-decode-reads
 
-abbrev entryLeft : ℕ → List ℕ → List ℕ → List ℕ → List ℕ → ℤ → EntryOutcome
-entryLeft r text comment digits out number =
-    record { answer = r; text = text; comment = comment; digits = digits; numbers = out; number = number }
+abbrev entryLeft : ℕ → List ℕ → List ℕ → List ℕ → List ℕ → ℤ → ℕ → EntryOutcome
+entryLeft r text comment digits out number column =
+    record { answer = r; text = text; comment = comment; digits = digits; numbers = out; number = number; column = column }
 
-abbrev listLeft : ℕ → List ℕ → List ℕ → ℕ → ListOutcome
-listLeft r first last count = record { answer = r; first = first; last = last; count = count }
+abbrev listLeft : ℕ → List ℕ → List ℕ → ℕ → ℕ → ListOutcome
+listLeft r first last count column = record { answer = r; first = first; last = last; count = count; column = column }
 
-abbrev headerLeft : ℕ → ℕ → HeaderOutcome
-headerLeft r card = record { answer = r; card = card }
+abbrev headerLeft : ℕ → ℕ → ℕ → HeaderOutcome
+headerLeft r card column = record { answer = r; card = card; column = column }
 
-abbrev nameLeft : ℕ → List ℕ → ℕ → NamedOutcome
-nameLeft r name bytes = record { answer = r; name = name; bytes = bytes }
+abbrev nameLeft : ℕ → List ℕ → ℕ → ℕ → NamedOutcome
+nameLeft r name bytes column = record { answer = r; name = name; bytes = bytes; column = column }
 
 -- `abi_value::value_told`
 pub value-told : OneAnswer value-told-reads.Post (λ r s. r)
@@ -58,32 +59,38 @@ bit κs a r q s t x y = x ∙ sym y
 pub unit-end : OneAnswer unit-end-reads.Post (λ r s. r)
 unit-end κs a r q s t x y = x ∙ sym y
 
+-- `abi_value::column_after`
+pub column-after : OneAnswer column-after-reads.Post (λ r s. r)
+column-after κs a r q s t x y = x ∙ sym y
+
 -- `abi_card::read_into`
-pub read-into : OneAnswer read-into-reads.Post (λ r s. cardOutcome r (now (s .1 .0)) (now (s .1 .1 .0)))
+pub read-into : OneAnswer read-into-reads.Post (λ r s. cardOutcome r (now (s .1 .0)) (now (s .1 .1 .0)) (now (s .1 .1 .1 .0)))
 read-into κs a r q s t x y = x ∙ sym y
 
 -- `abi_header::header_into`
-pub header-into : OneAnswer header-into-reads.Post (λ r s. headerLeft r (now (s .1 .0)))
+pub header-into : OneAnswer header-into-reads.Post (λ r s. headerLeft r (now (s .1 .0)) (now (s .1 .1 .0)))
 header-into κs a r q s t x y = x ∙ sym y
 
 -- `abi_header::lookup_into`
 pub lookup-into : OneAnswer lookup-into-reads.Post
     (λ r s. entryLeft r (now (s .1 .1 .0)) (now (s .1 .1 .1 .0)) (now (s .1 .1 .1 .1 .0)) (now (s .1 .1 .1 .1 .1 .0))
-    (now (s .1 .1 .1 .1 .1 .1 .0)))
+    (now (s .1 .1 .1 .1 .1 .1 .0)) (now (s .1 .1 .1 .1 .1 .1 .1 .0)))
 lookup-into κs a r q s t x y = x ∙ sym y
 
 -- `abi_header::entry_into`
 pub entry-into : OneAnswer entry-into-reads.Post
     (λ r s. entryLeft r (now (s .1 .1 .0)) (now (s .1 .1 .1 .0)) (now (s .1 .1 .1 .1 .0)) (now (s .1 .1 .1 .1 .1 .0))
-    (now (s .1 .1 .1 .1 .1 .1 .0)))
+    (now (s .1 .1 .1 .1 .1 .1 .0)) (now (s .1 .1 .1 .1 .1 .1 .1 .0)))
 entry-into κs a r q s t x y = x ∙ sym y
 
 -- `abi_header::list_into`
-pub list-into : OneAnswer list-into-reads.Post (λ r s. listLeft r (now (s .1 .0)) (now (s .1 .1 .0)) (now (s .1 .1 .1 .0)))
+pub list-into : OneAnswer list-into-reads.Post
+    (λ r s. listLeft r (now (s .1 .0)) (now (s .1 .1 .0)) (now (s .1 .1 .1 .0)) (now (s .1 .1 .1 .1 .0)))
 list-into κs a r q s t x y = x ∙ sym y
 
 -- `abi_header::name_into`
-pub name-into : OneAnswer name-into-reads.Post (λ r s. nameLeft r (now (s .1 .1 .0)) (now (s .1 .1 .1 .0)))
+pub name-into : OneAnswer name-into-reads.Post
+    (λ r s. nameLeft r (now (s .1 .1 .0)) (now (s .1 .1 .1 .0)) (now (s .1 .1 .1 .1 .0)))
 name-into κs a r q s t x y = x ∙ sym y
 
 -- `abi_tile::open_into`
@@ -112,32 +119,34 @@ pub widrekas-unit : OneAnswer widrekas-unit-reads.Post (λ r s. r)
 widrekas-unit κs a r q s t x y = x ∙ sym y
 
 -- `widrekas::widrekas_card`
-pub widrekas-card : OneAnswer widrekas-card-reads.Post (λ r s. cardOutcome r (now (s .1 .0)) (now (s .1 .1 .0)))
+pub widrekas-card : OneAnswer widrekas-card-reads.Post
+    (λ r s. cardOutcome r (now (s .1 .0)) (now (s .1 .1 .0)) (now (s .1 .1 .1 .0)))
 widrekas-card κs a r q s t x y = x ∙ sym y
 
 -- `widrekas::widrekas_header`
-pub widrekas-header : OneAnswer widrekas-header-reads.Post (λ r s. headerLeft r (now (s .1 .0)))
+pub widrekas-header : OneAnswer widrekas-header-reads.Post (λ r s. headerLeft r (now (s .1 .0)) (now (s .1 .1 .0)))
 widrekas-header κs a r q s t x y = x ∙ sym y
 
 -- `widrekas::widrekas_lookup`
 pub widrekas-lookup : OneAnswer widrekas-lookup-reads.Post
     (λ r s. entryLeft r (now (s .1 .1 .0)) (now (s .1 .1 .1 .0)) (now (s .1 .1 .1 .1 .0)) (now (s .1 .1 .1 .1 .1 .0))
-    (now (s .1 .1 .1 .1 .1 .1 .0)))
+    (now (s .1 .1 .1 .1 .1 .1 .0)) (now (s .1 .1 .1 .1 .1 .1 .1 .0)))
 widrekas-lookup κs a r q s t x y = x ∙ sym y
 
 -- `widrekas::widrekas_entry`
 pub widrekas-entry : OneAnswer widrekas-entry-reads.Post
     (λ r s. entryLeft r (now (s .1 .1 .0)) (now (s .1 .1 .1 .0)) (now (s .1 .1 .1 .1 .0)) (now (s .1 .1 .1 .1 .1 .0))
-    (now (s .1 .1 .1 .1 .1 .1 .0)))
+    (now (s .1 .1 .1 .1 .1 .1 .0)) (now (s .1 .1 .1 .1 .1 .1 .1 .0)))
 widrekas-entry κs a r q s t x y = x ∙ sym y
 
 -- `widrekas::widrekas_list`
 pub widrekas-list : OneAnswer widrekas-list-reads.Post
-    (λ r s. listLeft r (now (s .1 .0)) (now (s .1 .1 .0)) (now (s .1 .1 .1 .0)))
+    (λ r s. listLeft r (now (s .1 .0)) (now (s .1 .1 .0)) (now (s .1 .1 .1 .0)) (now (s .1 .1 .1 .1 .0)))
 widrekas-list κs a r q s t x y = x ∙ sym y
 
 -- `widrekas::widrekas_name`
-pub widrekas-name : OneAnswer widrekas-name-reads.Post (λ r s. nameLeft r (now (s .1 .1 .0)) (now (s .1 .1 .1 .0)))
+pub widrekas-name : OneAnswer widrekas-name-reads.Post
+    (λ r s. nameLeft r (now (s .1 .1 .0)) (now (s .1 .1 .1 .0)) (now (s .1 .1 .1 .1 .0)))
 widrekas-name κs a r q s t x y = x ∙ sym y
 
 -- `widrekas::widrekas_open`

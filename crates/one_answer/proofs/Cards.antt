@@ -6,6 +6,7 @@ use Rattle.one_answer.specs.OneAnswer.{OneAnswer}
 use Rattle.refusal.proofs.Refusal.number.Reads as refusal-number-reads
 use Rattle.refusal.proofs.Fault.number.Reads as fault-number-reads
 use Rattle.refusal.proofs.fault_of.Reads as fault-of-reads
+use Rattle.refusal.proofs.fault_at.Reads as fault-at-reads
 use Rattle.text.proofs.is_blank.Reads as is-blank-reads
 use Rattle.text.proofs.is_printable.Reads as is-printable-reads
 use Rattle.text.proofs.is_digit.Reads as is-digit-reads
@@ -47,6 +48,10 @@ fault-number κs a r q s t x y = x ∙ sym y
 -- `refusal::fault_of`
 pub fault-of : OneAnswer fault-of-reads.Post (λ r s. r)
 fault-of κs a r q s t x y = x ∙ sym y
+
+-- `refusal::fault_at`
+pub fault-at : OneAnswer fault-at-reads.Post (λ r s. r)
+fault-at κs a r q s t x y = x ∙ sym y
 
 -- `text::is_blank`
 pub is-blank : OneAnswer is-blank-reads.Post (λ r s. r)

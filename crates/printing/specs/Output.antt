@@ -32,7 +32,7 @@ inOrder (line ∷ lines) = line ++ inOrder lines
 -- the lines of the names, then the count; a refusal prints its line alone
 abbrev pub outputBy : Header → List ℕ → List ℕ
 outputBy (Accepted end) h = inOrder (nameLines h) ++ countLine (listOf h .count)
-outputBy (Refused s) h = refusedLine (s .fault .why) (s .card)
+outputBy (Refused s) h = refusedLine (s .fault) (s .card)
 
 -- all that the program prints of a header
 unfoldable pub outputOf : List ℕ → List ℕ
@@ -42,7 +42,7 @@ outputOf h = outputBy (headerOf h) h
 
 abbrev pub printedBy : Bool → Header → List ℕ → List ℕ
 printedBy t (Accepted end) h = inOrder (map (printedLine t) (nameLines h)) ++ printedLine t (countLine (listOf h .count))
-printedBy t (Refused s) h = printedLine t (refusedLine (s .fault .why) (s .card))
+printedBy t (Refused s) h = printedLine t (refusedLine (s .fault) (s .card))
 
 unfoldable pub printedOf : Bool → List ℕ → List ℕ
 printedOf t h = printedBy t (headerOf h) h

@@ -50,7 +50,7 @@ pub fn print_header(header: &[u8], escaped: bool) -> Report
 
 // The line of a refusal.
 fn print_refusal(stop: Stop, escaped: bool) -> Printed
-    ensures { λ r. ⌜ IsWhole r (printedLine escaped (refusedLine (stop .fault .why) (stop .card))) ⌝ }
+    ensures { λ r. ⌜ IsWhole r (printedLine escaped (refusedLine (stop .fault) (stop .card))) ⌝ }
 {
     let mut line = [0u8; 321];
     let n = refused_part(stop, &mut line);
@@ -102,7 +102,7 @@ fn print_names<'a>(
 
 fn refused_part(stop: Stop, line: &mut [u8]) -> usize
     requires { ⌜ lineRoom ≤ length (now line) ⌝ }
-    ensures { λ r. ⌜ Front r (now (line .exit)) (refusedLine (stop .fault .why) (stop .card)) ⌝ }
+    ensures { λ r. ⌜ Front r (now (line .exit)) (refusedLine (stop .fault) (stop .card)) ⌝ }
 {
     let fault = stop.fault;
     length_of(lines::refused_line(fault, stop.card, line))

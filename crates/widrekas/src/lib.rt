@@ -14,20 +14,26 @@ ghost use Rattle.abi_tile.specs.Tiles.{cursorIn, OpenLeft, StepLeft, DecodeLeft
 // The version of this boundary.
 #[no_mangle]
 pub extern "C" fn widrekas_version() -> u32
-    ensures { λ r. ⌜ r ≡ 1 ⌝ }
+    ensures { λ r. ⌜ r ≡ 2 ⌝ }
 {
-    1
+    2
 }
 
 // ---- cards
 
 // Reads a card of 80 bytes into a record of 248 bytes and a number, and answers 0.
-// Otherwise it answers the refusal's number, or 255 where a slice has another length, and both stay as they are.
+// Otherwise it answers the refusal's number, 1 to 8, with the byte at which the card is refused as the column; or 255 where a slice has
+// another length. All else stays as it is.
 #[no_mangle]
-pub extern "C" fn widrekas_card(card: &[u8], out: &mut [u8], number: &mut i64) -> u8
-    ensures { λ r. ⌜ CardLeft (now (card .entry)) (lentOf out) (lentOf number) r ⌝ }
+pub extern "C" fn widrekas_card(
+    card: &[u8],
+    out: &mut [u8],
+    number: &mut i64,
+    column: &mut usize,
+) -> u8
+    ensures { λ r. ⌜ CardLeft (now (card .entry)) (lentOf out) (lentOf number) (lentOf column) r ⌝ }
 {
-    abi_card::read_into(card, out, number)
+    abi_card::read_into(card, out, number, column)
 }
 
 // The end of the unit that a comment names, which starts at byte 1; 0 where it names none.
@@ -38,22 +44,22 @@ pub extern "C" fn widrekas_unit(comment: &[u8]) -> usize
     abi_value::unit_end(comment)
 }
 
-// ---- headers
+// ---- headers: an answer of 1 to 8 is a refused card, and the column its byte; any other answer leaves the column as it is
 
 // Says where END stands. Answers 0, with the card's number of END; or the refusal's number, with the number of the card at which the
-// header is refused.
+// header is refused and, if that card is, its byte as the column.
 #[no_mangle]
-pub extern "C" fn widrekas_header(header: &[u8], card: &mut usize) -> u8
-    ensures { λ r. ⌜ HeaderLeft (headerOf (now (header .entry))) (lentOf card) r ⌝ }
+pub extern "C" fn widrekas_header(header: &[u8], card: &mut usize, column: &mut usize) -> u8
+    ensures { λ r. ⌜ HeaderLeft (headerOf (now (header .entry))) (lentOf card) (lentOf column) r ⌝ }
 {
-    abi_header::header_into(header, card)
+    abi_header::header_into(header, card, column)
 }
 
 // Looks a name up in a header. Answers 0, with seven numbers: 0, the value's kind, whether it is true or negative, whether there is
 // a comment, and the lengths of the text, the comment and the digits; the text and the comment at the front of their buffers; a
-// decimal's digits, then zeros, in 80 bytes; and the integer or the power of ten. Otherwise it answers the refusal's number, and all
-// stays as it is, but that a refusal of the header leaves the card's number in the first of the seven. 255 where digits or numbers
-// have another length.
+// decimal's digits, then zeros, in 80 bytes; and the integer or the power of ten. Otherwise it answers the refusal's number, or 255 where
+// digits or numbers have another length. Nothing is written then, except that a refusal of the header stores the card's number in the
+// first of the seven, and a refused card's byte in the column.
 #[no_mangle]
 pub extern "C" fn widrekas_lookup(
     header: &[u8],
@@ -63,11 +69,12 @@ pub extern "C" fn widrekas_lookup(
     digits: &mut [u8],
     out: &mut [usize],
     number: &mut i64,
+    column: &mut usize,
 ) -> u8
     ensures { λ r. ⌜ EntryLeft (lookupOf (now (header .entry)) (now (name .entry)))
-        (lentOf text) (lentOf comment) (lentOf digits) (lentOf out) (lentOf number) r ⌝ }
+        (lentOf text) (lentOf comment) (lentOf digits) (lentOf out) (lentOf number) (lentOf column) r ⌝ }
 {
-    abi_header::lookup_into(header, name, text, comment, digits, out, number)
+    abi_header::lookup_into(header, name, text, comment, digits, out, number, column)
 }
 
 // Reads the entry at a card's number, whatever stands elsewhere in the header, and answers as a lookup does.
@@ -80,40 +87,44 @@ pub extern "C" fn widrekas_entry(
     digits: &mut [u8],
     out: &mut [usize],
     number: &mut i64,
+    column: &mut usize,
 ) -> u8
     ensures { λ r. ⌜ EntryLeft (entryOf (now (header .entry)) card)
-        (lentOf text) (lentOf comment) (lentOf digits) (lentOf out) (lentOf number) r ⌝ }
+        (lentOf text) (lentOf comment) (lentOf digits) (lentOf out) (lentOf number) (lentOf column) r ⌝ }
 {
-    abi_header::entry_into(header, card, text, comment, digits, out, number)
+    abi_header::entry_into(header, card, text, comment, digits, out, number, column)
 }
 
 // Lists a header's names in the order of their first cards. Answers 0, with the number of names and, for each, the number of the
 // first card that bears it and of the last; the places behind them hold 720. Otherwise it answers the refusal's number, with the
-// card's number as the count; or 255 where a slice has another length than 720. All else stays as it is.
+// card's number as the count and a refused card's byte as the column; or 255 where a slice has another length than 720. All else stays
+// as it is.
 #[no_mangle]
 pub extern "C" fn widrekas_list(
     header: &[u8],
     first: &mut [usize],
     last: &mut [usize],
     count: &mut usize,
+    column: &mut usize,
 ) -> u8
-    ensures { λ r. ⌜ ListLeft (listOf (now (header .entry))) (lentOf first) (lentOf last) (lentOf count) r ⌝ }
+    ensures { λ r. ⌜ ListLeft (listOf (now (header .entry))) (lentOf first) (lentOf last) (lentOf count) (lentOf column) r ⌝ }
 {
-    abi_header::list_into(header, first, last, count)
+    abi_header::list_into(header, first, last, count, column)
 }
 
 // Reads the name that the entry at a card's number bears, whatever stands elsewhere in the header. Answers 0, with the name at the
-// front of the lent bytes and its length; or the refusal's number, and both stay as they are.
+// front of the lent bytes and its length; or the refusal's number, with a refused card's byte as the column. All else stays as it is.
 #[no_mangle]
 pub extern "C" fn widrekas_name(
     header: &[u8],
     card: usize,
     name: &mut [u8],
     length: &mut usize,
+    column: &mut usize,
 ) -> u8
-    ensures { λ r. ⌜ NameLeft (nameAt (now (header .entry)) card) (lentOf name) (lentOf length) r ⌝ }
+    ensures { λ r. ⌜ NameLeft (nameAt (now (header .entry)) card) (lentOf name) (lentOf length) (lentOf column) r ⌝ }
 {
-    abi_header::name_into(header, card, name, length)
+    abi_header::name_into(header, card, name, length, column)
 }
 
 // ---- tiles

@@ -15,24 +15,24 @@ use Rattle.abi_card.proofs.read_into.Statement.{statement}
 use Rattle.abi_card.proofs.read_into.Tie as tie
 
 -- what is left, by whether the lengths are those asked for
-module _ (card out : List ℕ) (number : ℤ) where
-  wrong : isCardFit card out ≡ false → cardOutcome wrongLength out number ≡ cardInto card out number
+module _ (card out : List ℕ) (number : ℤ) (column : ℕ) where
+  wrong : isCardFit card out ≡ false → cardOutcome wrongLength out number column ≡ cardInto card out number column
   wrong e = rw e
 
   right : {o : CardOutcome} (read : CardRead) → isCardFit card out ≡ true → read ≡ cardOf card
-      → o ≡ recordedAs (read .answer) read out number → o ≡ cardInto card out number
-  right read e same f = f ∙ ap (λ (r : CardRead). recordedAs (r .answer) r out number) same ∙ rw e
+      → o ≡ recordedAs (read .answer) read out number column → o ≡ cardInto card out number column
+  right read e same f = f ∙ ap (λ (r : CardRead). recordedAs (r .answer) r out number column) same ∙ rw e
 
 returns : tie.Need-returns
 returns c =
     let a = c .before .before .before .args in
-    wrong (a .card .now) (a .out .now) (a .number .now) (wrong-card (a .card .now) (a .out .now) (c .if1 .taken))
+    wrong (a .card .now) (a .out .now) (a .number .now) (a .column .now) (wrong-card (a .card .now) (a .out .now) (c .if1 .taken))
 
 returns-2 : tie.Need-returns-2
 returns-2 c =
     let a = c .before .before .before .before .args in
     let other = wrong-record (a .card .now) (a .out .now) (c .before .if1 .left) (c .if2 .taken) in
-    wrong (a .card .now) (a .out .now) (a .number .now) other
+    wrong (a .card .now) (a .out .now) (a .number .now) (a .column .now) other
 
 text-of-requires : tie.Need-text-of-requires
 text-of-requires c κs = search needs
@@ -49,7 +49,7 @@ same-length c = search needs
 returns-3 : tie.Need-returns-3
 returns-3 c =
     let written = c .before .before in
-    let reading = written .before .before .before in
+    let reading = written .before .before .before .before in
     let copied = reading .before .before .before in
     let tested = copied .before in
     let a = tested .before .before .before .before .args in
@@ -58,7 +58,7 @@ returns-3 c =
     let whole = ap (λ (t : Text). t .bytes) (copied .text-of .ensures) ∙ whole-array s long in
     let same = reading .read-card .ensures ∙ ap cardOf whole in
     let lengths = fit s (a .out .now) long (tested .if2 .left) in
-    right s (a .out .now) (a .number .now) (reading .read-card .result) lengths same (written .write-card .ensures)
+    right s (a .out .now) (a .number .now) (a .column .now) (reading .read-card .result) lengths same (written .write-card .ensures)
 
 pub read-into-spec : {M : Type 1} → statement M
 read-into-spec =

@@ -9,8 +9,19 @@ use borrow.Author.Needs.{needs}
 use Rattle.abi_card.proofs.write_card.Statement.{statement}
 use Rattle.abi_card.proofs.write_card.Tie as tie
 
+-- the answer that an arm knows is the card's
+by-answer : (s : tie.Start) {x : CardAnswer} → s .args .read .answer ≡ x
+    → recordedAs x (s .args .read) (s .args .out .now) (s .args .number .now) (s .args .column .now)
+    ≡ recordedAs (s .args .read .answer) (s .args .read) (s .args .out .now) (s .args .number .now) (s .args .column .now)
+by-answer s e =
+    let a = s .args in
+    sym (ap (λ (x : CardAnswer). recordedAs x (a .read) (a .out .now) (a .number .now) (a .column .now)) e)
+
 enum-known-answer : tie.Need-enum-known-answer
 enum-known-answer c = search needs
+
+column-after-requires : tie.Need-column-after-requires
+column-after-requires c κs = search needs
 
 number-requires : tie.Need-number-requires
 number-requires c κs = search needs
@@ -26,10 +37,11 @@ card-told-requires c κs = search needs
 
 returns : tie.Need-returns
 returns c =
-    let known = c .before .before in
+    let kept = c .before in
+    let known = kept .before .before .before in
     let a = known .before .before .before .args in
-    (λ j. cardOutcome (c .number .ensures j) (a .out .now) (a .number .now))
-    ∙ sym (ap (λ (x : CardAnswer). recordedAs x (a .read) (a .out .now) (a .number .now)) (known .answer .given .1))
+    (λ j. cardOutcome (c .number .ensures j) (a .out .now) (a .number .now) (kept .column-after .ensures j))
+    ∙ by-answer (known .before .before .before) (known .answer .given .1)
 
 same-length : tie.Need-same-length
 same-length c = search needs
@@ -42,14 +54,15 @@ returns-2 c =
     let z = c .before .card-told .result .number in
     let fits : toZ w64 (ofZ w64 z) ≡ z = search needs in
     let stored = fits ∙ ap (λ (t : Told). t .number) (c .before .card-told .ensures) in
-    (λ j. cardOutcome 0 (written .write-record .ensures j) (stored j))
-    ∙ sym (ap (λ (x : CardAnswer). recordedAs x (a .read) (a .out .now) (a .number .now)) (known .answer2 .given .1))
+    (λ j. cardOutcome 0 (written .write-record .ensures j) (stored j) (a .column .now))
+    ∙ by-answer (known .before .before .before) (known .answer2 .given .1)
 
 pub write-card-spec : {M : Type 1} → statement M
 write-card-spec =
     tie.close
     (tie.spec
     enum-known-answer
+    column-after-requires
     number-requires
     enum-known-answer-2
     write-record-requires

@@ -11,6 +11,9 @@ read-header-requires c κs = search needs
 enum-known-stop : tie.Need-enum-known-stop
 enum-known-stop c = search needs
 
+column-after-requires : tie.Need-column-after-requires
+column-after-requires c κs = search needs
+
 number-requires : tie.Need-number-requires
 number-requires c κs = search needs
 
@@ -19,16 +22,17 @@ enum-known-end c = search needs
 
 returns : tie.Need-returns
 returns c =
-    let known = c .before .before .before in
+    let kept = c .before in
+    let known = kept .before .before .before .before in
     let read = known .before .before in
-    header-by (known .stop .given .1) (read .read-header .ensures)
-    (λ j. record { answer = c .number .ensures j; card = known .stop .given .0 .0 .card })
+    header-by (read .before .before .args .column .now) (known .stop .given .1) (read .read-header .ensures)
+    (λ j. record { answer = c .number .ensures j; card = known .stop .given .0 .0 .card; column = kept .column-after .ensures j })
 
 returns-2 : tie.Need-returns-2
 returns-2 c =
     let known = c .before in
     let read = known .before .before in
-    header-by (known .end .given .1) (read .read-header .ensures) refl
+    header-by (read .before .before .args .column .now) (known .end .given .1) (read .read-header .ensures) refl
 
 pub header-into-spec : {M : Type 1} → statement M
 header-into-spec =
@@ -36,6 +40,7 @@ header-into-spec =
     (tie.spec
     read-header-requires
     enum-known-stop
+    column-after-requires
     number-requires
     enum-known-end
     returns

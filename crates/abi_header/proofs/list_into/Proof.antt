@@ -12,7 +12,7 @@ list-requires c κs = search needs
 
 write-listing-requires : tie.Need-write-listing-requires
 write-listing-requires c κs =
-    let tested = c .before .before .before .before in
+    let tested = c .before .before .before .before .before in
     let a = tested .before .before .before .before .args in
     both (length (a .first .now)) 720 (length (a .last .now)) 720 (tested .if1 .taken)
 
@@ -25,16 +25,16 @@ same-length-2 c = search needs
 returns : tie.Need-returns
 returns c =
     let written = c .before .before .before .before in
-    let got = written .before .before .before .before in
+    let got = written .before .before .before .before .before in
     let tested = got .before in
     let a = tested .before .before .before .before .args in
-    listed (listOf (a .header .now)) _ _ _ (written .write-listing .result) (tested .if1 .taken) (got .list .ensures)
+    listed (listOf (a .header .now)) _ _ _ _ (written .write-listing .result) (tested .if1 .taken) (got .list .ensures)
     (written .write-listing .ensures)
 
 returns-2 : tie.Need-returns-2
 returns-2 c =
     let a = c .before .before .before .before .args in
-    unlisted (listOf (a .header .now)) (a .first .now) (a .last .now) (a .count .now) (c .if1 .left)
+    unlisted (listOf (a .header .now)) (a .first .now) (a .last .now) (a .count .now) (a .column .now) (c .if1 .left)
 
 pub list-into-spec : {M : Type 1} → statement M
 list-into-spec =

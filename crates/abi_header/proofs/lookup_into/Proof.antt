@@ -13,14 +13,14 @@ abbrev tested : tie.After-lookup → tie.Then1
 tested c = c .before .before .before
 
 abbrev got : tie.After-write-looked → tie.After-lookup
-got c = c .before .before .before .before .before .before .before .before
+got c = c .before .before .before .before .before .before .before .before .before
 
 lookup-requires : tie.Need-lookup-requires
 lookup-requires c κs = search needs
 
 write-looked-requires : tie.Need-write-looked-requires
 write-looked-requires c κs =
-    let t = tested (c .before .before .before .before .before .before .before) in
+    let t = tested (c .before .before .before .before .before .before .before .before) in
     fits (start t .args .digits .now) (start t .args .out .now) (t .if1 .taken)
 
 same-length : tie.Need-same-length
@@ -39,14 +39,14 @@ returns : tie.Need-returns
 returns c =
     let w = c .before .before .before .before in
     let a = start (tested (got w)) .args in
-    told (lookupOf (a .header .now) (a .name .now)) _ _ _ _ _ (w .write-looked .result)
+    told (lookupOf (a .header .now) (a .name .now)) _ _ _ _ _ _ (w .write-looked .result)
     (tested (got w) .if1 .taken) (got w .lookup .ensures) (w .write-looked .ensures)
 
 returns-2 : tie.Need-returns-2
 returns-2 c =
     let a = c .before .before .before .before .before .before .before .args in
     unread (lookupOf (a .header .now) (a .name .now)) (a .text .now) (a .comment .now)
-    (a .digits .now) (a .out .now) (a .number .now) (c .if1 .left)
+    (a .digits .now) (a .out .now) (a .number .now) (a .column .now) (c .if1 .left)
 
 pub lookup-into-spec : {M : Type 1} → statement M
 lookup-into-spec =

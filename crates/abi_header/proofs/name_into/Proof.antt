@@ -14,6 +14,9 @@ enum-known-read c = search needs
 enum-known-read-2 : tie.Need-enum-known-read-2
 enum-known-read-2 c = search needs
 
+column-after-requires : tie.Need-column-after-requires
+column-after-requires c κs = search needs
+
 number-requires : tie.Need-number-requires
 number-requires c κs = search needs
 
@@ -25,17 +28,19 @@ returns c =
     let known = c .before in
     let read = known .before .before .before .before in
     let a = read .before .before .before .before .args in
-    named (nameAt (a .header .now) (a .card)) _ (a .length .now) (known .read .given .1) (read .read-name .ensures)
+    named (nameAt (a .header .now) (a .card)) _ (a .length .now) (a .column .now) (known .read .given .1) (read .read-name .ensures)
 
 same-length-2 : tie.Need-same-length-2
 same-length-2 c = search needs
 
 returns-2 : tie.Need-returns-2
 returns-2 c =
-    let known = c .before .before in
+    let kept = c .before in
+    let known = kept .before .before .before in
     let read = known .before .before .before .before in
     let a = read .before .before .before .before .args in
-    unnamed (nameAt (a .header .now) (a .card)) _ (a .length .now) (known .read2 .given .1) (read .read-name .ensures) (c .number .ensures)
+    unnamed (nameAt (a .header .now) (a .card)) _ (a .length .now) _ (known .read2 .given .1) (read .read-name .ensures)
+    (c .number .ensures) (kept .column-after .ensures)
 
 pub name-into-spec : {M : Type 1} → statement M
 name-into-spec =
@@ -44,6 +49,7 @@ name-into-spec =
     read-name-requires
     enum-known-read
     enum-known-read-2
+    column-after-requires
     number-requires
     same-length
     returns

@@ -7,6 +7,9 @@ use Rattle.abi_header.proofs.write_listing.Tie as tie
 enum-known-answer : tie.Need-enum-known-answer
 enum-known-answer c = search needs
 
+column-after-requires : tie.Need-column-after-requires
+column-after-requires c κs = search needs
+
 number-requires : tie.Need-number-requires
 number-requires c κs = search needs
 
@@ -32,14 +35,16 @@ put-numbers-requires-2 c κs =
 
 returns : tie.Need-returns
 returns c =
-    let known = c .before .before .before in
+    let kept = c .before in
+    let known = kept .before .before .before .before in
     let a = known .before .before .before .before .args in
-    list-by (a .read) (a .first .now) (a .last .now) (known .answer .given .1)
+    list-by (a .read) (a .first .now) (a .last .now) (a .column .now) (known .answer .given .1)
     (λ j. record {
       answer = c .number .ensures j;
       first = a .first .now;
       last = a .last .now;
       count = known .answer .given .0 .0 .card;
+      column = kept .column-after .ensures j;
     })
 
 same-length : tie.Need-same-length
@@ -54,12 +59,13 @@ returns-2 c =
     let first = second .before .before .before .before .before in
     let known = first .before .before .before .before .before in
     let a = known .before .before .before .before .args in
-    list-by (a .read) (a .first .now) (a .last .now) (known .enum-told .given .1)
+    list-by (a .read) (a .first .now) (a .last .now) (a .column .now) (known .enum-told .given .1)
     (λ j. record {
       answer = 0;
       first = first .put-numbers .ensures j;
       last = second .put-numbers2 .ensures j;
       count = a .read .count;
+      column = a .column .now;
     })
 
 pub write-listing-spec : {M : Type 1} → statement M
@@ -67,6 +73,7 @@ write-listing-spec =
     tie.close
     (tie.spec
     enum-known-answer
+    column-after-requires
     number-requires
     enum-told
     slice-aggregate-put-numbers

@@ -20,11 +20,17 @@ enum-known-answer c = search needs
 slice-write-out : tie.Need-slice-write-out
 slice-write-out c = search needs
 
+column-after-requires : tie.Need-column-after-requires
+column-after-requires c κs = search needs
+
 number-requires : tie.Need-number-requires
 number-requires c κs = search needs
 
 enum-known-answer-2 : tie.Need-enum-known-answer-2
 enum-known-answer-2 c = search needs
+
+column-after-requires-2 : tie.Need-column-after-requires-2
+column-after-requires-2 c κs = search needs
 
 number-requires-2 : tie.Need-number-requires-2
 number-requires-2 c κs = search needs
@@ -65,17 +71,31 @@ number-fits c = search needs
 
 returns : tie.Need-returns
 returns c =
-    let known = c .before .before .before in
+    let kept = c .before in
+    let known = kept .before .before .before .before in
     let a = known .before .before .before .before .args in
-    by (a .read) _ _ _ _ (known .answer .given .1)
-    (record { said = c .number .ensures; in-digits = refl; in-numbers = refl; in-number = refl })
+    by (a .read) _ _ _ _ _ (known .answer .given .1)
+    (record {
+      said = c .number .ensures;
+      in-digits = refl;
+      in-numbers = refl;
+      in-number = refl;
+      in-column = kept .column-after .ensures;
+    })
 
 returns-2 : tie.Need-returns-2
 returns-2 c =
-    let known = c .before .before in
+    let kept = c .before in
+    let known = kept .before .before .before in
     let a = known .before .before .before .before .args in
-    by (a .read) _ _ _ _ (known .answer2 .given .1)
-    (record { said = c .number2 .ensures; in-digits = refl; in-numbers = refl; in-number = refl })
+    by (a .read) _ _ _ _ _ (known .answer2 .given .1)
+    (record {
+      said = c .number2 .ensures;
+      in-digits = refl;
+      in-numbers = refl;
+      in-number = refl;
+      in-column = kept .column-after2 .ensures;
+    })
 
 same-length-2 : tie.Need-same-length-2
 same-length-2 c = search needs
@@ -92,12 +112,13 @@ returns-3 c =
     let known = told .before .before in
     let a = known .before .before .before .before .args in
     let same = told .value-told .ensures in
-    by (a .read) _ _ _ _ (known .answer3 .given .1)
+    by (a .read) _ _ _ _ _ (known .answer3 .given .1)
     (record {
       said = refl;
       in-digits = copied .put-at .ensures ∙ sets-all (a .read .digits .bytes) (a .digits .now) (long (copied .before));
       in-numbers = put .put-numbers .ensures ∙ numbered .numbers-of .ensures ∙ ap (λ (t : Told). numbersOf t (a .read)) same;
       in-number = number-fits told ∙ ap (λ (t : Told). t .number) same;
+      in-column = refl;
     })
 
 pub write-looked-spec : {M : Type 1} → statement M
@@ -106,8 +127,10 @@ write-looked-spec =
     (tie.spec
     enum-known-answer
     slice-write-out
+    column-after-requires
     number-requires
     enum-known-answer-2
+    column-after-requires-2
     number-requires-2
     enum-known-answer-3
     value-told-requires

@@ -27,8 +27,8 @@ cast-natural-text c = search needs
 natural-text-requires : tie.Need-natural-text-requires
 natural-text-requires c κs = search needs
 
-natural-text-requires-2 : tie.Need-natural-text-requires-2
-natural-text-requires-2 c κs = search needs
+place-text-requires : tie.Need-place-text-requires
+place-text-requires c κs = search needs
 
 slice-aggregate-put-line : tie.Need-slice-aggregate-put-line
 slice-aggregate-put-line c = search needs
@@ -42,12 +42,12 @@ same-length c = search needs
 returns : tie.Need-returns
 returns c =
     let put = c .before .before in
-    let last = put .before .before .before in
-    let texts = last .before in
+    let place = put .before .before .before in
+    let texts = place .before in
     let a = texts .before .before .before .before .before .args in
     let number = texts .natural-text .ensures ∙ ap (λ (n : ℕ). textOf (decimalDigits n)) (texts .before .number .ensures) in
     let word = texts .before .before .text-of .ensures in
-    let e = refused-segments (a .fault .why) (a .card) word number (last .natural-text2 .ensures) in
+    let e = refused-segments (a .fault) (a .card) word number (place .place-text .ensures) in
     (put .put-line .ensures .0 ∙ ap (λ (l : List ℕ). laid l (a .out .now)) e, omega (arith, put .put-line .ensures .1, ap length e))
 
 pub refused-line-spec : {M : Type 1} → statement M
@@ -59,7 +59,7 @@ refused-line-spec =
     number-requires
     cast-natural-text
     natural-text-requires
-    natural-text-requires-2
+    place-text-requires
     slice-aggregate-put-line
     put-line-requires
     same-length
