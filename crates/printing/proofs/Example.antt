@@ -19,7 +19,8 @@ use Rattle.numbers.specs.Integers.{integerOf}
 use Rattle.numbers.specs.Numbers.{readNumber}
 use Rattle.value.specs.Values.{startsNumber, startOf, ofString, ofNumber, valueWith, valueOf}
 use Rattle.card.specs.Keywords.{hasHigh, classOf}
-use Rattle.card.specs.Cards.{otherOf, continuationOf, cardOf}
+use Rattle.splitting.specs.Columns.{firstByte}
+use Rattle.card.specs.Cards.{otherOf, continuationOf, unplacedOf, cardOf}
 use Rattle.joining.specs.Words.{endsOpen, addsNothing, joinText, joinComment, opens, joinWords}
 use Rattle.joining.specs.Lookup.{joinOn, lookup}
 use Rattle.roles.specs.Cards.{cardsIn, isBadLength}
@@ -54,7 +55,7 @@ table =
     ("SIZE I 12" ∷ "KIT S FKM-75" ∷ "2 keywords" ∷ [])
     ∷ row ("KIT     = 1" ∷ "SIZE    = ''" ∷ "KIT     = 2" ∷ "END" ∷ []) ("KIT I 2" ∷ "SIZE S" ∷ "2 keywords" ∷ [])
     ∷ row ("END" ∷ "KIT     = 1" ∷ []) ("0 keywords" ∷ [])
-    ∷ row ("KIT     = 'FKM'" ∷ "KIT     = 'FKM" ∷ "END" ∷ []) ("refused 3 at 1" ∷ [])
+    ∷ row ("KIT     = 'FKM'" ∷ "KIT     = 'FKM" ∷ "END" ∷ []) ("refused 3 at 1:10" ∷ [])
     ∷ row ("KIT     = 'FKM'" ∷ []) ("refused 10 at 1" ∷ [])
     ∷ []
 
@@ -62,7 +63,7 @@ table =
 pub examples : map (λ (r : Row). outputOf (cards (r .header))) table ≡ map (λ (r : Row). lines (r .printed)) table
 unfolding cards lines isSpace isBlank isPrintable isDigit isZero shown dToE trimStart leading consTrimmed trimEnd trim same stem endsWith
     filled after scanFrom byteClass splitOf settledOf opened unopened stringOf isSign isNegative unsigned isDigits digitsValueFrom integerOf
-    readNumber startsNumber startOf ofString ofNumber valueWith valueOf hasHigh classOf otherOf continuationOf cardOf
+    readNumber startsNumber startOf ofString ofNumber valueWith valueOf hasHigh classOf otherOf continuationOf firstByte unplacedOf cardOf
     endsOpen addsNothing joinText joinComment opens joinWords joinOn lookup cardsIn isBadLength headerFrom headerOf
     placeIn listFrom listOf digitsBefore decimalDigits entryLine countLine refusedLine inOrder outputOf
 examples = refl
@@ -76,7 +77,7 @@ pub example-fed : printedOf false fed ∷ printedOf true fed ∷ []
     ≡ map lines (("A" ∷ "KIT S S FAKE" ∷ "1 keywords" ∷ []) ∷ ("A\\x0AKIT S S FAKE" ∷ "1 keywords" ∷ []) ∷ [])
 unfolding cards lines isSpace isBlank isPrintable isDigit isZero shown dToE trimStart leading consTrimmed trimEnd trim same stem endsWith
     filled after scanFrom byteClass splitOf settledOf opened unopened stringOf isSign isNegative unsigned isDigits digitsValueFrom integerOf
-    readNumber startsNumber startOf ofString ofNumber valueWith valueOf hasHigh classOf otherOf continuationOf cardOf
+    readNumber startsNumber startOf ofString ofNumber valueWith valueOf hasHigh classOf otherOf continuationOf firstByte unplacedOf cardOf
     endsOpen addsNothing joinText joinComment opens joinWords joinOn lookup cardsIn isBadLength headerFrom headerOf
     placeIn listFrom listOf digitsBefore decimalDigits entryLine countLine refusedLine inOrder escapedByte escaped printedLine printedOf
 example-fed = refl
