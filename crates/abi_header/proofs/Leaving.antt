@@ -28,7 +28,8 @@ same x = record { was = x; left = x }
 -- ---- where END stands
 
 -- the answer that an arm knows is the answer
-pub header-by : {x a b : Header} (column : ℕ) {o : HeaderOutcome} → a ≡ b → a ≡ x → o ≡ headerTold b column → o ≡ headerTold x column
+pub header-by : {x a b : Header} (column : ℕ) {o : HeaderOutcome} → a ≡ b → a ≡ x → o ≡ headerTold b column
+    → o ≡ headerTold x column
 header-by column e g w = w ∙ ap (λ (y : Header). headerTold y column) (sym e ∙ g)
 
 -- ---- an entry
@@ -39,7 +40,8 @@ pub by : (l : Looked) (digits out : Lent (List ℕ)) (number : Lent ℤ) (column
 by l digits out number column r e w = rw e w
 
 module _
-    (read : List ℕ → List ℕ → LookupOutcome) (text comment digits out : Lent (List ℕ)) (number : Lent ℤ) (column : Lent ℕ) where
+    (read : List ℕ → List ℕ → LookupOutcome)
+    (text comment digits out : Lent (List ℕ)) (number : Lent ℤ) (column : Lent ℕ) where
   abbrev fit : Bool
   fit = entryFits (digits .was) (out .was)
 

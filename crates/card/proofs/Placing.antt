@@ -19,11 +19,10 @@ use Rattle.splitting.specs.declared.Quoted.{Quoted}
 use Rattle.splitting.specs.declared.Quoted.the-variants as Q
 use Rattle.splitting.specs.declared.SplitAnswer.{SplitAnswer}
 use Rattle.splitting.specs.declared.SplitAnswer.the-variants as S
-use Rattle.splitting.specs.Split.{splitOf}
 use Rattle.splitting.specs.Strings.{stringOf}
 use Rattle.splitting.specs.Columns.{firstByte, textColumn, splitPlaced, quotedPlaced, atByte, stringFrom}
 use Rattle.splitting.proofs.Refusing.{Led, not-closed, not-opened, complex, not-quoted, InText, odd, led, QuotedBy, SplitBy}
-use Rattle.splitting.proofs.Refusing.{string-led, split-in-text, led-first, placed-alike}
+use Rattle.splitting.proofs.Refusing.{string-led, led-first, placed-alike}
 use Rattle.value.specs.declared.ValueAnswer.{ValueAnswer}
 use Rattle.value.specs.declared.ValueAnswer.the-variants as W
 use Rattle.value.specs.declared.ValueRead.{ValueRead}
@@ -68,16 +67,17 @@ module _ (from : ℕ) (c : List ℕ) where
   text-in x (led h) = sym (led-first from (drop from c) x h) ∙ led-in x h
 
   -- a refused split
-  refused-in : (x : Fault) → InText x → cardRefused (placed (textColumn from (drop from c)) x) ≡ cardRefused (placed (columnIn from c) x)
+  refused-in : (x : Fault) → InText x
+      → cardRefused (placed (textColumn from (drop from c)) x) ≡ cardRefused (placed (columnIn from c) x)
   refused-in x h = ap cardRefused (placed-alike (textColumn from (drop from c)) (columnIn from c) x (text-in x h))
 
   -- a value
   pub value-in : (dotted : Bool) (name : Text)
       → ofValue dotted name (valueFrom from (drop from c)) ≡ cardPlaced (columnIn from c) (ofValue dotted name (valueOf (drop from c)))
   value-in dotted name =
-      let r = valueOf (drop from c) in
-      ap (ofValue dotted name) (value-alike (textColumn from (drop from c)) (columnIn from c) InText text-in r (value-in-text (drop from c)))
-      ∙ go (r .answer) r
+      let t = drop from c in
+      let r = valueOf t in
+      ap (ofValue dotted name) (value-alike (textColumn from t) (columnIn from c) InText text-in r (value-in-text t)) ∙ go (r .answer) r
     where
       go : (a : ValueAnswer) (r : ValueRead)
           → ofAnswer (valueAnswerPlaced (columnIn from c) a) dotted name (valuePlaced (columnIn from c) r)

@@ -7,7 +7,6 @@ use mathlib.Core.Bool.{Bool, true, false, cond, true≢false}
 use mathlib.Core.List.{List, [], _∷_}
 use lib.Dec.{leb}
 use lib.ListN.{length, drop, length-drop}
-use Rattle.refusal.specs.declared.Column.{Column}
 use Rattle.refusal.specs.declared.Column.the-variants.{At}
 use Rattle.refusal.specs.declared.Fault.{Fault}
 use Rattle.refusal.specs.declared.Refusal.the-variants as R
@@ -34,7 +33,7 @@ use Rattle.card.specs.declared.Class.{Class}
 use Rattle.card.specs.declared.Class.the-variants as K
 use Rattle.card.specs.Keywords.{firstHigh, hasHigh, keywordOf, classOf}
 use Rattle.card.specs.Columns.{highFrom, equalsOf, equalsByte, behind, textFrom, columnIn, columnOf}
-use Rattle.card.specs.Cards.{cardRefused, byClass, answerPlaced, unplacedOf, cardOf}
+use Rattle.card.specs.Cards.{cardRefused, byClass, lowOf, answerPlaced, unplacedOf, cardOf}
 use Rattle.card.proofs.Placing.{RefusedBy, led-in, text-in}
 use Rattle.card.proofs.Refusing.{continued-by, extension-by, hierarch-by, other-by, empty-by}
 
@@ -108,6 +107,6 @@ module _ (c : List ℕ) (whole : length c ≡ size) where
 
       by-high : (t : Bool) → hasHigh c ≡ t
           → RefusedBy (λ (x : Fault). Within (columnOf c (x .why)))
-          (cond t (cardRefused (faultOf R.HighByte)) (byClass (classOf (keywordOf c)) (textOf (keywordOf c)) c) .answer)
+          (cond t (cardRefused (faultOf R.HighByte)) (lowOf c) .answer)
       by-high true e = high-within c 0 e (omega arith)
       by-high false e = class-within (classOf (keywordOf c)) (textOf (keywordOf c))

@@ -136,9 +136,13 @@ byClass Hierarch name c = hierarchOf c
 byClass End name c = cardAs C.End name (textOf [])
 byClass Other name c = otherOf name c
 
+-- a card without a byte of 128 or more, by what its keyword says
+abbrev pub lowOf : List ℕ → CardRead
+lowOf c = byClass (classOf (keywordOf c)) (textOf (keywordOf c)) c
+
 -- a card by its bytes, a refusal without its column
 unfoldable pub unplacedOf : List ℕ → CardRead
-unplacedOf c = cond (hasHigh c) (cardRefused (faultOf R.HighByte)) (byClass (classOf (keywordOf c)) (textOf (keywordOf c)) c)
+unplacedOf c = cond (hasHigh c) (cardRefused (faultOf R.HighByte)) (lowOf c)
 
 -- ---- the column beside a refusal
 

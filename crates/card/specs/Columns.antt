@@ -1,4 +1,4 @@
--- The byte of a card at which it is refused (SPECIFICATION 2.3), for each refusal, from the card's bytes alone.
+-- The byte of a card at which it is refused (SPECIFICATION 2.4), for each refusal, from the card's bytes alone.
 use Prim.Native.Nat.{ℕ, suc, _+_}
 use Prim.Native.Char.{code}
 use mathlib.Core.Bool.{cond}

@@ -4,10 +4,10 @@ ghost use Prim.Native.Nat.{_≤_};
 ghost use lib.ListN.{length};
 ghost use Rattle.text.specs.Text.{size, textOf};
 ghost use Rattle.splitting.specs.Columns.{atByte};
-ghost use Rattle.card.specs.Keywords.{keywordOf, classOf, dottedName};
+ghost use Rattle.card.specs.Keywords.{classOf, dottedName};
 ghost use Rattle.card.specs.Columns.{highFrom, equalsOf, behind, columnIn, columnOf};
 ghost use Rattle.card.specs.Cards.{cardRefused, cardAs, cardWith, ofValue, remarkOf, emptyOf, stringCard, continuationOf};
-ghost use Rattle.card.specs.Cards.{quotedCard, extensionOf, hierarchOf, otherOf, byClass, cardPlaced, cardOf};
+ghost use Rattle.card.specs.Cards.{quotedCard, extensionOf, hierarchOf, otherOf, lowOf, cardPlaced, cardOf};
 use numbers::Value;
 use refusal::Column;
 use refusal::Fault;
@@ -94,8 +94,7 @@ pub fn read_card(card: &[u8; 80]) -> CardRead
 
 // A card without a byte of 128 or more, by what its keyword says.
 fn low_card(card: &[u8; 80]) -> CardRead
-    ensures { λ r. ⌜ r ≡ cardPlaced (columnOf (now (card .entry)))
-        (byClass (classOf (keywordOf (now (card .entry)))) (textOf (keywordOf (now (card .entry)))) (now (card .entry))) ⌝ }
+    ensures { λ r. ⌜ r ≡ cardPlaced (columnOf (now (card .entry))) (lowOf (now (card .entry))) ⌝ }
 {
     let whole = &card[..];
     let word = text::trimmed(text::first_of(whole, KEYWORD), Cut::Blanks);

@@ -1,6 +1,7 @@
 // Reads the cards of the readings at the edges (SPECIFICATION 15), and those that show the other rules on one card (SPECIFICATION 3 to 8).
 // It prints a line for each: the card without the spaces that fill it up, and the reading: its class, its name, its value
-// or text, and its comment with the unit; or the refusal's number. A byte outside 32..126 is printed in hexadecimal.
+// or text, and its comment with the unit; or the refusal's number and the byte of the card at which it is met. A byte outside 32..126 is
+// printed in hexadecimal.
 use card::CARD;
 use card::Card;
 use card::CardAnswer;
@@ -8,6 +9,8 @@ use card::CardRead;
 use libc::STDOUT_FILENO;
 use numbers::Size;
 use numbers::Value;
+use refusal::Column;
+use refusal::Fault;
 use test_output::put;
 use test_output::put_integer;
 use text::Text;
@@ -26,6 +29,9 @@ fn main() {
     hierarch_rows();
     string_card_rows();
     remark_rows();
+    byte_rows();
+    text_rows();
+    order_rows();
 }
 
 // ---- the rows
@@ -148,6 +154,58 @@ fn remark_rows() {
     row(b"");
 }
 
+// The byte of a refused byte: the first of 128 or more, and the one where splitting stops.
+fn byte_rows() {
+    row(b"A       = '\xff\x80'");
+    row(b"END     \x80\xff");
+    row(b"COMMENT a\x80\x80b");
+    row(b"\x80");
+    row(b"                                                                               \x80");
+    row(b"A       = \x0b");
+    row(b"A       =  \x0b");
+    row(b"A       = \t\x0b");
+    row(b"A       = 5 \x0b6");
+    row(b"A       =  'a' \t/");
+    row(b"A       = 555555555555555555555555555555555555555555555555555555555555555555555\x0b");
+    row(b"CONTINUE a\x0b");
+    row(b"HIERARCH A = 5\x0b");
+}
+
+// The byte of a refused text: its first that is no blank. And that of a HIERARCH card without its = or its name.
+fn text_rows() {
+    row(b"A       = 'a");
+    row(b"A       =   'a' b");
+    row(b"A       = \t'");
+    row(b"CONTINUE'a");
+    row(b"CONTINUE  'a");
+    row(b"HIERARCH A = '");
+    row(b"CONTINUEa'");
+    row(b"CONTINUE  a'");
+    row(b"A       = (");
+    row(b"A       =   (1,2)");
+    row(b"HIERARCH A=(");
+    row(b"HIERARCH A  =  (");
+    row(b"HIERARCH A B");
+    row(b"HIERARCH =5");
+    row(b"HIERARCH   =5");
+    row(b"XTENSION=");
+    row(b"XTENSION=  /");
+    row(b"XTENSION= abc");
+    row(b"XTENSION=   '");
+}
+
+// Two refusals on a card: the one that comes first, and its byte.
+fn order_rows() {
+    row(b"HIERARCH A\x80");
+    row(b"A       = (\x0b\x80");
+    row(b"HIERARCH A\x0b");
+    row(b"HIERARCH   = \x0b");
+    row(b"A       = '' \x0b'");
+    row(b"CONTINUE a\x0b'");
+    row(b"A       = (\x0b");
+    row(b"XTENSION= a\x0b");
+}
+
 // ---- a row
 
 // Prints a card and its reading.
@@ -176,11 +234,20 @@ fn put_reading(read: CardRead) {
     let answer = read.answer;
     match answer {
         CardAnswer::Read(card) => put_card(card, read),
-        CardAnswer::Refused(fault) => {
-            put(b"refusal ");
-            io::print_decimal(STDOUT_FILENO, fault.number() as u64);
-        }
+        CardAnswer::Refused(fault) => put_refusal(fault),
     }
+}
+
+// The number, and the byte of the card. Every refusal of a card has one.
+fn put_refusal(fault: Fault) {
+    let column = fault.column;
+    put(b"refusal ");
+    io::print_decimal(STDOUT_FILENO, fault.number() as u64);
+    let Column::At(byte) = column else {
+        return;
+    };
+    put(b" at ");
+    io::print_decimal(STDOUT_FILENO, byte as u64);
 }
 
 // The class, the name, the value or the text, and the comment with its unit.

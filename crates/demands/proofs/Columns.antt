@@ -1,5 +1,6 @@
 -- The column stands beside the answers: taking it away commutes with reading a header, looking up, reading an entry, listing and naming.
-use Prim.Native.Nat.{ℕ, zero, suc, _+_, _*_, _/_, _≤_}
+use Prim.Native.Nat.{ℕ, zero, suc, _+_, _*_, _/_, _<_, _≤_}
+use native.Mathlib.Numerals.{add-one}
 use native.Mathlib.Omega.{arith}
 use mathlib.Core.Path.{_≡_, refl, sym, ap, ap₂, subst, _∙_}
 use mathlib.Core.Bool.{Bool, true, false, cond, _&&_}
@@ -7,7 +8,7 @@ use mathlib.Core.List.{List, [], _∷_, map}
 use mathlib.Core.Option.{Option, none, some}
 use lib.Dec.{leb}
 use lib.ListN.{length, getD, take, drop, length-drop}
-use lib.Seq.{sets, drop-drop, length-take-le}
+use lib.Seq.{sets, getD-drop, length-take-le}
 use Rattle.refusal.specs.declared.Column.{Column}
 use Rattle.refusal.specs.declared.Column.the-variants.{At, Absent}
 use Rattle.refusal.specs.declared.Fault.{Fault}
@@ -27,8 +28,8 @@ use Rattle.card.proofs.Placing.{RefusedBy}
 use Rattle.card.proofs.Refusing.{nowhere, card-unplaced}
 use Rattle.card.proofs.Within.{card-within}
 use Rattle.roles.specs.Roles.{Words, Held, Role, entry, more, neutral, last, refused, roleBy, roleIn, roleRead, roleOf}
-use Rattle.roles.specs.Cards.{cardsIn, cardsOf, cardNo, rolesOf, isBadLength}
-use Rattle.roles.proofs.Cards.{drop-map}
+use Rattle.roles.specs.Cards.{cardsOf, cardNo, rolesOf, isBadLength}
+use Rattle.roles.proofs.Cards.{drop-map, role-count, role-first, roles-from, role-is}
 use Rattle.roles.proofs.Placing.{rolePlaced, role-placed}
 use Rattle.joining.specs.Words.{opens, joinWords}
 use Rattle.joining.specs.Lookup.{joinOn, whole, ifSame, orElse, lookup}
@@ -40,10 +41,12 @@ use Rattle.entries.specs.declared.LookupAnswer.the-variants as L
 use Rattle.entries.specs.Answers.{LookupOutcome, leftBy, bytesIn, foundAs, untouched, written, given, lookedUp, lookupOf}
 use Rattle.entries.specs.Answers.{entryHead, metOn, metHead, unlessMet, entryFrom, entryOf}
 use Rattle.listing.specs.Listing.{Table, nameOf, placeIn, put, putRole, listFrom, tabled, empty, byHeader, listOf}
-use Rattle.naming.specs.Naming.{NameOutcome, unnamed, nameWritten, nameBy, nameAt}
+use Rattle.naming.specs.declared.Named.the-variants as N
+use Rattle.naming.specs.Naming.{NameOutcome, namingBy, unnamed, nameWritten, nameBy, nameAt}
 use Rattle.demands.specs.Columns.{alone, stopAlone, headerAlone, outcomeAlone, listAlone, namingAlone, unplacedRoles}
-use Rattle.demands.specs.Columns.{CardAlone, CardColumn, OnCard, CardWithin, HeaderAlone, HeaderColumn, HeaderWithin}
-use Rattle.demands.specs.Columns.{LookupAlone, EntryAlone, ListAlone, NameAlone}
+use Rattle.demands.specs.Columns.{CardAlone, HeaderAlone, LookupAlone, EntryAlone, ListAlone, NameAlone}
+use Rattle.demands.specs.Columns.{OnCard, ColumnAt, headerColumn, answerColumn, nameColumn}
+use Rattle.demands.specs.Columns.{CardColumn, HeaderColumn, LookupColumn, EntryColumn, NameColumn}
 
 -- ---- a card
 
@@ -58,19 +61,6 @@ card-alone c =
     ap (λ (a : CardAnswer). record { answer = a; name = r .name; text = r .text; commented = r .commented; comment = r .comment })
     (alone-nowhere (r .answer))
     ∙ card-unplaced c
-
--- a refusal has the column of its card
-abbrev Columned : List ℕ → CardAnswer → Type 0
-Columned c (A.Read card) = Unit {0}
-Columned c (A.Refused x) = x .column ≡ columnOf c (x .why)
-
-pub card-column : CardColumn
-unfolding cardOf
-card-column c x e = go (unplacedOf c .answer) e
-  where
-    go : (a : CardAnswer) → answerPlaced (columnOf c) a ≡ A.Refused x → x .column ≡ columnOf c (x .why)
-    go (A.Read card) e = cc
-    go (A.Refused y) e = subst (Columned c) e refl
 
 -- ---- roles
 abbrev bare : Role → Role
@@ -278,7 +268,8 @@ pub name-alone : NameAlone
 unfolding nameAt nameWritten
 name-alone h i name = go (isBadLength (length h))
   where
-    written-alone : (b : Bool) (o p : NameOutcome) → namingAlone o ≡ o → namingAlone p ≡ p → namingAlone (cond b o p) ≡ cond b o p
+    written-alone : (b : Bool) (o p : NameOutcome) → namingAlone o ≡ o → namingAlone p ≡ p
+        → namingAlone (cond b o p) ≡ cond b o p
     written-alone true o p d e = d
     written-alone false o p d e = e
 
@@ -307,53 +298,188 @@ on-card : (x : Column) → Within x → OnCard x
 on-card (At b) h = record { byte = b; is = refl; within = h }
 on-card Absent h = absurd h
 
-pub card-on : CardWithin
-card-on c x whole e = on-card (x .column) (subst (RefusedBy (λ (y : Fault). Within (y .column))) e (card-within c whole))
+-- a refusal that is not of a card has none
+off-card : (c : List ℕ) (x : Fault) → x .column ≡ columnOf c (x .why) → (numberOf (x .why) ≤ 8 → ⊥) → ColumnAt c x
+off-card c x e high = record { column = e; within = λ (low : numberOf (x .why) ≤ 8). absurd (high low) }
 
--- a refused header has the column of the card at which it is refused, and 1 to 8 have one
-abbrev Told : List ℕ → Header → Type 0
-Told h (Accepted end) = Unit {0}
-Told h (Refused s) =
-    (s .fault .column ≡ columnOf (cardNo h (s .card)) (s .fault .why)) × (numberOf (s .fault .why) ≤ 8 → OnCard (s .fault .column))
+abbrev cardColumn : List ℕ → CardAnswer → Type 0
+cardColumn c (A.Read card) = Unit {0}
+cardColumn c (A.Refused x) = ColumnAt c x
 
-from-told : (h : List ℕ) (n i : ℕ) → (i + n) * 80 ≤ length h → Told h (headerFrom (map roleOf (cardsIn n (drop (i * 80) h))) i)
-unfolding cardsIn headerFrom
-from-told h zero i few = (refl, λ low. absurd (omega arith))
-from-told h (suc n) i few =
-    let next : i * 80 + 80 ≡ suc i * 80 = omega arith in
-    let rest = drop-drop 80 (i * 80) h ∙ ap (λ (k : ℕ). drop k h) next in
-    let later =
-        subst (λ (l : List ℕ). Told h (headerFrom (map roleOf (cardsIn n l)) (suc i))) (sym rest) (from-told h n (suc i) (omega arith))
-    in
-    go (cardOf (cardNo h i) .answer) (cardOf (cardNo h i)) refl later
+card-told : (c : List ℕ) → length c ≡ 80 → cardColumn c (cardOf c .answer)
+unfolding cardOf
+card-told c whole = go (unplacedOf c .answer) (card-within c whole)
   where
-    full : length (cardNo h i) ≡ 80
-    full = length-take-le 80 (drop (i * 80) h) (omega (arith, length-drop (i * 80) h))
+    go : (a : CardAnswer) → RefusedBy (λ (y : Fault). Within (y .column)) (answerPlaced (columnOf c) a)
+        → cardColumn c (answerPlaced (columnOf c) a)
+    go (A.Read card) h = tt
+    go (A.Refused x) h = record { column = refl; within = λ (low : numberOf (x .why) ≤ 8). on-card (columnOf c (x .why)) h }
 
-    go : (a : CardAnswer) (r : CardRead) → cardOf (cardNo h i) .answer ≡ a
-        → Told h (headerFrom (map roleOf (cardsIn n (drop 80 (drop (i * 80) h)))) (suc i))
-        → Told h (headerFrom (roleIn (roleBy a) r ∷ map roleOf (cardsIn n (drop 80 (drop (i * 80) h)))) i)
-    go (A.Read (C.Value v)) r e later = later
-    go (A.Read (C.Hierarch v)) r e later = later
-    go (A.Read C.Xtension) r e later = later
-    go (A.Read C.Continuation) r e later = later
-    go (A.Read C.Comment) r e later = later
-    go (A.Read C.History) r e later = later
-    go (A.Read C.Space) r e later = later
-    go (A.Read C.Undefined) r e later = later
-    go (A.Read C.End) r e later = tt
-    go (A.Refused x) r e later = (card-column (cardNo h i) x e, λ low. card-on (cardNo h i) x full e)
+pub card-column : CardColumn
+card-column c x whole e = subst (cardColumn c) e (card-told c whole)
 
-header-told : (h : List ℕ) → Told h (headerOf h)
-unfolding headerOf
-header-told h = go (isBadLength (length h))
-  where
-    go : (b : Bool) → Told h (cond b (Refused (stopAt (faultOf R.HeaderLength) 0)) (headerFrom (rolesOf h) 0))
-    go true = (refl, λ low. absurd (omega arith))
-    go false = from-told h (length h / 80) 0 (omega arith)
+-- ---- the refused cards of a header, by number
+module _ (h : List ℕ) where
+  abbrev roleColumn : ℕ → Role → Type 0
+  roleColumn i (entry n v) = Unit {0}
+  roleColumn i (more t c) = Unit {0}
+  roleColumn i neutral = Unit {0}
+  roleColumn i last = Unit {0}
+  roleColumn i (refused x) = ColumnAt (cardNo h i) x
+
+  role-told : (i : ℕ) → i < length h / 80 → roleColumn i (roleOf (cardNo h i))
+  role-told i within =
+      let whole = length-take-le 80 (drop (i * 80) h) (omega (arith, length-drop (i * 80) h)) in
+      go (cardOf (cardNo h i) .answer) (cardOf (cardNo h i)) (card-told (cardNo h i) whole)
+    where
+      go : (a : CardAnswer) (r : CardRead) → cardColumn (cardNo h i) a → roleColumn i (roleIn (roleBy a) r)
+      go (A.Read (C.Value v)) r told = tt
+      go (A.Read (C.Hierarch v)) r told = tt
+      go (A.Read C.Xtension) r told = tt
+      go (A.Read C.Continuation) r told = tt
+      go (A.Read C.Comment) r told = tt
+      go (A.Read C.History) r told = tt
+      go (A.Read C.Space) r told = tt
+      go (A.Read C.Undefined) r told = tt
+      go (A.Read C.End) r told = tt
+      go (A.Refused x) r told = told
+
+  -- the first of the roles from number i on is that of card i, and the others follow
+  module _ (i : ℕ) (r : Role) (rs : List Role) (e : drop i (rolesOf h) ≡ r ∷ rs) where
+    within : i < length h / 80
+    within =
+        let some : length (drop i (rolesOf h)) ≡ suc (length rs) = ap length e in
+        omega (arith, some, length-drop i (rolesOf h), role-count h)
+
+    first-told : roleColumn i r
+    first-told = subst (roleColumn i) (sym (role-is h i within) ∙ role-first (rolesOf h) i r rs e) (role-told i within)
+
+    follow : drop (suc i) (rolesOf h) ≡ rs
+    follow =
+        ap (λ (k : ℕ). drop k (rolesOf h)) (sym (add-one i))
+        ∙ ap (drop 1) (sym (roles-from h i within))
+        ∙ ap (drop 1) e
+
+  -- a header's refusal
+  from-told : (rs : List Role) (i : ℕ) → drop i (rolesOf h) ≡ rs → headerColumn h (headerFrom rs i)
+  unfolding headerFrom
+  from-told [] i e = off-card (cardNo h i) (faultOf R.NoEnd) refl (λ (low : 10 ≤ 8). omega arith)
+  from-told (entry n v ∷ rs) i e = from-told rs (suc i) (follow i (entry n v) rs e)
+  from-told (more t c ∷ rs) i e = from-told rs (suc i) (follow i (more t c) rs e)
+  from-told (neutral ∷ rs) i e = from-told rs (suc i) (follow i neutral rs e)
+  from-told (last ∷ rs) i e = tt
+  from-told (refused x ∷ rs) i e = first-told i (refused x) rs e
+
+  -- a refused card that an entry meets
+  abbrev metColumn : Option Stop → Type 0
+  metColumn none = Unit {0}
+  metColumn (some s) = ColumnAt (cardNo h (s .card)) (s .fault)
+
+  met-either : (b : Bool) (m : Option Stop) → metColumn m → metColumn (cond b m none)
+  met-either true m told = told
+  met-either false m told = tt
+
+  met-on-told : (w : Words) (rs : List Role) (j : ℕ) → drop j (rolesOf h) ≡ rs → metColumn (metOn w rs j)
+  unfolding metOn
+  met-on-told w [] j e = tt
+  met-on-told w (entry n v ∷ rs) j e = tt
+  met-on-told w (more t c ∷ rs) j e =
+      met-either (opens w) (metOn (joinWords w t c) rs (suc j))
+      (met-on-told (joinWords w t c) rs (suc j) (follow j (more t c) rs e))
+  met-on-told w (neutral ∷ rs) j e = met-on-told w rs (suc j) (follow j neutral rs e)
+  met-on-told w (last ∷ rs) j e = tt
+  met-on-told w (refused x ∷ rs) j e = met-either (opens w) (some (stopAt x j)) (first-told j (refused x) rs e)
+
+  met-told : (rs : List Role) (i : ℕ) → drop i (rolesOf h) ≡ rs → metColumn (metHead rs i)
+  met-told [] i e = tt
+  met-told (entry n v ∷ rs) i e = met-on-told (v .words) rs (suc i) (follow i (entry n v) rs e)
+  met-told (more t c ∷ rs) i e = tt
+  met-told (neutral ∷ rs) i e = tt
+  met-told (last ∷ rs) i e = tt
+  met-told (refused x ∷ rs) i e = first-told i (refused x) rs e
+
+  -- the refusal of a bad length
+  length-told : ColumnAt (cardNo h 0) (faultOf R.HeaderLength)
+  length-told = off-card (cardNo h 0) (faultOf R.HeaderLength) refl (λ (low : 9 ≤ 8). omega arith)
+
+-- there is no card behind the last
+role-missing : (roles : List Role) (i : ℕ) → drop i roles ≡ [] → getD roles i neutral ≡ neutral
+role-missing roles i e =
+    let z : i ≡ i + 0 = omega arith in
+    ap (λ (k : ℕ). getD roles k neutral) z ∙ sym (getD-drop i roles 0 neutral) ∙ ap (λ (l : List Role). getD l 0 neutral) e
+
+-- ---- the statements
 
 pub header-column : HeaderColumn
-header-column h s e = subst (Told h) e (header-told h) .0
+unfolding headerOf
+header-column h = go (isBadLength (length h))
+  where
+    go : (b : Bool) → headerColumn h (cond b (Refused (stopAt (faultOf R.HeaderLength) 0)) (headerFrom (rolesOf h) 0))
+    go true = length-told h
+    go false = from-told h (rolesOf h) 0 refl
 
-pub header-on : HeaderWithin
-header-on h s e = subst (Told h) e (header-told h) .1
+given-told : (h : List ℕ) (o : Option Held) (text comment : List ℕ) → answerColumn h (given o text comment .answer .answer)
+unfolding written
+given-told h none text comment = refl
+given-told h (some v) text comment =
+    go (leb (length (v .words .text)) (length text) && leb (length (bytesIn (v .words .comment))) (length comment))
+    (leftBy (foundAs v) (sets text 0 (v .words .text)) (sets comment 0 (bytesIn (v .words .comment)))) tt
+  where
+    go : (b : Bool) (o : LookupOutcome) → answerColumn h (o .answer .answer)
+        → answerColumn h (cond b o (untouched (L.Refused (faultOf R.BufferShort)) text comment) .answer .answer)
+    go true o told = told
+    go false o told = refl
+
+pub lookup-column : LookupColumn
+unfolding lookupOf
+lookup-column h name text comment = go (headerOf h) (header-column h)
+  where
+    go : (x : Header) → headerColumn h x → answerColumn h (lookedUp x (rolesOf h) name text comment .answer .answer)
+    go (Accepted end) told = given-told h (lookup name (rolesOf h)) text comment
+    go (Refused s) told = told
+
+pub entry-column : EntryColumn
+unfolding entryOf
+entry-column h i text comment = go (isBadLength (length h))
+  where
+    by : (m : Option Stop) (o : Option Held) → metColumn h m
+        → answerColumn h (unlessMet m (given o text comment) text comment .answer .answer)
+    by none o told = given-told h o text comment
+    by (some s) o told = told
+
+    go : (b : Bool)
+        → answerColumn h
+        ((cond b (untouched (L.Header (stopAt (faultOf R.HeaderLength) 0)) text comment)
+        (entryFrom (drop i (rolesOf h)) i text comment)) .answer .answer)
+    go true = length-told h
+    go false = by (metHead (drop i (rolesOf h)) i) (entryHead (drop i (rolesOf h))) (met-told h (drop i (rolesOf h)) i refl)
+
+pub name-column : NameColumn
+unfolding nameAt nameWritten
+name-column h i name = go (isBadLength (length h))
+  where
+    short : (b : Bool) (own : List ℕ)
+        → nameColumn (cardNo h i)
+        ((cond b (namingBy (N.Bears (length own)) (sets name 0 own)) (unnamed (faultOf R.BufferShort) name)) .answer)
+    short true own = tt
+    short false own = off-card (cardNo h i) (faultOf R.BufferShort) refl (λ (low : 13 ≤ 8). omega arith)
+
+    missing : ColumnAt (cardNo h i) (faultOf R.NameNotFound)
+    missing = off-card (cardNo h i) (faultOf R.NameNotFound) refl (λ (low : 12 ≤ 8). omega arith)
+
+    by : (r : Role) → roleColumn h i r → nameColumn (cardNo h i) (nameBy r name .answer)
+    by (entry own v) told = short (leb (length own) (length name)) own
+    by (more t c) told = missing
+    by neutral told = missing
+    by last told = missing
+    by (refused x) told = told
+
+    role : (rs : List Role) → drop i (rolesOf h) ≡ rs → roleColumn h i (getD (rolesOf h) i neutral)
+    role [] e = subst (roleColumn h i) (sym (role-missing (rolesOf h) i e)) tt
+    role (r ∷ rs) e = subst (roleColumn h i) (sym (role-first (rolesOf h) i r rs e)) (first-told h i r rs e)
+
+    go : (b : Bool)
+        → nameColumn (cardNo h i)
+        ((cond b (unnamed (faultOf R.HeaderLength) name) (nameBy (getD (rolesOf h) i neutral) name)) .answer)
+    go true = off-card (cardNo h i) (faultOf R.HeaderLength) refl (λ (low : 9 ≤ 8). omega arith)
+    go false = by (getD (rolesOf h) i neutral) (role (drop i (rolesOf h)) refl)

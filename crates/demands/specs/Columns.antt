@@ -1,11 +1,11 @@
--- The column stands beside the answers and changes none of them (SPECIFICATION 2.3). Without it each answer is the one that the cards give
+-- The column stands beside the answers and changes none of them (SPECIFICATION 2.4). Without it each answer is the one that the cards give
 -- when they are read without columns (`unplacedOf`). Where a card is refused, the column is the one that its bytes give (`columnOf`).
 use Prim.Native.Nat.{ℕ, _<_, _≤_}
 use mathlib.Core.Path.{_≡_}
 use mathlib.Core.List.{List, map}
 use lib.ListN.{length}
 use Rattle.refusal.specs.declared.Column.{Column}
-use Rattle.refusal.specs.declared.Column.the-variants.{At}
+use Rattle.refusal.specs.declared.Column.the-variants.{At, Absent}
 use Rattle.refusal.specs.declared.Fault.{Fault}
 use Rattle.refusal.specs.Numbers.{numberOf, unplaced}
 use Rattle.card.specs.declared.CardAnswer.{CardAnswer}
@@ -29,8 +29,9 @@ use Rattle.naming.specs.declared.Named.{Named}
 use Rattle.naming.specs.declared.Named.the-variants as N
 use Rattle.naming.specs.Naming.{NameOutcome, namingBy, namedBy, nameAt}
 
--- ---- answers without the column
+-- ---- answers without the column: the refusal stands alone, and all else is as it was
 
+-- of a card
 abbrev pub alone : CardAnswer → CardAnswer
 alone (A.Read card) = A.Read card
 alone (A.Refused x) = A.Refused (unplaced x)
@@ -38,6 +39,7 @@ alone (A.Refused x) = A.Refused (unplaced x)
 abbrev pub cardAlone : CardRead → CardRead
 cardAlone r = record { answer = alone (r .answer); name = r .name; text = r .text; commented = r .commented; comment = r .comment }
 
+-- of a header
 abbrev pub stopAlone : Stop → Stop
 stopAlone s = stopAt (unplaced (s .fault)) (s .card)
 
@@ -45,6 +47,7 @@ abbrev pub headerAlone : Header → Header
 headerAlone (Accepted end) = Accepted end
 headerAlone (Refused s) = Refused (stopAlone s)
 
+-- of a lookup, and of an entry by its card
 abbrev pub answerAlone : LookupAnswer → LookupAnswer
 answerAlone (L.Found v) = L.Found v
 answerAlone (L.Header s) = L.Header (stopAlone s)
@@ -57,9 +60,11 @@ lookedAlone r =
 abbrev pub outcomeAlone : LookupOutcome → LookupOutcome
 outcomeAlone o = leftBy (lookedAlone (o .answer)) (o .text) (o .comment)
 
+-- of a list
 abbrev pub listAlone : Listing → Listing
 listAlone x = record { header = headerAlone (x .header); first = x .first; last = x .last; count = x .count }
 
+-- of a name
 abbrev pub nameAlone : Named → Named
 nameAlone (N.Bears n) = N.Bears n
 nameAlone (N.Refused x) = N.Refused (unplaced x)
@@ -73,9 +78,44 @@ namingAlone o = namingBy (nameAlone (o .answer)) (o .name)
 abbrev pub CardAlone : Type 0
 CardAlone = (c : List ℕ) → cardAlone (cardOf c) ≡ unplacedOf c
 
--- the column is the one that the card's bytes give
-abbrev pub CardColumn : Type 0
-CardColumn = (c : List ℕ) (x : Fault) → cardOf c .answer ≡ A.Refused x → x .column ≡ columnOf c (x .why)
+-- ---- a header
+
+-- what each card is to the header, read without columns
+abbrev pub unplacedRoles : List ℕ → List Role
+unplacedRoles h = map (λ (c : List ℕ). roleRead (unplacedOf c)) (cardsOf h)
+
+-- the header by those roles
+abbrev pub unplacedHeader : List ℕ → Header
+unplacedHeader h = headerBy (length h) (unplacedRoles h)
+
+-- without its column a header's answer is that one
+abbrev pub HeaderAlone : Type 0
+HeaderAlone = (h : List ℕ) → headerAlone (headerOf h) ≡ unplacedHeader h
+
+-- ---- what is answered of a header, with the same lent buffers
+
+-- looking a name up
+abbrev pub LookupAlone : Type 0
+LookupAlone =
+    (h name text comment : List ℕ)
+    → outcomeAlone (lookupOf h name text comment) ≡ lookedUp (unplacedHeader h) (unplacedRoles h) name text comment
+
+-- reading the entry at card i
+abbrev pub EntryAlone : Type 0
+EntryAlone =
+    (h : List ℕ) (i : ℕ) (text comment : List ℕ)
+    → outcomeAlone (entryOf h i text comment) ≡ entryBy (length h) (unplacedRoles h) i text comment
+
+-- listing the names
+abbrev pub ListAlone : Type 0
+ListAlone = (h : List ℕ) → listAlone (listOf h) ≡ byHeader (unplacedHeader h) (unplacedRoles h)
+
+-- reading the name at card i
+abbrev pub NameAlone : Type 0
+NameAlone =
+    (h : List ℕ) (i : ℕ) (name : List ℕ) → namingAlone (nameAt h i name) ≡ namedBy (length h) (unplacedRoles h) i name
+
+-- ---- where the column stands
 
 -- a byte of a card
 pub record OnCard (x : Column) : Type 0 where
@@ -83,44 +123,39 @@ pub record OnCard (x : Column) : Type 0 where
   pub is : x ≡ At byte
   pub within : byte < 80
 
--- a refused card always has one
-abbrev pub CardWithin : Type 0
-CardWithin = (c : List ℕ) (x : Fault) → length c ≡ 80 → cardOf c .answer ≡ A.Refused x → OnCard (x .column)
+-- the column is the one that the bytes of card c give, so a refusal that is not of a card has none; 1 to 8 always have one
+pub record ColumnAt (c : List ℕ) (x : Fault) : Type 0 where
+  pub column : x .column ≡ columnOf c (x .why)
+  pub within : numberOf (x .why) ≤ 8 → OnCard (x .column)
 
--- ---- a header
+-- of a card of 80 bytes
+abbrev pub CardColumn : Type 0
+CardColumn = (c : List ℕ) (x : Fault) → length c ≡ 80 → cardOf c .answer ≡ A.Refused x → ColumnAt c x
 
--- what each card is to the header, read without columns
-abbrev pub unplacedRoles : List ℕ → List Role
-unplacedRoles h = map (λ (c : List ℕ). roleRead (unplacedOf c)) (cardsOf h)
+-- of a header: by the card at which it is refused
+abbrev pub headerColumn : List ℕ → Header → Type 0
+headerColumn h (Accepted end) = Unit {0}
+headerColumn h (Refused s) = ColumnAt (cardNo h (s .card)) (s .fault)
 
-abbrev pub unplacedHeader : List ℕ → Header
-unplacedHeader h = headerBy (length h) (unplacedRoles h)
-
-abbrev pub HeaderAlone : Type 0
-HeaderAlone = (h : List ℕ) → headerAlone (headerOf h) ≡ unplacedHeader h
-
--- the column of a refused header is that of the card at which it is refused; 9 and 10 have none, and 1 to 8 always have one
 abbrev pub HeaderColumn : Type 0
-HeaderColumn = (h : List ℕ) (s : Stop) → headerOf h ≡ Refused s → s .fault .column ≡ columnOf (cardNo h (s .card)) (s .fault .why)
+HeaderColumn = (h : List ℕ) → headerColumn h (headerOf h)
 
-abbrev pub HeaderWithin : Type 0
-HeaderWithin = (h : List ℕ) (s : Stop) → headerOf h ≡ Refused s → numberOf (s .fault .why) ≤ 8 → OnCard (s .fault .column)
+-- of a lookup and of an entry by its card: 12 and 13 have none
+abbrev pub answerColumn : List ℕ → LookupAnswer → Type 0
+answerColumn h (L.Found v) = Unit {0}
+answerColumn h (L.Header s) = ColumnAt (cardNo h (s .card)) (s .fault)
+answerColumn h (L.Refused x) = x .column ≡ Absent
 
--- ---- what is answered of a header, with the same lent buffers
+abbrev pub LookupColumn : Type 0
+LookupColumn = (h name text comment : List ℕ) → answerColumn h (lookupOf h name text comment .answer .answer)
 
-abbrev pub LookupAlone : Type 0
-LookupAlone =
-    (h name text comment : List ℕ)
-    → outcomeAlone (lookupOf h name text comment) ≡ lookedUp (unplacedHeader h) (unplacedRoles h) name text comment
+abbrev pub EntryColumn : Type 0
+EntryColumn = (h : List ℕ) (i : ℕ) (text comment : List ℕ) → answerColumn h (entryOf h i text comment .answer .answer)
 
-abbrev pub EntryAlone : Type 0
-EntryAlone =
-    (h : List ℕ) (i : ℕ) (text comment : List ℕ)
-    → outcomeAlone (entryOf h i text comment) ≡ entryBy (length h) (unplacedRoles h) i text comment
+-- of the name at card i
+abbrev pub nameColumn : List ℕ → Named → Type 0
+nameColumn c (N.Bears n) = Unit {0}
+nameColumn c (N.Refused x) = ColumnAt c x
 
-abbrev pub ListAlone : Type 0
-ListAlone = (h : List ℕ) → listAlone (listOf h) ≡ byHeader (unplacedHeader h) (unplacedRoles h)
-
-abbrev pub NameAlone : Type 0
-NameAlone =
-    (h : List ℕ) (i : ℕ) (name : List ℕ) → namingAlone (nameAt h i name) ≡ namedBy (length h) (unplacedRoles h) i name
+abbrev pub NameColumn : Type 0
+NameColumn = (h : List ℕ) (i : ℕ) (name : List ℕ) → nameColumn (cardNo h i) (nameAt h i name .answer)

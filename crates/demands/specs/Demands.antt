@@ -4,7 +4,8 @@
 --    check proves of each that it returns and stays within its slices: `entries::lookup`, `entries::read_entry`, `card::read_card`,
 --    `rice::decode` and the others that docs/PROMISES.md lists.
 -- 2. Each answer, and each lent buffer after it, is a definition's: `lookupOf` for a lookup (crates/entries/specs/Answers.antt), whose
---    contract is one equation for the answer and the two buffers.
+--    contract is one equation for the answer and the two buffers. `Columns` beside this file says that the column of a refusal stands
+--    beside the answer and changes nothing of it.
 -- 3. Isolation, stated here: no card of K touches what another name is answered, nor the names of the list and their order.
 use Prim.Native.Nat.{ℕ, suc, _≤_}
 use mathlib.Core.Path.{_≡_}

@@ -1,6 +1,6 @@
 -- The starred rows of SPECIFICATION 15: one table and one statement, proved by computing.
 -- A row is a card, a header of several cards in which KIT is looked up, or a tile. Beside them stand rows of an entry by its card's
--- number.
+-- number, and rows of each refusal of a card with its column (SPECIFICATION 2.4).
 use Prim.Native.Nat.{ℕ}
 use Prim.Native.Char.{code}
 use Prim.Native.String.{String}
@@ -9,15 +9,20 @@ use mathlib.Core.Bool.{Bool, false}
 use mathlib.Core.List.{List, [], _∷_, _++_, map}
 use lib.IntN.{ℤ, pos}
 use lib.ListN.{replicate, take}
+use Rattle.refusal.specs.declared.Column.{Column}
+use Rattle.refusal.specs.declared.Column.the-variants.{At, Absent}
+use Rattle.refusal.specs.declared.Fault.{Fault}
 use Rattle.refusal.specs.Numbers.{numberOf}
-use Rattle.text.specs.Bytes.{ascii, isSpace, isBlank, isPrintable, isDigit, isZero, shown, dToE}
+use Rattle.text.specs.Bytes.{ascii, tab, isSpace, isBlank, isPrintable, isDigit, isZero, shown, dToE}
 use Rattle.text.specs.Trim.{trimStart, leading, consTrimmed, trimEnd, trim}
 use Rattle.text.specs.Same.{same}
 use Rattle.text.specs.Ends.{stem, endsWith}
+use Rattle.text.specs.Place.{placeFrom}
 use Rattle.text.specs.Text.{bytesOf, filled}
 use Rattle.splitting.specs.Scan.{after, scanFrom, byteClass}
 use Rattle.splitting.specs.Split.{splitOf}
 use Rattle.splitting.specs.Strings.{settledOf, opened, unopened, stringOf}
+use Rattle.splitting.specs.Columns.{firstByte}
 use Rattle.numbers.specs.declared.Size.{Size}
 use Rattle.numbers.specs.declared.Size.the-variants.{Finite, Infinite, Nan}
 use Rattle.numbers.specs.declared.Value.{Value}
@@ -33,8 +38,9 @@ use Rattle.card.specs.declared.Card.the-variants as C
 use Rattle.card.specs.declared.CardAnswer.{CardAnswer}
 use Rattle.card.specs.declared.CardAnswer.the-variants.{Read, Refused}
 use Rattle.card.specs.declared.CardRead.{CardRead}
-use Rattle.card.specs.Keywords.{hasHigh, classOf}
-use Rattle.card.specs.Cards.{otherOf, continuationOf, cardOf}
+use Rattle.card.specs.Keywords.{hasHigh, classOf, namePieces, joinPieces}
+use Rattle.card.specs.Columns.{highFrom}
+use Rattle.card.specs.Cards.{otherOf, continuationOf, isWithinQuotes, quotedCard, extensionOf, hierarchOf, unplacedOf, cardOf}
 use Rattle.joining.specs.Words.{endsOpen, addsNothing, joinText, joinComment, opens, joinWords}
 use Rattle.joining.specs.Lookup.{joinOn, lookup}
 use Rattle.roles.specs.Cards.{cardsIn, isBadLength}
@@ -52,10 +58,12 @@ use Rattle.rice.specs.Steps.{inLimits, widthOf, planOf, stands, stepOf, openOf,
 
 -- ---- what is read
 
--- a card by its keyword and its value text; a header by the texts of its cards; an entry by its card's number and these texts; a tile by
--- its width, its number of pixels and its bytes
+-- a card by its keyword and its value text, by its text from byte 0 on, or by bytes that have no character between two texts; a header
+-- by the texts of its cards; an entry by its card's number and these texts; a tile by its width, its number of pixels and its bytes
 pub data Input : Type 0 where
   card : String → String → Input
+  line : String → Input
+  withBytes : String → List ℕ → String → Input
   header : List String → Input
   entryNo : ℕ → List String → Input
   tile : ℕ → ℕ → List ℕ → Input
@@ -73,20 +81,33 @@ abbrev pub headerBytes : List String → List ℕ
 headerBytes [] = []
 headerBytes (t ∷ ts) = spacesTo 80 (ascii t) ++ headerBytes ts
 
+-- a byte that splitting refuses: the vertical tab is no blank
+abbrev pub verticalTab : ℕ
+verticalTab = 11
+
 -- ---- the readings
 
--- in the terms of SPECIFICATION 15: a string by its text, an integer, a decimal by its sign, digits and power of ten, a refusal by its
--- number, a tile by its pixels and the bits used, a refused tile by the number, the pixels written and the pixels lent, a refused card
--- by the refusal's number and its own
+-- in the terms of SPECIFICATION 15: a string by its text, an integer, a decimal by its sign, digits and power of ten, a refusal without
+-- a column by its number, a refused card by the number and the column, a refused header by the number, the card and the column or that
+-- there is none, a tile by its pixels and the bits used, a refused tile by the number, the pixels written and the pixels lent
 pub data Reading : Type 0 where
   string : List ℕ → Reading
   integer : ℤ → Reading
   decimal : Bool → List ℕ → ℤ → Reading
   refusal : ℕ → Reading
   refusedAt : ℕ → ℕ → Reading
+  refusedIn : ℕ → ℕ → Column → Reading
   pixels : List ℤ → ℕ → Reading
   stopped : ℕ → ℕ → List ℤ → Reading
   other : Reading
+
+-- a refusal's, by its column
+abbrev pub byColumn : Column → ℕ → Reading
+byColumn (At byte) number = refusedAt number byte
+byColumn Absent number = refusal number
+
+abbrev pub byFault : Fault → Reading
+byFault fault = byColumn (fault .column) (numberOf (fault .why))
 
 -- a decimal's, with its digits
 abbrev pub bySize : Size → Bool → List ℕ → Reading
@@ -117,33 +138,28 @@ byCard C.Undefined text = other
 
 abbrev pub byCardAnswer : CardAnswer → List ℕ → Reading
 byCardAnswer (Read c) text = byCard c text
-byCardAnswer (Refused fault) text = refusal (numberOf (fault .why))
+byCardAnswer (Refused fault) text = byFault fault
 
 abbrev pub ofCard : CardRead → Reading
 ofCard r = byCardAnswer (r .answer) (bytesOf (r .text))
 
--- a lookup's, with its text in the lent buffer
+-- a lookup's or an entry's, with its text in the lent buffer
 abbrev pub byLookup : LookupAnswer → List ℕ → Reading
 byLookup (L.Found v) text = byValue v text
-byLookup (L.Header stop) text = refusal (numberOf (stop .fault .why))
-byLookup (L.Refused fault) text = refusal (numberOf (fault .why))
+byLookup (L.Header stop) text = refusedIn (numberOf (stop .fault .why)) (stop .card) (stop .fault .column)
+byLookup (L.Refused fault) text = byFault fault
 
 abbrev pub ofLookup : LookupOutcome → Reading
 ofLookup o = byLookup (o .answer .answer) (take (o .answer .text) (o .text))
 
--- an entry's by its card, likewise
-abbrev pub byEntry : LookupAnswer → List ℕ → Reading
-byEntry (L.Found v) text = byValue v text
-byEntry (L.Header stop) text = refusedAt (numberOf (stop .fault .why)) (stop .card)
-byEntry (L.Refused fault) text = refusal (numberOf (fault .why))
+-- a tile's, with its pixels in the lent slice; its refusals have no column
+abbrev pub byTileColumn : Column → ℕ → ℕ → List ℤ → Reading
+byTileColumn (At byte) number n content = other
+byTileColumn Absent number n content = stopped number n content
 
-abbrev pub ofEntry : LookupOutcome → Reading
-ofEntry o = byEntry (o .answer .answer) (take (o .answer .text) (o .text))
-
--- a tile's, with its pixels in the lent slice
 abbrev pub byDecoded : Decoded → List ℤ → Reading
 byDecoded (D.Whole bits) content = pixels content bits
-byDecoded (D.Refused fault n) content = stopped (numberOf (fault .why)) n content
+byDecoded (D.Refused fault n) content = byTileColumn (fault .column) (numberOf (fault .why)) n content
 
 abbrev pub ofDecoding : DecodeOutcome → Reading
 ofDecoding f = byDecoded (f .answer) (f .content)
@@ -151,8 +167,10 @@ ofDecoding f = byDecoded (f .answer) (f .content)
 -- what the definitions give; lent bytes are 0 and lent pixels 7 beforehand
 abbrev pub reading : Input → Reading
 reading (card keyword text) = ofCard (cardOf (cardBytes keyword text))
+reading (line text) = ofCard (cardOf (spacesTo 80 (ascii text)))
+reading (withBytes before bytes behind) = ofCard (cardOf (spacesTo 80 (ascii before ++ bytes ++ ascii behind)))
 reading (header texts) = ofLookup (lookupOf (headerBytes texts) (ascii "KIT") (replicate 80 0) (replicate 80 0))
-reading (entryNo i texts) = ofEntry (entryOf (headerBytes texts) i (replicate 80 0) (replicate 80 0))
+reading (entryNo i texts) = ofLookup (entryOf (headerBytes texts) i (replicate 80 0) (replicate 80 0))
 reading (tile bits nx bytes) = ofDecoding (decodeOf bytes nx 32 bits (replicate nx (pos 7)))
 
 -- ---- the table
@@ -176,9 +194,9 @@ table =
     ∷ row (header ("KIT     = 'FKM-&'" ∷ "COMMENT in between" ∷ "CONTINUE  '75'" ∷ "END" ∷ [])) (string (ascii "FKM-75"))
     ∷ row (header ("KIT     = 'FKM &'" ∷ "CONTINUE  ''" ∷ "END" ∷ [])) (string (ascii "FKM"))
     ∷ row (header ("KIT     = 'FKM-&'" ∷ "SIZE    = 5" ∷ "CONTINUE  '75'" ∷ "END" ∷ [])) (string (ascii "FKM-&"))
-    ∷ row (entryNo 0 ("KIT     = 'a&'" ∷ "WCS     = (1" ∷ "CONTINUE  'b'" ∷ "END" ∷ [])) (refusedAt 5 1)
-    ∷ row (entryNo 1 ("KIT     = 'a&'" ∷ "WCS     = (1" ∷ "CONTINUE  'b'" ∷ "END" ∷ [])) (refusedAt 5 1)
-    ∷ row (entryNo 0 ("KIT     = 'FKM-&'" ∷ "CONTINUE  '75-&" ∷ "CONTINUE  'A2'" ∷ "END" ∷ [])) (refusedAt 3 1)
+    ∷ row (entryNo 0 ("KIT     = 'a&'" ∷ "WCS     = (1" ∷ "CONTINUE  'b'" ∷ "END" ∷ [])) (refusedIn 5 1 (At 10))
+    ∷ row (entryNo 1 ("KIT     = 'a&'" ∷ "WCS     = (1" ∷ "CONTINUE  'b'" ∷ "END" ∷ [])) (refusedIn 5 1 (At 10))
+    ∷ row (entryNo 0 ("KIT     = 'FKM-&'" ∷ "CONTINUE  '75-&" ∷ "CONTINUE  'A2'" ∷ "END" ∷ [])) (refusedIn 3 1 (At 10))
     ∷ row (entryNo 0 ("KIT     = 'FKM-&'" ∷ "CONTINUE  '75'" ∷ "WCS     = (1" ∷ "END" ∷ [])) (string (ascii "FKM-75"))
     ∷ row (entryNo 2 ("KIT     = 'a'" ∷ "END" ∷ "KIT     = 'b'" ∷ [])) (string (ascii "b"))
     ∷ row (entryNo 1 ("KIT     = 'a'" ∷ "END" ∷ [])) (refusal 12)
@@ -191,12 +209,84 @@ table =
     ∷ row (tile 32 1 (0x00 ∷ 0x00 ∷ 0x00 ∷ 0x00 ∷ 0xD8 ∷ [])) (stopped 17 0 (pos 7 ∷ []))
     ∷ []
 
+-- each refusal of a card with its column, then those that have none
+abbrev pub columnTable : List Row
+columnTable =
+    -- 1: the first of several high bytes, on a card of any class
+    row (withBytes "A       = '" (0xFF ∷ 0x80 ∷ []) "'") (refusedAt 1 11)
+    ∷ row (withBytes "END     " (0x80 ∷ 0xFF ∷ []) "") (refusedAt 1 8)
+    ∷ row (withBytes "COMMENT a" (0x80 ∷ 0x80 ∷ []) "b") (refusedAt 1 9)
+    ∷ row (withBytes "" (0x80 ∷ []) "") (refusedAt 1 0)
+    ∷ row (withBytes "" (replicate 79 (code " ") ++ (0x80 ∷ [])) "") (refusedAt 1 79)
+    -- 2: the byte where the scan stops, counted in the card
+    ∷ row (withBytes "A       = " (verticalTab ∷ []) "") (refusedAt 2 10)
+    ∷ row (withBytes "A       =  " (verticalTab ∷ []) "") (refusedAt 2 11)
+    ∷ row (withBytes "A       = " (tab ∷ verticalTab ∷ []) "") (refusedAt 2 11)
+    ∷ row (withBytes "A       = 5 " (verticalTab ∷ []) "6") (refusedAt 2 12)
+    ∷ row (withBytes "A       =  'a' " (tab ∷ []) "/") (refusedAt 2 15)
+    ∷ row (withBytes "A       = " (replicate 69 (code "5") ++ (verticalTab ∷ [])) "") (refusedAt 2 79)
+    ∷ row (withBytes "CONTINUE a" (verticalTab ∷ []) "") (refusedAt 2 10)
+    ∷ row (withBytes "XTENSION= IMAGE" (verticalTab ∷ []) "") (refusedAt 2 15)
+    ∷ row (withBytes "HIERARCH A = 5" (verticalTab ∷ []) "") (refusedAt 2 14)
+    -- 3: the first byte of the text that is no blank; a CONTINUE card's text stands from byte 8 on
+    ∷ row (card "A" "'") (refusedAt 3 10)
+    ∷ row (card "A" "'a") (refusedAt 3 10)
+    ∷ row (card "A" "  'a' b") (refusedAt 3 12)
+    ∷ row (withBytes "A       = " (tab ∷ []) "'") (refusedAt 3 11)
+    ∷ row (line "CONTINUE'a") (refusedAt 3 8)
+    ∷ row (line "CONTINUE  'a") (refusedAt 3 10)
+    ∷ row (line "HIERARCH A = '") (refusedAt 3 13)
+    -- 4, of CONTINUE alone
+    ∷ row (line "CONTINUEa'") (refusedAt 4 8)
+    ∷ row (line "CONTINUE= 'b'") (refusedAt 4 8)
+    ∷ row (line "CONTINUE  a'") (refusedAt 4 10)
+    -- 5: a HIERARCH card's text stands directly behind its =
+    ∷ row (card "A" "(") (refusedAt 5 10)
+    ∷ row (card "A" "  (1,2)") (refusedAt 5 12)
+    ∷ row (line "HIERARCH A=(") (refusedAt 5 11)
+    ∷ row (line "HIERARCH A  =  (") (refusedAt 5 15)
+    -- 6 at byte 9, and 7 at its =
+    ∷ row (line "HIERARCH A B") (refusedAt 6 9)
+    ∷ row (line "HIERARCH= 5") (refusedAt 6 9)
+    ∷ row (line "HIERARCH =5") (refusedAt 7 9)
+    ∷ row (line "HIERARCH   =5") (refusedAt 7 11)
+    -- 8: the text begins with its slash where no value text stands before it; blanks alone have byte 10
+    ∷ row (line "XTENSION=") (refusedAt 8 10)
+    ∷ row (line "XTENSION=  /") (refusedAt 8 11)
+    ∷ row (line "XTENSION= abc") (refusedAt 8 10)
+    ∷ row (line "XTENSION=   '") (refusedAt 8 12)
+    -- of two refusals the first in their order: 1, then 6 and 7, then 2, then 3, 4, 5 and 8
+    ∷ row (withBytes "HIERARCH A" (0x80 ∷ []) "") (refusedAt 1 10)
+    ∷ row (withBytes "A       = (" (verticalTab ∷ 0x80 ∷ []) "") (refusedAt 1 12)
+    ∷ row (withBytes "HIERARCH A" (verticalTab ∷ []) "") (refusedAt 6 9)
+    ∷ row (withBytes "HIERARCH   = " (verticalTab ∷ []) "") (refusedAt 7 11)
+    ∷ row (withBytes "A       = '' " (verticalTab ∷ []) "'") (refusedAt 2 13)
+    ∷ row (withBytes "CONTINUE a" (verticalTab ∷ []) "'") (refusedAt 2 10)
+    ∷ row (withBytes "A       = (" (verticalTab ∷ []) "") (refusedAt 2 11)
+    ∷ row (withBytes "XTENSION= a" (verticalTab ∷ []) "") (refusedAt 2 11)
+    -- a refused header and a refused entry: the card, and its column
+    ∷ row (header ("KIT     = 5" ∷ "WCS     =  (1" ∷ "END" ∷ [])) (refusedIn 5 1 (At 11))
+    ∷ row (header ("HIERARCH KIT 5" ∷ "END" ∷ [])) (refusedIn 6 0 (At 9))
+    ∷ row (entryNo 0 ("KIT     = 'FKM-&'" ∷ "COMMENT in between" ∷ "CONTINUE'75-&" ∷ "END" ∷ [])) (refusedIn 3 2 (At 8))
+    ∷ row (entryNo 1 ("KIT     = 5" ∷ "XTENSION=" ∷ "END" ∷ [])) (refusedIn 8 1 (At 10))
+    -- 9 and 10 have a card and no column, 12 and 13 have neither
+    ∷ row (header []) (refusedIn 9 0 Absent)
+    ∷ row (entryNo 0 []) (refusedIn 9 0 Absent)
+    ∷ row (header ("KIT     = 5" ∷ [])) (refusedIn 10 1 Absent)
+    ∷ row (header ("END" ∷ [])) (refusal 12)
+    ∷ row
+    (header
+    ("KIT     = '1234567890123456789012345678901234567890&'" ∷ "CONTINUE  '12345678901234567890123456789012345678901'" ∷ "END" ∷ []))
+    (refusal 13)
+    ∷ []
+
 -- each input has its row's reading
-pub edges : map (λ (r : Row). reading (r .input)) table ≡ map (λ (r : Row). r .reading) table
+pub edges : map (λ (r : Row). reading (r .input)) (table ++ columnTable) ≡ map (λ (r : Row). r .reading) (table ++ columnTable)
 unfolding isSpace isBlank isPrintable isDigit isZero shown dToE trimStart leading consTrimmed trimEnd trim same stem endsWith filled
-    after scanFrom byteClass splitOf settledOf opened unopened stringOf isSign isNegative unsigned isDigits digitsValueFrom
-    integerOf fractionOf afterFraction isMark writtenOf exponentOf scaled finiteOf lowered isWord decimalOf readNumber
-    startsNumber startOf ofString ofNumber valueWith valueOf hasHigh classOf otherOf continuationOf cardOf
+    placeFrom after scanFrom byteClass splitOf settledOf opened unopened stringOf firstByte isSign isNegative unsigned isDigits
+    digitsValueFrom integerOf fractionOf afterFraction isMark writtenOf exponentOf scaled finiteOf lowered isWord decimalOf readNumber
+    startsNumber startOf ofString ofNumber valueWith valueOf hasHigh classOf namePieces joinPieces highFrom otherOf continuationOf
+    isWithinQuotes quotedCard extensionOf hierarchOf unplacedOf cardOf
     endsOpen addsNothing joinText joinComment opens joinWords joinOn lookup cardsIn isBadLength headerFrom headerOf written lookupOf
     metOn entryOf
     decodeOf stepsOf stepOf openOf planOf inLimits widthOf stands blockOf codeOf runOf diffRead runRead fieldRead pixelOf inWidth modulo

@@ -40,8 +40,8 @@ pub edges :
     ∷ refusedLine (faultOf R.HeaderLength) 0
     ∷ []
     ≡ map ended
-    ("SIZE I 12" ∷ "KIT S FKM-75" ∷ "2 keywords" ∷ "1 keywords" ∷ "A I -12" ∷ "A I 0" ∷ "A D -15e-3" ∷ "A D 1e20" ∷ "A D -0e0"
-    ∷ "A D -inf" ∷ "A D nan" ∷ "A L T" ∷ "A S" ∷ "A S  " ∷ "A U" ∷ "A X 1E" ∷ "refused 10 at 720"
+    ("SIZE I 12" ∷ "KIT S FKM-75" ∷ "2 keywords" ∷ "1 keywords" ∷ "A I -12" ∷ "A I 0" ∷ "A D -15e-3" ∷ "A D 1e20"
+    ∷ "A D -0e0" ∷ "A D -inf" ∷ "A D nan" ∷ "A L T" ∷ "A S" ∷ "A S  " ∷ "A U" ∷ "A X 1E" ∷ "refused 10 at 720"
     ∷ "refused 5 at 0:10" ∷ "refused 1 at 719:0" ∷ "refused 10 at 3" ∷ "refused 9 at 0" ∷ [])
 unfolding entryLine countLine refusedLine decimalDigits digitsBefore
 edges = refl

@@ -20,7 +20,6 @@ use Rattle.splitting.specs.declared.Slash.{Slash}
 use Rattle.splitting.specs.declared.Slash.the-variants as S
 use Rattle.splitting.specs.declared.SplitAnswer.{SplitAnswer}
 use Rattle.splitting.specs.declared.SplitAnswer.the-variants.{Bare, Commented, Refused}
-use Rattle.splitting.specs.declared.StringRead.{StringRead}
 use Rattle.splitting.specs.Scan.{scanFrom}
 use Rattle.splitting.specs.Split.{partsAt, splitOf}
 use Rattle.splitting.specs.Strings.{isQuote, reads, stringRefused, opened, unopened, stringOf}

@@ -98,7 +98,8 @@ pub first-by-lengths : (from : ℕ) (t : List ℕ) → firstOf from (length t) (
 unfolding firstByte
 first-by-lengths from t = go (trimStart isBlank t) (length (leading isBlank t)) (length t) (parted t)
   where
-    go : (rest : List ℕ) (blanks all : ℕ) → blanks + length rest ≡ all → firstOf from all (length rest) ≡ firstBy rest from blanks
+    go : (rest : List ℕ) (blanks all : ℕ) → blanks + length rest ≡ all
+        → firstOf from all (length rest) ≡ firstBy rest from blanks
     go [] blanks all e = refl
     go (b ∷ s) blanks all e =
         let some : suc (length s) ≡ 0 → ⊥ = λ e. omega arith in

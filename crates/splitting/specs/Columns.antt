@@ -1,4 +1,4 @@
--- The byte of its card at which a text is refused (SPECIFICATION 2.3). The text stands on the card from byte `from` on.
+-- The byte of its card at which a text is refused (SPECIFICATION 2.4). The text stands on the card from byte `from` on.
 use Prim.Native.Nat.{ℕ, _+_}
 use mathlib.Core.Bool.{cond}
 use mathlib.Core.List.{List, [], _∷_}
@@ -7,6 +7,7 @@ use lib.ListN.{length}
 use Rattle.refusal.specs.declared.Column.{Column}
 use Rattle.refusal.specs.declared.Column.the-variants.{At, Absent}
 use Rattle.refusal.specs.declared.Refusal.{Refusal}
+use Rattle.refusal.specs.declared.Refusal.the-variants as R
 use Rattle.refusal.specs.Numbers.{numberOf, placed}
 use Rattle.text.specs.Bytes.{isBlank}
 use Rattle.text.specs.Trim.{trimStart, leading, trim}
@@ -45,7 +46,7 @@ oddByte from t = oddBy (scanFrom Outside (trim isBlank t) 0 .place) (firstByte f
 
 -- 2 is met at the byte that the scan refuses, and any other refusal of a text (3, 4, 5, 8) at its first byte
 abbrev pub textColumn : ℕ → List ℕ → Refusal → Column
-textColumn from t why = cond (eqb (numberOf why) 2) (oddByte from t) (At (firstByte from t))
+textColumn from t why = cond (eqb (numberOf why) (numberOf R.OddByte)) (oddByte from t) (At (firstByte from t))
 
 -- ---- answers with the column beside a refusal
 

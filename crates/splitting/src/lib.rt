@@ -96,8 +96,7 @@ pub fn parse_string(t: Text, first: usize) -> StringRead
     unquoted(text::first_of(&bytes, t.len), first)
 }
 
-// The byte of the card at which a text begins that stands from a byte on, by how many bytes it has with the blanks at its front and
-// without them.
+// The byte of the card at which a text begins, by the byte that it stands from and by its lengths with and without the blanks at its front.
 fn first_byte(from: usize, all: usize, left: usize) -> usize
     requires { ⌜ (left ≤ all) × (all ≤ size - from) ⌝ }
     ensures { λ r. ⌜ r ≡ firstOf from all left ⌝ }

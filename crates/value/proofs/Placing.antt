@@ -4,11 +4,10 @@ use mathlib.Core.Path.{_≡_, refl, ap}
 use mathlib.Core.Bool.{Bool, true, false}
 use mathlib.Core.List.{List, [], _∷_}
 use Rattle.refusal.specs.declared.Column.{Column}
-use Rattle.refusal.specs.declared.Column.the-variants.{At}
 use Rattle.refusal.specs.declared.Fault.{Fault}
 use Rattle.refusal.specs.declared.Refusal.{Refusal}
 use Rattle.text.specs.declared.Text.{Text}
-use Rattle.text.specs.Text.{textOf, bytesOf}
+use Rattle.text.specs.Text.{bytesOf}
 use Rattle.splitting.specs.declared.Quoted.{Quoted}
 use Rattle.splitting.specs.declared.Quoted.the-variants as Q
 use Rattle.splitting.specs.declared.SplitAnswer.{SplitAnswer}

@@ -148,7 +148,8 @@ returns-3 c =
     let at-name = c .before .before .before .before in
     let card = card (find-at at-name) in
     let from = 10 + index at-name in
-    let some : length (name-of at-name) ≡ 0 → ⊥ = λ e. c .before .before .if1 .left (ap (λ (t : Text). t .len) (name-is at-name) ∙ e) in
+    let long = ap (λ (t : Text). t .len) (name-is at-name) in
+    let some : length (name-of at-name) ≡ 0 → ⊥ = λ e. c .before .before .if1 .left (long ∙ e) in
     c .with-value .ensures
     ∙ ap (ofValue true (at-name .dotted-name .result)) (c .before .read-value .ensures)
     ∙ ap (λ (t : Text). ofValue true t (valueFrom from (drop from card))) (name-is at-name)

@@ -1,17 +1,14 @@
 -- `card::read_card` meets its contract: by whether a byte of 128 or more is found.
 use Prim.Native.Nat.{ℕ}
 use mathlib.Core.Path.{_≡_, sym, ap, _∙_}
-use mathlib.Core.Bool.{true, false}
 use mathlib.Core.List.{List}
 use borrow.Author.Needs.{needs}
 use Rattle.refusal.specs.declared.Column.{Column}
 use Rattle.refusal.specs.declared.Column.the-variants.{At, Absent}
 use Rattle.refusal.specs.declared.Refusal.the-variants as R
 use Rattle.refusal.specs.Numbers.{faultAt}
-use Rattle.text.specs.Text.{textOf}
-use Rattle.card.specs.Keywords.{hasHigh, keywordOf, classOf}
 use Rattle.card.specs.Columns.{highFrom, columnOf}
-use Rattle.card.specs.Cards.{cardRefused, byClass, cardPlaced, unplacedOf, cardOf}
+use Rattle.card.specs.Cards.{cardRefused, lowOf, cardPlaced, unplacedOf, cardOf}
 use Rattle.card.proofs.Highs.{high-found, high-missing}
 use Rattle.card.proofs.read_card.Statement.{statement}
 use Rattle.card.proofs.read_card.Tie as tie
@@ -21,8 +18,7 @@ unfolding cardOf unplacedOf
 high c i e =
     ap (λ (x : Column). cardRefused (record { why = R.HighByte; column = x })) (sym e) ∙ rw (high-found c i e)
 
-low : (c : List ℕ) → highFrom c 0 ≡ Absent
-    → cardPlaced (columnOf c) (byClass (classOf (keywordOf c)) (textOf (keywordOf c)) c) ≡ cardOf c
+low : (c : List ℕ) → highFrom c 0 ≡ Absent → cardPlaced (columnOf c) (lowOf c) ≡ cardOf c
 unfolding cardOf unplacedOf
 low c e = rw (high-missing c e)
 

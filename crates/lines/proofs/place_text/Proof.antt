@@ -1,12 +1,11 @@
 -- `lines::place_text` meets its contract: where there is a column, its text stands behind the card's digits.
-use Prim.Native.Nat.{ℕ}
 use native.Mathlib.Omega.{arith}
 use mathlib.Core.Path.{_≡_, sym, ap, _∙_}
-use mathlib.Core.List.{List, _++_, append-nil}
+use mathlib.Core.List.{_++_, append-nil}
 use borrow.Author.Needs.{needs}
 use lib.ListN.{take}
 use Rattle.refusal.specs.declared.Column.{Column}
-use Rattle.refusal.specs.declared.Column.the-variants.{At, Absent}
+use Rattle.refusal.specs.declared.Column.the-variants.{At}
 use Rattle.text.specs.Text.{size, textOf}
 use Rattle.text.proofs.Texts.{text-bytes}
 use Rattle.numerals.specs.Numerals.{decimalDigits}

@@ -1,5 +1,4 @@
 -- `splitting::first_byte` meets its contract: by whether anything is left.
-use mathlib.Core.Path.{sym}
 use borrow.Author.Needs.{needs}
 use borrow.Author.Tests.{eq-eqb, ne-eqb}
 use Rattle.splitting.proofs.first_byte.Statement.{statement}

@@ -1,7 +1,7 @@
 -- `splitting::split` meets its contract: the text without its blanks is taken apart, and lengths say where it begins.
-use Prim.Native.Nat.{ℕ, _-_, _<_, _≤_}
+use Prim.Native.Nat.{ℕ, _-_, _≤_}
 use native.Mathlib.Omega.{arith}
-use mathlib.Core.Path.{_≡_, _∙_, ap, ap₂, sym}
+use mathlib.Core.Path.{_≡_, _∙_, ap, ap₂}
 use mathlib.Core.List.{List}
 use lib.ListN.{length, drop, length-drop}
 use Rattle.text.specs.Bytes.{isBlank}
@@ -65,9 +65,10 @@ halves-of-requires : tie.Need-halves-of-requires
 halves-of-requires c κs =
     let at = c .before .before in
     let short = ap (length {A = ℕ}) (trims c) in
-    let low = byte-within (from at) (given at) (few at) 0 in
-    ( omega (arith, short, shorter isBlank (given at), few at)
-    , λ some. omega (arith, begins (c .before), low (omega (arith, short, some))) )
+    let low = byte-within (from at) (given at) (few at) 0 in (
+      omega (arith, short, shorter isBlank (given at), few at),
+      λ some. omega (arith, begins (c .before), low (omega (arith, short, some))),
+    )
 
 returns : tie.Need-returns
 returns c =

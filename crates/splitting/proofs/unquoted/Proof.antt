@@ -109,7 +109,8 @@ returns-5 c =
     let a = bare .before .before .before .before .args in
     c .refused3 .ensures
     ∙ ap stringRefused (c .before .fault-at3 .ensures)
-    ∙ placed (a .first) (a .s .now) (unopened-quote (a .s .now) (bare .before .before .if1 .left) (bare .if2 .left) (c .before .before .if5 .taken))
+    ∙ placed (a .first) (a .s .now)
+    (unopened-quote (a .s .now) (bare .before .before .if1 .left) (bare .if2 .left) (c .before .before .if5 .taken))
 
 settled-requires-2 : tie.Need-settled-requires-2
 settled-requires-2 c κs = search needs
