@@ -14,8 +14,8 @@ use Rattle.card.specs.declared.CardAnswer.{CardAnswer}
 use Rattle.card.specs.declared.CardAnswer.the-variants as A
 use Rattle.card.specs.declared.CardRead.{CardRead}
 use Rattle.card.specs.Columns.{columnOf}
-use Rattle.card.specs.Cards.{answerPlaced, unplacedOf, cardOf}
-use Rattle.card.proofs.Placing.{RefusedBy}
+use Rattle.card.specs.Cards.{cardAnswerPlaced, unplacedOf, cardOf}
+use Rattle.card.proofs.Placing.{CardBy}
 use Rattle.card.proofs.Refusing.{OfCard, high, no-equals, no-name, in-text, unplaced-by}
 use Rattle.roles.specs.Roles.{Role, entry, more, neutral, last, refused, roleBy, roleIn, roleOf}
 use Rattle.roles.specs.Cards.{cardsOf, rolesOf, isBadLength, cardCount}
@@ -76,7 +76,7 @@ card-ten : (c : List ℕ) → cardNumber (cardOf c .answer) ≤ 10
 unfolding cardOf
 card-ten c = go (unplacedOf c .answer) (unplaced-by c)
   where
-    go : (a : CardAnswer) → RefusedBy OfCard a → cardNumber (answerPlaced (columnOf c) a) ≤ 10
+    go : (a : CardAnswer) → CardBy OfCard a → cardNumber (cardAnswerPlaced (columnOf c) a) ≤ 10
     go (A.Read card) h = omega arith
     go (A.Refused x) h = omega (arith, of-card x h)
 

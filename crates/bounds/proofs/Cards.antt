@@ -45,7 +45,7 @@ use Rattle.card.specs.Keywords.{hasHigh, keywordOf, classOf, dottedName}
 use Rattle.card.specs.Cards.{cardRefused, cardAs, isWithinQuotes, spaceOr, remarkOf, emptyOf}
 use Rattle.card.specs.Cards.{stringCard, continued, continuationOf, quotedCard, inside, extended}
 use Rattle.card.specs.Cards.{extensionOf, cardWith, ofAnswer, ofValue, named, byEquals, hierarchOf, otherOf, byClass}
-use Rattle.card.specs.Cards.{answerPlaced, cardPlaced, unplacedOf, cardOf}
+use Rattle.card.specs.Cards.{cardAnswerPlaced, cardPlaced, unplacedOf, cardOf}
 use Rattle.card.specs.Columns.{columnOf}
 use Rattle.roles.specs.Roles.{Comment, Words, Role, entry, more, neutral, last}
 use Rattle.roles.specs.Roles.{refused, hasText, isString, commentOf, roleBy, roleIn, roleRead, roleOf}
@@ -74,7 +74,7 @@ record CardShort (r : CardRead) : Type 0 where
 placed-short : (f : Refusal → Column) (r : CardRead) → CardShort r → CardShort (cardPlaced f r)
 placed-short f r s = record { text = go (r .answer) (s .text); comment = s .comment }
   where
-    go : (a : CardAnswer) → wordsLen a (r .text .len) ≤ cardWords → wordsLen (answerPlaced f a) (r .text .len) ≤ cardWords
+    go : (a : CardAnswer) → wordsLen a (r .text .len) ≤ cardWords → wordsLen (cardAnswerPlaced f a) (r .text .len) ≤ cardWords
     go (A.Read card) h = h
     go (A.Refused x) h = h
 

@@ -26,7 +26,7 @@ use Rattle.splitting.proofs.Refusing.{string-led, led-first, placed-alike}
 use Rattle.value.specs.declared.ValueAnswer.{ValueAnswer}
 use Rattle.value.specs.declared.ValueAnswer.the-variants as W
 use Rattle.value.specs.declared.ValueRead.{ValueRead}
-use Rattle.value.specs.Values.{valueOf, valuePlaced, valueFrom, answerPlaced as valueAnswerPlaced}
+use Rattle.value.specs.Values.{valueOf, valuePlaced, valueFrom, valueAnswerPlaced}
 use Rattle.value.proofs.Placing.{value-alike, value-in-text}
 use Rattle.card.specs.declared.Card.the-variants as C
 use Rattle.card.specs.declared.CardAnswer.{CardAnswer}
@@ -34,22 +34,22 @@ use Rattle.card.specs.declared.CardAnswer.the-variants.{Read, Refused}
 use Rattle.card.specs.declared.CardRead.{CardRead}
 use Rattle.card.specs.Columns.{equalsOf, equalsByte, behind, columnIn}
 use Rattle.card.specs.Cards.{cardRefused, cardAs, remarkOf, spaceOr, emptyOf, stringCard, continued}
-use Rattle.card.specs.Cards.{isWithinQuotes, inside, quotedCard, extended, ofAnswer, ofValue, answerPlaced, cardPlaced}
+use Rattle.card.specs.Cards.{isWithinQuotes, inside, quotedCard, extended, ofAnswer, ofValue, cardAnswerPlaced, cardPlaced}
 
 -- a refusal, if it is one, is one of those
-abbrev pub RefusedBy : (Fault → Type 0) → CardAnswer → Type 0
-RefusedBy P (Read card) = Unit {0}
-RefusedBy P (Refused x) = P x
+abbrev pub CardBy : (Fault → Type 0) → CardAnswer → Type 0
+CardBy P (Read card) = Unit {0}
+CardBy P (Refused x) = P x
 
 -- columns that agree on those refusals place them alike
 pub card-alike : (f g : Refusal → Column) (P : Fault → Type 0) → ((x : Fault) → P x → f (x .why) ≡ g (x .why))
-    → (r : CardRead) → RefusedBy P (r .answer) → cardPlaced f r ≡ cardPlaced g r
+    → (r : CardRead) → CardBy P (r .answer) → cardPlaced f r ≡ cardPlaced g r
 card-alike f g P e r h = ap with-answer (go (r .answer) h)
   where
     with-answer : CardAnswer → CardRead
     with-answer a = record { answer = a; name = r .name; text = r .text; commented = r .commented; comment = r .comment }
 
-    go : (a : CardAnswer) → RefusedBy P a → answerPlaced f a ≡ answerPlaced g a
+    go : (a : CardAnswer) → CardBy P a → cardAnswerPlaced f a ≡ cardAnswerPlaced g a
     go (Read card) h = refl
     go (Refused x) h = ap Refused (placed-alike f g x (e x h))
 
@@ -135,12 +135,12 @@ extendedAt first S.Bare name v = cardPlaced (atByte first) (quotedCard name v)
 extendedAt first S.Commented name v = cardPlaced (atByte first) (quotedCard name v)
 extendedAt first (S.Refused x) name v = cardRefused x
 
-pub quoted-led : (name v : Text) → RefusedBy Led (quotedCard name v .answer)
+pub quoted-led : (name v : Text) → CardBy Led (quotedCard name v .answer)
 unfolding quotedCard
 quoted-led name v = go (isWithinQuotes (bytesOf v)) (cardAs C.Xtension name (textOf (trim isSpace (inside (bytesOf v))))) tt
   where
-    go : (t : Bool) (r : CardRead) → RefusedBy Led (r .answer)
-        → RefusedBy Led (cond t r (cardRefused (faultOf R.ExtensionNotQuoted)) .answer)
+    go : (t : Bool) (r : CardRead) → CardBy Led (r .answer)
+        → CardBy Led (cond t r (cardRefused (faultOf R.ExtensionNotQuoted)) .answer)
     go true r h = h
     go false r h = not-quoted
 

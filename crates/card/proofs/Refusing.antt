@@ -27,7 +27,7 @@ use Rattle.splitting.proofs.Refusing.{string-led, split-in-text, OfText}
 use Rattle.value.specs.declared.ValueAnswer.{ValueAnswer}
 use Rattle.value.specs.declared.ValueAnswer.the-variants as W
 use Rattle.value.specs.Values.{valueOf}
-use Rattle.value.proofs.Placing.{RefusedBy as ValueBy, value-by}
+use Rattle.value.proofs.Placing.{ValueBy, value-by}
 use Rattle.card.specs.declared.Card.the-variants as C
 use Rattle.card.specs.declared.CardAnswer.{CardAnswer}
 use Rattle.card.specs.declared.CardAnswer.the-variants.{Read, Refused}
@@ -38,80 +38,80 @@ use Rattle.card.specs.Keywords.{hasHigh, keywordOf, classOf, dottedName}
 use Rattle.card.specs.Columns.{equalsOf, columnOf}
 use Rattle.card.specs.Cards.{cardRefused, cardAs, remarkOf, spaceOr, emptyOf, stringCard, continued, continuationOf, quotedCard}
 use Rattle.card.specs.Cards.{extended, extensionOf, ofAnswer, ofValue, named, byEquals, hierarchOf, otherOf, byClass}
-use Rattle.card.specs.Cards.{answerPlaced, cardPlaced, unplacedOf, cardOf}
-use Rattle.card.proofs.Placing.{RefusedBy, quoted-led}
+use Rattle.card.specs.Cards.{cardAnswerPlaced, cardPlaced, unplacedOf, cardOf}
+use Rattle.card.proofs.Placing.{CardBy, quoted-led}
 
 -- ---- by any test that the refusals of its text pass, a card's pass it
 
 module _ (P : Fault → Type 0) where
-  either : (t : Bool) (x y : CardRead) → RefusedBy P (x .answer) → RefusedBy P (y .answer) → RefusedBy P (cond t x y .answer)
+  either : (t : Bool) (x y : CardRead) → CardBy P (x .answer) → CardBy P (y .answer) → CardBy P (cond t x y .answer)
   either true x y p q = p
   either false x y p q = q
 
   valued-by : (dotted : Bool) (name : Text) (raw : List ℕ) → ValueBy P (valueOf raw .answer)
-      → RefusedBy P (ofValue dotted name (valueOf raw) .answer)
+      → CardBy P (ofValue dotted name (valueOf raw) .answer)
   valued-by dotted name raw = go (valueOf raw .answer)
     where
-      go : (a : ValueAnswer) → ValueBy P a → RefusedBy P (ofAnswer a dotted name (valueOf raw) .answer)
+      go : (a : ValueAnswer) → ValueBy P a → CardBy P (ofAnswer a dotted name (valueOf raw) .answer)
       go (W.Read v) h = tt
       go (W.Refused x) h = h
 
-  pub continued-by : (name : Text) (c : List ℕ) → OfText P (drop 8 c) → RefusedBy P (continuationOf name c .answer)
+  pub continued-by : (name : Text) (c : List ℕ) → OfText P (drop 8 c) → CardBy P (continuationOf name c .answer)
   unfolding continuationOf
   continued-by name c o = let h = splitOf (drop 8 c) in go (h .answer) (h .value) (h .comment) (o .split)
     where
       by : (q : Quoted) (text : Text) (commented : Bool) (comment : Text) → QuotedBy Led q
-          → RefusedBy P (stringCard q name text commented comment .answer)
+          → CardBy P (stringCard q name text commented comment .answer)
       by Q.Str text commented comment h = tt
       by (Q.Refused x) text commented comment h = o .first x h
 
       string : (v : Text) (commented : Bool) (comment : Text)
-          → let r = stringOf (bytesOf v) in RefusedBy P (stringCard (r .answer) name (r .text) commented comment .answer)
+          → let r = stringOf (bytesOf v) in CardBy P (stringCard (r .answer) name (r .text) commented comment .answer)
       string v commented comment =
           let r = stringOf (bytesOf v) in by (r .answer) (r .text) commented comment (string-led (bytesOf v))
 
-      go : (a : SplitAnswer) (v comment : Text) → SplitBy P a → RefusedBy P (continued a name v comment .answer)
+      go : (a : SplitAnswer) (v comment : Text) → SplitBy P a → CardBy P (continued a name v comment .answer)
       go S.Bare v comment h = string v false comment
       go S.Commented v comment h = string v true comment
       go (S.Refused x) v comment h = h
 
-  pub extension-by : (name : Text) (c : List ℕ) → OfText P (drop 10 c) → RefusedBy P (extensionOf name c .answer)
+  pub extension-by : (name : Text) (c : List ℕ) → OfText P (drop 10 c) → CardBy P (extensionOf name c .answer)
   unfolding extensionOf
   extension-by name c o = let h = splitOf (drop 10 c) in go (h .answer) (h .value) (o .split)
     where
-      weaker : (a : CardAnswer) → RefusedBy Led a → RefusedBy P a
+      weaker : (a : CardAnswer) → CardBy Led a → CardBy P a
       weaker (Read card) h = tt
       weaker (Refused x) h = o .first x h
 
-      go : (a : SplitAnswer) (v : Text) → SplitBy P a → RefusedBy P (extended a name v .answer)
+      go : (a : SplitAnswer) (v : Text) → SplitBy P a → CardBy P (extended a name v .answer)
       go S.Bare v h = weaker (quotedCard name v .answer) (quoted-led name v)
       go S.Commented v h = weaker (quotedCard name v .answer) (quoted-led name v)
       go (S.Refused x) v h = h
 
   pub hierarch-by : (c : List ℕ) → P (faultOf R.NoEquals) → ((i : ℕ) → equalsOf c ≡ Pl.At i → P (faultOf R.NoName))
-      → ((i : ℕ) → equalsOf c ≡ Pl.At i → ValueBy P (valueOf (drop (10 + i) c) .answer)) → RefusedBy P (hierarchOf c .answer)
+      → ((i : ℕ) → equalsOf c ≡ Pl.At i → ValueBy P (valueOf (drop (10 + i) c) .answer)) → CardBy P (hierarchOf c .answer)
   unfolding hierarchOf
   hierarch-by c none nameless valued = go (equalsOf c) refl
     where
-      by : (i : ℕ) → equalsOf c ≡ Pl.At i → (n : List ℕ) → RefusedBy P (named n (drop (10 + i) c) .answer)
+      by : (i : ℕ) → equalsOf c ≡ Pl.At i → (n : List ℕ) → CardBy P (named n (drop (10 + i) c) .answer)
       by i e [] = nameless i e
       by i e (b ∷ n) = valued-by true (textOf (b ∷ n)) (drop (10 + i) c) (valued i e)
 
-      go : (p : Place) → equalsOf c ≡ p → RefusedBy P (byEquals p c .answer)
+      go : (p : Place) → equalsOf c ≡ p → CardBy P (byEquals p c .answer)
       go Pl.Nowhere e = none
       go (Pl.At i) e = by i e (dottedName (take i (drop 9 c)))
 
-  pub other-by : (name : Text) (c : List ℕ) → ValueBy P (valueOf (drop 10 c) .answer) → RefusedBy P (otherOf name c .answer)
+  pub other-by : (name : Text) (c : List ℕ) → ValueBy P (valueOf (drop 10 c) .answer) → CardBy P (otherOf name c .answer)
   unfolding otherOf
   other-by name c h =
       either (same (take 2 (drop 8 c)) (ascii "= ")) (ofValue false name (valueOf (drop 10 c))) (cardAs C.Undefined name (textOf c))
       (valued-by false name (drop 10 c) h) tt
 
-pub empty-by : (P : Fault → Type 0) (c : List ℕ) → RefusedBy P (emptyOf c .answer)
+pub empty-by : (P : Fault → Type 0) (c : List ℕ) → CardBy P (emptyOf c .answer)
 unfolding emptyOf
 empty-by P c = go (remarkOf c)
   where
-    go : (s : List ℕ) → RefusedBy P (spaceOr s .answer)
+    go : (s : List ℕ) → CardBy P (spaceOr s .answer)
     go [] = tt
     go (b ∷ s) = tt
 
@@ -131,7 +131,7 @@ of-card-text t = record { first = λ (x : Fault) (h : Led x). in-text (led h); s
     go S.Commented h = tt
     go (S.Refused x) h = in-text h
 
-pub unplaced-by : (c : List ℕ) → RefusedBy OfCard (unplacedOf c .answer)
+pub unplaced-by : (c : List ℕ) → CardBy OfCard (unplacedOf c .answer)
 unfolding unplacedOf
 unplaced-by c =
     let name = textOf (keywordOf c) in
@@ -141,7 +141,7 @@ unplaced-by c =
     value : (from : ℕ) → ValueBy OfCard (valueOf (drop from c) .answer)
     value from = value-by OfCard (drop from c) (of-card-text (drop from c))
 
-    go : (k : Class) (name : Text) → RefusedBy OfCard (byClass k name c .answer)
+    go : (k : Class) (name : Text) → CardBy OfCard (byClass k name c .answer)
     go K.Empty name = empty-by OfCard c
     go K.Comment name = tt
     go K.History name = tt
@@ -177,6 +177,6 @@ card-unplaced c = let r = unplacedOf c in ap (with-answer r) (go (r .answer) (un
     with-answer : CardRead → CardAnswer → CardRead
     with-answer r a = record { answer = a; name = r .name; text = r .text; commented = r .commented; comment = r .comment }
 
-    go : (a : CardAnswer) → RefusedBy OfCard a → answerPlaced nowhere (answerPlaced (columnOf c) a) ≡ a
+    go : (a : CardAnswer) → CardBy OfCard a → cardAnswerPlaced nowhere (cardAnswerPlaced (columnOf c) a) ≡ a
     go (Read card) h = refl
     go (Refused x) h = ap Refused (plain x h)

@@ -26,15 +26,15 @@ use Rattle.splitting.proofs.Refusing.{Led, InText, SplitBy, split-in-text, OfTe
 use Rattle.splitting.proofs.Splitting.{first-within}
 use Rattle.splitting.proofs.Within.{Within, split-within}
 use Rattle.value.specs.Values.{valueWith, valueOf}
-use Rattle.value.proofs.Placing.{RefusedBy as ValueBy, value-by}
+use Rattle.value.proofs.Placing.{ValueBy, value-by}
 use Rattle.card.specs.declared.CardAnswer.{CardAnswer}
 use Rattle.card.specs.declared.CardAnswer.the-variants.{Read, Refused}
 use Rattle.card.specs.declared.Class.{Class}
 use Rattle.card.specs.declared.Class.the-variants as K
 use Rattle.card.specs.Keywords.{firstHigh, hasHigh, keywordOf, classOf}
 use Rattle.card.specs.Columns.{highFrom, equalsOf, equalsByte, behind, textFrom, columnIn, columnOf}
-use Rattle.card.specs.Cards.{cardRefused, byClass, lowOf, answerPlaced, unplacedOf, cardOf}
-use Rattle.card.proofs.Placing.{RefusedBy, led-in, text-in}
+use Rattle.card.specs.Cards.{cardRefused, byClass, lowOf, cardAnswerPlaced, unplacedOf, cardOf}
+use Rattle.card.proofs.Placing.{CardBy, led-in, text-in}
 use Rattle.card.proofs.Refusing.{continued-by, extension-by, hierarch-by, other-by, empty-by}
 
 high-within : (s : List ℕ) (i : ℕ) → hasHigh s ≡ true → i + length s ≤ size → Within (highFrom s i)
@@ -79,7 +79,7 @@ module _ (c : List ℕ) (whole : length c ≡ size) where
           let some : 0 < length (drop from c) = rw e (omega arith) in
           value-by (Placed from) (drop from c) (text-within from (omega (arith, few from, some)))
 
-  class-within : (k : Class) (name : Text) → RefusedBy (Placed (textFrom k c)) (byClass k name c .answer)
+  class-within : (k : Class) (name : Text) → CardBy (Placed (textFrom k c)) (byClass k name c .answer)
   class-within K.Empty name = empty-by (Placed 10) c
   class-within K.Comment name = tt
   class-within K.History name = tt
@@ -96,17 +96,17 @@ module _ (c : List ℕ) (whole : length c ≡ size) where
   class-within K.End name = tt
   class-within K.Other name = other-by (Placed 10) name c (value-within 10)
 
-  pub card-within : RefusedBy (λ (x : Fault). Within (x .column)) (cardOf c .answer)
+  pub card-within : CardBy (λ (x : Fault). Within (x .column)) (cardOf c .answer)
   unfolding cardOf unplacedOf
   card-within = column (unplacedOf c .answer) (by-high (hasHigh c) refl)
     where
-      column : (a : CardAnswer) → RefusedBy (λ (x : Fault). Within (columnOf c (x .why))) a
-          → RefusedBy (λ (x : Fault). Within (x .column)) (answerPlaced (columnOf c) a)
+      column : (a : CardAnswer) → CardBy (λ (x : Fault). Within (columnOf c (x .why))) a
+          → CardBy (λ (x : Fault). Within (x .column)) (cardAnswerPlaced (columnOf c) a)
       column (Read card) h = tt
       column (Refused x) h = h
 
       by-high : (t : Bool) → hasHigh c ≡ t
-          → RefusedBy (λ (x : Fault). Within (columnOf c (x .why)))
+          → CardBy (λ (x : Fault). Within (columnOf c (x .why)))
           (cond t (cardRefused (faultOf R.HighByte)) (lowOf c) .answer)
       by-high true e = high-within c 0 e (omega arith)
       by-high false e = class-within (classOf (keywordOf c)) (textOf (keywordOf c))

@@ -146,13 +146,13 @@ unplacedOf c = cond (hasHigh c) (cardRefused (faultOf R.HighByte)) (lowOf c)
 
 -- ---- the column beside a refusal
 
-abbrev pub answerPlaced : (Refusal → Column) → CardAnswer → CardAnswer
-answerPlaced f (Read card) = Read card
-answerPlaced f (Refused fault) = Refused (placed f fault)
+abbrev pub cardAnswerPlaced : (Refusal → Column) → CardAnswer → CardAnswer
+cardAnswerPlaced f (Read card) = Read card
+cardAnswerPlaced f (Refused fault) = Refused (placed f fault)
 
 abbrev pub cardPlaced : (Refusal → Column) → CardRead → CardRead
 cardPlaced f r =
-    record { answer = answerPlaced f (r .answer); name = r .name; text = r .text; commented = r .commented; comment = r .comment }
+    record { answer = cardAnswerPlaced f (r .answer); name = r .name; text = r .text; commented = r .commented; comment = r .comment }
 
 -- a card by its bytes
 unfoldable pub cardOf : List ℕ → CardRead

@@ -23,8 +23,8 @@ use Rattle.card.specs.declared.CardAnswer.{CardAnswer}
 use Rattle.card.specs.declared.CardAnswer.the-variants as A
 use Rattle.card.specs.declared.CardRead.{CardRead}
 use Rattle.card.specs.Columns.{columnOf}
-use Rattle.card.specs.Cards.{answerPlaced, unplacedOf, cardOf}
-use Rattle.card.proofs.Placing.{RefusedBy}
+use Rattle.card.specs.Cards.{cardAnswerPlaced, unplacedOf, cardOf}
+use Rattle.card.proofs.Placing.{CardBy}
 use Rattle.card.proofs.Refusing.{nowhere, card-unplaced}
 use Rattle.card.proofs.Within.{card-within}
 use Rattle.roles.specs.Roles.{Words, Held, Role, entry, more, neutral, last, refused, roleBy, roleIn, roleRead, roleOf}
@@ -51,7 +51,7 @@ use Rattle.demands.specs.Columns.{CardColumn, HeaderColumn, LookupColumn
 -- ---- a card
 
 -- taking the column away is placing none
-alone-nowhere : (a : CardAnswer) → alone a ≡ answerPlaced nowhere a
+alone-nowhere : (a : CardAnswer) → alone a ≡ cardAnswerPlaced nowhere a
 alone-nowhere (A.Read card) = refl
 alone-nowhere (A.Refused x) = refl
 
@@ -310,8 +310,8 @@ card-told : (c : List ℕ) → length c ≡ 80 → cardColumn c (cardOf c .answe
 unfolding cardOf
 card-told c whole = go (unplacedOf c .answer) (card-within c whole)
   where
-    go : (a : CardAnswer) → RefusedBy (λ (y : Fault). Within (y .column)) (answerPlaced (columnOf c) a)
-        → cardColumn c (answerPlaced (columnOf c) a)
+    go : (a : CardAnswer) → CardBy (λ (y : Fault). Within (y .column)) (cardAnswerPlaced (columnOf c) a)
+        → cardColumn c (cardAnswerPlaced (columnOf c) a)
     go (A.Read card) h = tt
     go (A.Refused x) h = record { column = refl; within = λ (low : numberOf (x .why) ≤ 8). on-card (columnOf c (x .why)) h }
 

@@ -10,7 +10,7 @@ use Rattle.card.specs.declared.CardAnswer.{CardAnswer}
 use Rattle.card.specs.declared.CardAnswer.the-variants as A
 use Rattle.card.specs.declared.CardRead.{CardRead}
 use Rattle.card.specs.Columns.{columnOf}
-use Rattle.card.specs.Cards.{answerPlaced, cardPlaced, unplacedOf, cardOf}
+use Rattle.card.specs.Cards.{cardAnswerPlaced, cardPlaced, unplacedOf, cardOf}
 use Rattle.roles.specs.Roles.{Held, Role, entry, more, neutral, last, refused, roleBy, roleIn, roleRead, roleOf}
 
 -- a role with the column beside a refusal
@@ -24,7 +24,7 @@ rolePlaced f (refused x) = refused (placed f x)
 pub role-placed : (f : Refusal → Column) (r : CardRead) → roleRead (cardPlaced f r) ≡ rolePlaced f (roleRead r)
 role-placed f r = go (r .answer)
   where
-    go : (a : CardAnswer) → roleIn (roleBy (answerPlaced f a)) (cardPlaced f r) ≡ rolePlaced f (roleIn (roleBy a) r)
+    go : (a : CardAnswer) → roleIn (roleBy (cardAnswerPlaced f a)) (cardPlaced f r) ≡ rolePlaced f (roleIn (roleBy a) r)
     go (A.Read (C.Value v)) = refl
     go (A.Read (C.Hierarch v)) = refl
     go (A.Read C.Xtension) = refl

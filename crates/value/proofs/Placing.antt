@@ -22,43 +22,43 @@ use Rattle.value.specs.declared.ValueAnswer.{ValueAnswer}
 use Rattle.value.specs.declared.ValueAnswer.the-variants.{Read, Refused}
 use Rattle.value.specs.declared.ValueRead.{ValueRead}
 use Rattle.value.specs.Values.{valueRefused, byQuotes, ofString, ofNumber, byStart, byBytes, valueWith, byParts, valueOf}
-use Rattle.value.specs.Values.{startOf, answerPlaced, valuePlaced}
+use Rattle.value.specs.Values.{startOf, valueAnswerPlaced, valuePlaced}
 
 -- a refusal, if it is one, is one of those
-abbrev pub RefusedBy : (Fault → Type 0) → ValueAnswer → Type 0
-RefusedBy P (Read v) = Unit {0}
-RefusedBy P (Refused x) = P x
+abbrev pub ValueBy : (Fault → Type 0) → ValueAnswer → Type 0
+ValueBy P (Read v) = Unit {0}
+ValueBy P (Refused x) = P x
 
 -- ---- a value text is refused at its first byte alone
 
-with-led : (v : Text) (raw : List ℕ) (commented : Bool) (comment : Text) → RefusedBy Led (valueWith v raw commented comment .answer)
+with-led : (v : Text) (raw : List ℕ) (commented : Bool) (comment : Text) → ValueBy Led (valueWith v raw commented comment .answer)
 unfolding valueWith ofString ofNumber
 with-led v raw commented comment = by-bytes (bytesOf v)
   where
-    by-quotes : (q : Quoted) (s : Text) → QuotedBy Led q → RefusedBy Led (byQuotes q s commented comment .answer)
+    by-quotes : (q : Quoted) (s : Text) → QuotedBy Led q → ValueBy Led (byQuotes q s commented comment .answer)
     by-quotes Q.Str s h = tt
     by-quotes (Q.Refused x) s h = h
 
-    by-start : (k : Start) → RefusedBy Led (byStart k v raw commented comment .answer)
+    by-start : (k : Start) → ValueBy Led (byStart k v raw commented comment .answer)
     by-start Quote = by-quotes (stringOf (bytesOf v) .answer) (stringOf (bytesOf v) .text) (string-led (bytesOf v))
     by-start (Truth t) = tt
     by-start Number = tt
     by-start Complex = complex
     by-start Else = tt
 
-    by-bytes : (s : List ℕ) → RefusedBy Led (byBytes s v raw commented comment .answer)
+    by-bytes : (s : List ℕ) → ValueBy Led (byBytes s v raw commented comment .answer)
     by-bytes [] = tt
     by-bytes (b ∷ s) = by-start (startOf b)
 
 -- ---- columns that agree on those refusals place them alike
 
 pub answer-alike : (f g : Refusal → Column) (P : Fault → Type 0) → ((x : Fault) → P x → f (x .why) ≡ g (x .why))
-    → (a : ValueAnswer) → RefusedBy P a → answerPlaced f a ≡ answerPlaced g a
+    → (a : ValueAnswer) → ValueBy P a → valueAnswerPlaced f a ≡ valueAnswerPlaced g a
 answer-alike f g P e (Read v) h = refl
 answer-alike f g P e (Refused x) h = ap Refused (placed-alike f g x (e x h))
 
 pub value-alike : (f g : Refusal → Column) (P : Fault → Type 0) → ((x : Fault) → P x → f (x .why) ≡ g (x .why))
-    → (r : ValueRead) → RefusedBy P (r .answer) → valuePlaced f r ≡ valuePlaced g r
+    → (r : ValueRead) → ValueBy P (r .answer) → valuePlaced f r ≡ valuePlaced g r
 value-alike f g P e r h =
     ap (λ (a : ValueAnswer). record { answer = a; text = r .text; commented = r .commented; comment = r .comment })
     (answer-alike f g P e (r .answer) h)
@@ -90,19 +90,19 @@ parts-placed from raw (S.Refused x) v comment = refl
 
 -- ---- what holds of the refusals of a text holds of those of its value
 
-pub value-by : (P : Fault → Type 0) (raw : List ℕ) → OfText P raw → RefusedBy P (valueOf raw .answer)
+pub value-by : (P : Fault → Type 0) (raw : List ℕ) → OfText P raw → ValueBy P (valueOf raw .answer)
 unfolding valueOf
 value-by P raw o = let h = splitOf raw in go (h .answer) (h .value) (h .comment) (o .split)
   where
-    weaker : (a : ValueAnswer) → RefusedBy Led a → RefusedBy P a
+    weaker : (a : ValueAnswer) → ValueBy Led a → ValueBy P a
     weaker (Read v) h = tt
     weaker (Refused x) h = o .first x h
 
-    go : (a : SplitAnswer) (v comment : Text) → SplitBy P a → RefusedBy P (byParts a v raw comment .answer)
+    go : (a : SplitAnswer) (v comment : Text) → SplitBy P a → ValueBy P (byParts a v raw comment .answer)
     go S.Bare v comment h = weaker (valueWith v raw false comment .answer) (with-led v raw false comment)
     go S.Commented v comment h = weaker (valueWith v raw true comment .answer) (with-led v raw true comment)
     go (S.Refused x) v comment h = h
 
 -- a raw text is refused by 2, or at its first byte
-pub value-in-text : (raw : List ℕ) → RefusedBy InText (valueOf raw .answer)
+pub value-in-text : (raw : List ℕ) → ValueBy InText (valueOf raw .answer)
 value-in-text raw = value-by InText raw (of-text raw)

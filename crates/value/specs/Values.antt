@@ -105,12 +105,12 @@ valueOf raw = let h = splitOf raw in byParts (h .answer) (h .value) raw (h .comm
 -- ---- on its card
 
 -- an answer with the column beside a refusal
-abbrev pub answerPlaced : (Refusal → Column) → ValueAnswer → ValueAnswer
-answerPlaced f (Read v) = Read v
-answerPlaced f (Refused fault) = Refused (placed f fault)
+abbrev pub valueAnswerPlaced : (Refusal → Column) → ValueAnswer → ValueAnswer
+valueAnswerPlaced f (Read v) = Read v
+valueAnswerPlaced f (Refused fault) = Refused (placed f fault)
 
 abbrev pub valuePlaced : (Refusal → Column) → ValueRead → ValueRead
-valuePlaced f r = record { answer = answerPlaced f (r .answer); text = r .text; commented = r .commented; comment = r .comment }
+valuePlaced f r = record { answer = valueAnswerPlaced f (r .answer); text = r .text; commented = r .commented; comment = r .comment }
 
 -- the value in a raw text that stands on its card from byte `from` on
 abbrev pub valueFrom : ℕ → List ℕ → ValueRead
