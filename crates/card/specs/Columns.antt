@@ -30,7 +30,8 @@ abbrev pub equalsByte : Place → Column
 equalsByte (P.At i) = At (9 + i)
 equalsByte P.Nowhere = Absent
 
--- the byte that a card's text stands from: CONTINUE 8, HIERARCH the one behind its =, any other 10
+-- the byte that a card's text stands from: CONTINUE 8, HIERARCH the one behind its =, any other 10; commentary and END have no text
+-- that is refused
 abbrev pub behind : Place → ℕ
 behind (P.At i) = 10 + i
 behind P.Nowhere = 10
@@ -45,7 +46,8 @@ textFrom Xtension c = 10
 textFrom End c = 10
 textFrom Other c = 10
 
--- each refusal of a card c whose text stands from byte `from` on; those that are not of a card have no column
+-- the rows of SPECIFICATION 2.1 in their order, for a card c whose text stands from byte `from` on: 1 to 8 with their columns, then those
+-- that are not of a card and have none
 abbrev pub columnIn : ℕ → List ℕ → Refusal → Column
 columnIn from c R.HighByte = highFrom c 0
 columnIn from c R.OddByte = oddByte from (drop from c)

@@ -36,17 +36,17 @@ use Rattle.joining.specs.Lookup.{joinOn, whole, ifSame, orElse, lookup}
 use Rattle.finding.specs.declared.Stop.{Stop}
 use Rattle.finding.specs.declared.Header.{Header}
 use Rattle.finding.specs.declared.Header.the-variants.{Accepted, Refused}
-use Rattle.finding.specs.Finding.{stopAt, headerFrom, headerOf}
+use Rattle.finding.specs.Finding.{stopAt, headerFrom, headerOf, lastFrom, lastOf, findBy, findOf}
 use Rattle.entries.specs.declared.LookupAnswer.the-variants as L
 use Rattle.entries.specs.Answers.{LookupOutcome, leftBy, bytesIn, foundAs, untouched, written, given, lookedUp, lookupOf}
 use Rattle.entries.specs.Answers.{entryHead, metOn, metHead, unlessMet, entryFrom, entryOf}
 use Rattle.listing.specs.Listing.{Table, nameOf, placeIn, put, putRole, listFrom, tabled, empty, byHeader, listOf}
 use Rattle.naming.specs.declared.Named.the-variants as N
 use Rattle.naming.specs.Naming.{NameOutcome, namingBy, unnamed, nameWritten, nameBy, nameAt}
-use Rattle.demands.specs.Columns.{alone, stopAlone, headerAlone, outcomeAlone, listAlone, namingAlone, unplacedRoles}
-use Rattle.demands.specs.Columns.{CardAlone, HeaderAlone, LookupAlone, EntryAlone, ListAlone, NameAlone}
-use Rattle.demands.specs.Columns.{OnCard, ColumnAt, headerColumn, answerColumn, nameColumn}
-use Rattle.demands.specs.Columns.{CardColumn, HeaderColumn, LookupColumn, EntryColumn, NameColumn}
+use Rattle.demands.specs.Columns.{alone, stopAlone, headerAlone, foundAlone, outcomeAlone, listAlone, namingAlone, unplacedRoles}
+use Rattle.demands.specs.Columns.{CardAlone, HeaderAlone, FindAlone, LookupAlone, EntryAlone, ListAlone, NameAlone}
+use Rattle.demands.specs.Columns.{OnCard, ColumnAt, headerColumn, foundColumn, answerColumn, nameColumn}
+use Rattle.demands.specs.Columns.{CardColumn, HeaderColumn, FindColumn, LookupColumn, EntryColumn, NameColumn}
 
 -- ---- a card
 
@@ -91,6 +91,28 @@ header-alone h = go (isBadLength (length h))
         ≡ cond b (Refused (stopAt (faultOf R.HeaderLength) 0)) (headerFrom (unplacedRoles h) 0)
     go true = refl
     go false = sym (header-bare (rolesOf h) 0) ∙ ap (λ (rs : List Role). headerFrom rs 0) (sym (roles-bare (cardsOf h)))
+
+-- ---- finding a name
+
+last-bare : (name : List ℕ) (rs : List Role) (i : ℕ) (p : Place) → lastFrom name (map bare rs) i p ≡ lastFrom name rs i p
+unfolding lastFrom
+last-bare name [] i p = refl
+last-bare name (entry m v ∷ rs) i p = last-bare name rs (suc i) (cond (same m name) (P.At i) p)
+last-bare name (more t c ∷ rs) i p = last-bare name rs (suc i) p
+last-bare name (neutral ∷ rs) i p = last-bare name rs (suc i) p
+last-bare name (last ∷ rs) i p = refl
+last-bare name (refused x ∷ rs) i p = last-bare name rs (suc i) p
+
+pub find-alone : FindAlone
+unfolding findOf
+find-alone h name =
+    go (headerOf h)
+    ∙ ap₂ findBy (header-alone h)
+    (sym (last-bare name (rolesOf h) 0 P.Nowhere) ∙ ap (lastOf name) (sym (roles-bare (cardsOf h))))
+  where
+    go : (x : Header) → foundAlone (findBy x (lastOf name (rolesOf h))) ≡ findBy (headerAlone x) (lastOf name (rolesOf h))
+    go (Accepted end) = refl
+    go (Refused s) = refl
 
 -- ---- a lookup
 
@@ -417,6 +439,14 @@ header-column h = go (isBadLength (length h))
     go : (b : Bool) → headerColumn h (cond b (Refused (stopAt (faultOf R.HeaderLength) 0)) (headerFrom (rolesOf h) 0))
     go true = length-told h
     go false = from-told h (rolesOf h) 0 refl
+
+pub find-column : FindColumn
+unfolding findOf
+find-column h name = go (headerOf h) (header-column h)
+  where
+    go : (x : Header) → headerColumn h x → foundColumn h (findBy x (lastOf name (rolesOf h)))
+    go (Accepted end) told = tt
+    go (Refused s) told = told
 
 given-told : (h : List ℕ) (o : Option Held) (text comment : List ℕ) → answerColumn h (given o text comment .answer .answer)
 unfolding written

@@ -18,7 +18,9 @@ use Rattle.roles.specs.Cards.{cardsOf, cardNo}
 use Rattle.finding.specs.declared.Stop.{Stop}
 use Rattle.finding.specs.declared.Header.{Header}
 use Rattle.finding.specs.declared.Header.the-variants.{Accepted, Refused}
-use Rattle.finding.specs.Finding.{stopAt, headerBy, headerOf}
+use Rattle.finding.specs.declared.Found.{Found}
+use Rattle.finding.specs.declared.Found.the-variants as F
+use Rattle.finding.specs.Finding.{stopAt, headerBy, headerOf, lastOf, findBy, findOf}
 use Rattle.entries.specs.declared.LookupAnswer.{LookupAnswer}
 use Rattle.entries.specs.declared.LookupAnswer.the-variants as L
 use Rattle.entries.specs.declared.Looked.{Looked}
@@ -46,6 +48,11 @@ stopAlone s = stopAt (unplaced (s .fault)) (s .card)
 abbrev pub headerAlone : Header → Header
 headerAlone (Accepted end) = Accepted end
 headerAlone (Refused s) = Refused (stopAlone s)
+
+-- of finding a name
+abbrev pub foundAlone : Found → Found
+foundAlone (F.Refused s) = F.Refused (stopAlone s)
+foundAlone (F.Read end p) = F.Read end p
 
 -- of a lookup, and of an entry by its card
 abbrev pub answerAlone : LookupAnswer → LookupAnswer
@@ -94,6 +101,10 @@ HeaderAlone = (h : List ℕ) → headerAlone (headerOf h) ≡ unplacedHeader h
 
 -- ---- what is answered of a header, with the same lent buffers
 
+-- finding a name
+abbrev pub FindAlone : Type 0
+FindAlone = (h name : List ℕ) → foundAlone (findOf h name) ≡ findBy (unplacedHeader h) (lastOf name (unplacedRoles h))
+
 -- looking a name up
 abbrev pub LookupAlone : Type 0
 LookupAlone =
@@ -139,6 +150,14 @@ headerColumn h (Refused s) = ColumnAt (cardNo h (s .card)) (s .fault)
 
 abbrev pub HeaderColumn : Type 0
 HeaderColumn = (h : List ℕ) → headerColumn h (headerOf h)
+
+-- of finding a name
+abbrev pub foundColumn : List ℕ → Found → Type 0
+foundColumn h (F.Refused s) = ColumnAt (cardNo h (s .card)) (s .fault)
+foundColumn h (F.Read end p) = Unit {0}
+
+abbrev pub FindColumn : Type 0
+FindColumn = (h name : List ℕ) → foundColumn h (findOf h name)
 
 -- of a lookup and of an entry by its card: 12 and 13 have none
 abbrev pub answerColumn : List ℕ → LookupAnswer → Type 0

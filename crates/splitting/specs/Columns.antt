@@ -27,7 +27,7 @@ use Rattle.splitting.specs.Strings.{stringOf}
 
 -- ---- the columns
 
--- the first byte of a text without its blanks, by what is left behind those at its front; blanks alone have the byte that they stand from
+-- the first byte of a text without its blanks: the one behind those at its front. A text of blanks alone has the byte that it stands from.
 abbrev pub firstBy : List ℕ → ℕ → ℕ → ℕ
 firstBy [] from blanks = from
 firstBy (b ∷ s) from blanks = from + blanks
