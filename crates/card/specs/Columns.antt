@@ -66,6 +66,9 @@ columnIn from c R.PixelCount = Absent
 columnIn from c R.TileEnds = Absent
 columnIn from c R.FsAboveTop = Absent
 columnIn from c R.BadCursor = Absent
+columnIn from c R.UnwritableName = Absent
+columnIn from c R.UnwritableValue = Absent
+columnIn from c R.BlockShort = Absent
 
 abbrev pub columnOf : List ℕ → Refusal → Column
 columnOf c why = columnIn (textFrom (classOf (keywordOf c)) c) c why

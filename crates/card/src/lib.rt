@@ -92,6 +92,34 @@ pub fn read_card(card: &[u8; 80]) -> CardRead
     }
 }
 
+// What a keyword says of its card.
+pub fn class_of(word: &[u8]) -> Class
+    ensures { λ r. ⌜ r ≡ classOf (now (word .entry)) ⌝ }
+{
+    if word.len() == 0 {
+        return Class::Empty;
+    }
+    if text::same_bytes(word, b"COMMENT") {
+        return Class::Comment;
+    }
+    if text::same_bytes(word, b"HISTORY") {
+        return Class::History;
+    }
+    if text::same_bytes(word, b"CONTINUE") {
+        return Class::Continue;
+    }
+    if text::same_bytes(word, b"XTENSION") {
+        return Class::Xtension;
+    }
+    if text::same_bytes(word, b"HIERARCH") {
+        return Class::Hierarch;
+    }
+    if text::same_bytes(word, b"END") {
+        return Class::End;
+    }
+    Class::Other
+}
+
 // A card without a byte of 128 or more, by what its keyword says.
 fn low_card(card: &[u8; 80]) -> CardRead
     ensures { λ r. ⌜ r ≡ cardPlaced (columnOf (now (card .entry))) (lowOf (now (card .entry))) ⌝ }
@@ -180,33 +208,6 @@ fn find_high(s: &[u8]) -> Column
         i += 1;
     }
     Column::Absent
-}
-
-fn class_of(word: &[u8]) -> Class
-    ensures { λ r. ⌜ r ≡ classOf (now (word .entry)) ⌝ }
-{
-    if word.len() == 0 {
-        return Class::Empty;
-    }
-    if text::same_bytes(word, b"COMMENT") {
-        return Class::Comment;
-    }
-    if text::same_bytes(word, b"HISTORY") {
-        return Class::History;
-    }
-    if text::same_bytes(word, b"CONTINUE") {
-        return Class::Continue;
-    }
-    if text::same_bytes(word, b"XTENSION") {
-        return Class::Xtension;
-    }
-    if text::same_bytes(word, b"HIERARCH") {
-        return Class::Hierarch;
-    }
-    if text::same_bytes(word, b"END") {
-        return Class::End;
-    }
-    Class::Other
 }
 
 // ---- the classes

@@ -23,3 +23,6 @@ meaningOf R.PixelCount = ascii "the pixel slice is not as long as the tile has p
 meaningOf R.TileEnds = ascii "the tile ends before its last pixel"
 meaningOf R.FsAboveTop = ascii "an FS field of the tile is above its top"
 meaningOf R.BadCursor = ascii "the cursor does not fit the tile"
+meaningOf R.UnwritableName = ascii "the name is not 1 to 8 of A to Z, 0 to 9, - and _, or is a special keyword"
+meaningOf R.UnwritableValue = ascii "the value or its comment is outside the rules for written cards"
+meaningOf R.BlockShort = ascii "the block is shorter than the cards for it"

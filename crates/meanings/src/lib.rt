@@ -43,5 +43,12 @@ pub fn meaning(fault: Fault) -> Text
         Refusal::TileEnds => text::text_of(b"the tile ends before its last pixel"),
         Refusal::FsAboveTop => text::text_of(b"an FS field of the tile is above its top"),
         Refusal::BadCursor => text::text_of(b"the cursor does not fit the tile"),
+        Refusal::UnwritableName => text::text_of(
+            b"the name is not 1 to 8 of A to Z, 0 to 9, - and _, or is a special keyword",
+        ),
+        Refusal::UnwritableValue => text::text_of(
+            b"the value or its comment is outside the rules for written cards",
+        ),
+        Refusal::BlockShort => text::text_of(b"the block is shorter than the cards for it"),
     }
 }

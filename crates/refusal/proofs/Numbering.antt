@@ -9,6 +9,7 @@ use Rattle.refusal.specs.declared.Refusal.{Refusal}
 use Rattle.refusal.specs.declared.Refusal.the-variants.{HighByte, OddByte, StringNotClosed, StringNotOpened, Complex, NoEquals}
 use Rattle.refusal.specs.declared.Refusal.the-variants.{NoName, ExtensionNotQuoted, HeaderLength, NoEnd, NameNotFound}
 use Rattle.refusal.specs.declared.Refusal.the-variants.{BufferShort, Limits, PixelCount, TileEnds, FsAboveTop, BadCursor}
+use Rattle.refusal.specs.declared.Refusal.the-variants.{UnwritableName, UnwritableValue, BlockShort}
 use Rattle.refusal.specs.Numbers.{numberOf}
 
 -- the cases by their numbers: no case has the number 0 or 11
@@ -16,7 +17,8 @@ abbrev table : List (Option Refusal)
 table =
     none ∷ some HighByte ∷ some OddByte ∷ some StringNotClosed ∷ some StringNotOpened ∷ some Complex ∷ some NoEquals ∷ some NoName
     ∷ some ExtensionNotQuoted ∷ some HeaderLength ∷ some NoEnd ∷ none ∷ some NameNotFound ∷ some BufferShort ∷ some Limits
-    ∷ some PixelCount ∷ some TileEnds ∷ some FsAboveTop ∷ some BadCursor ∷ []
+    ∷ some PixelCount ∷ some TileEnds ∷ some FsAboveTop ∷ some BadCursor ∷ some UnwritableName
+    ∷ some UnwritableValue ∷ some BlockShort ∷ []
 
 -- a refusal is the one with its number
 told : (r : Refusal) → getD table (numberOf r) none ≡ some r
@@ -37,6 +39,9 @@ told PixelCount = refl
 told TileEnds = refl
 told FsAboveTop = refl
 told BadCursor = refl
+told UnwritableName = refl
+told UnwritableValue = refl
+told BlockShort = refl
 
 -- the case of an option, or another
 abbrev or : Refusal → Option Refusal → Refusal

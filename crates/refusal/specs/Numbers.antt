@@ -4,6 +4,7 @@ use Rattle.refusal.specs.declared.Refusal.{Refusal}
 use Rattle.refusal.specs.declared.Refusal.the-variants.{HighByte, OddByte, StringNotClosed, StringNotOpened, Complex, NoEquals}
 use Rattle.refusal.specs.declared.Refusal.the-variants.{NoName, ExtensionNotQuoted, HeaderLength, NoEnd, NameNotFound}
 use Rattle.refusal.specs.declared.Refusal.the-variants.{BufferShort, Limits, PixelCount, TileEnds, FsAboveTop, BadCursor}
+use Rattle.refusal.specs.declared.Refusal.the-variants.{UnwritableName, UnwritableValue, BlockShort}
 use Rattle.refusal.specs.declared.Column.{Column}
 use Rattle.refusal.specs.declared.Column.the-variants.{At, Absent}
 use Rattle.refusal.specs.declared.Fault.{Fault}
@@ -27,6 +28,9 @@ numberOf PixelCount = 15
 numberOf TileEnds = 16
 numberOf FsAboveTop = 17
 numberOf BadCursor = 18
+numberOf UnwritableName = 19
+numberOf UnwritableValue = 20
+numberOf BlockShort = 21
 
 -- the fault that carries a refusal: alone, and with the byte of the card at which it is met
 abbrev pub faultOf : Refusal → Fault

@@ -38,6 +38,12 @@ pub enum Refusal {
     FsAboveTop,
     // A cursor outside its rules.
     BadCursor,
+    // A name that no card may be written for.
+    UnwritableName,
+    // A value or comment outside the rules of written cards.
+    UnwritableValue,
+    // A lent block is shorter than the cards for it.
+    BlockShort,
 }
 
 // The byte of a card at which it is refused, counted from 0, or that there is none.
@@ -105,6 +111,9 @@ impl Refusal {
             Refusal::TileEnds => 16,
             Refusal::FsAboveTop => 17,
             Refusal::BadCursor => 18,
+            Refusal::UnwritableName => 19,
+            Refusal::UnwritableValue => 20,
+            Refusal::BlockShort => 21,
         }
     }
 }

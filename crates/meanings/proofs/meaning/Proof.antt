@@ -32,6 +32,9 @@ short R.PixelCount = refl
 short R.TileEnds = refl
 short R.FsAboveTop = refl
 short R.BadCursor = refl
+short R.UnwritableName = refl
+short R.UnwritableValue = refl
+short R.BlockShort = refl
 
 -- the words of a case that is known are the whole
 by : {r : Text} {why : Refusal} (w : Refusal) → why ≡ w → r ≡ textOf (take size (meaningOf w)) → r ≡ textOf (meaningOf why)
@@ -190,6 +193,33 @@ slice-aggregate-text-of-17 c = search needs
 text-of-requires-17 : tie.Need-text-of-requires-17
 text-of-requires-17 c κs = search needs
 
+enum-told-18 : tie.Need-enum-told-18
+enum-told-18 c = search needs
+
+slice-aggregate-text-of-18 : tie.Need-slice-aggregate-text-of-18
+slice-aggregate-text-of-18 c = search needs
+
+text-of-requires-18 : tie.Need-text-of-requires-18
+text-of-requires-18 c κs = search needs
+
+enum-told-19 : tie.Need-enum-told-19
+enum-told-19 c = search needs
+
+slice-aggregate-text-of-19 : tie.Need-slice-aggregate-text-of-19
+slice-aggregate-text-of-19 c = search needs
+
+text-of-requires-19 : tie.Need-text-of-requires-19
+text-of-requires-19 c κs = search needs
+
+enum-told-20 : tie.Need-enum-told-20
+enum-told-20 c = search needs
+
+slice-aggregate-text-of-20 : tie.Need-slice-aggregate-text-of-20
+slice-aggregate-text-of-20 c = search needs
+
+text-of-requires-20 : tie.Need-text-of-requires-20
+text-of-requires-20 c κs = search needs
+
 returns : tie.Need-returns
 unfolding meaningOf
 returns c = by R.HighByte (c .before .before .enum-told .given .1) (c .text-of .ensures)
@@ -258,6 +288,18 @@ returns-17 : tie.Need-returns-17
 unfolding meaningOf
 returns-17 c = by R.BadCursor (c .before .before .enum-told17 .given .1) (c .text-of17 .ensures)
 
+returns-18 : tie.Need-returns-18
+unfolding meaningOf
+returns-18 c = by R.UnwritableName (c .before .before .enum-told18 .given .1) (c .text-of18 .ensures)
+
+returns-19 : tie.Need-returns-19
+unfolding meaningOf
+returns-19 c = by R.UnwritableValue (c .before .before .enum-told19 .given .1) (c .text-of19 .ensures)
+
+returns-20 : tie.Need-returns-20
+unfolding meaningOf
+returns-20 c = by R.BlockShort (c .before .before .enum-told20 .given .1) (c .text-of20 .ensures)
+
 pub meaning-spec : {M : Type 1} → statement M
 meaning-spec =
     tie.close
@@ -313,6 +355,15 @@ meaning-spec =
     enum-told-17
     slice-aggregate-text-of-17
     text-of-requires-17
+    enum-told-18
+    slice-aggregate-text-of-18
+    text-of-requires-18
+    enum-told-19
+    slice-aggregate-text-of-19
+    text-of-requires-19
+    enum-told-20
+    slice-aggregate-text-of-20
+    text-of-requires-20
     returns
     returns-2
     returns-3
@@ -329,4 +380,7 @@ meaning-spec =
     returns-14
     returns-15
     returns-16
-    returns-17)
+    returns-17
+    returns-18
+    returns-19
+    returns-20)

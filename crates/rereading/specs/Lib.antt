@@ -1,0 +1,2 @@
+-- What is certain of written cards.
+pub mod ReadsBack

@@ -1,0 +1,5 @@
+-- What public promises cite: cards as they are written (SPECIFICATION 15).
+pub mod Pieces
+pub mod Written
+pub mod Rules
+pub mod Block
