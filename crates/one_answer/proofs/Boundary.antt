@@ -6,6 +6,7 @@ use mathlib.Core.Path.{_≡_, sym, _∙_}
 use denote.Ref.{now}
 use Rattle.abi_card.specs.Records.{cardOutcome}
 use Rattle.abi_header.specs.Headers.{HeaderOutcome, EntryOutcome, ListOutcome, NamedOutcome}
+use Rattle.abi_writing.specs.Asking.{WrittenOutcome}
 use Rattle.abi_tile.specs.Tiles.{cursorOf}
 use Rattle.one_answer.specs.OneAnswer.{OneAnswer, pairOf}
 use Rattle.one_answer.proofs.Both.{both}
@@ -19,6 +20,7 @@ use Rattle.abi_header.proofs.lookup_into.Reads as lookup-into-reads
 use Rattle.abi_header.proofs.entry_into.Reads as entry-into-reads
 use Rattle.abi_header.proofs.list_into.Reads as list-into-reads
 use Rattle.abi_header.proofs.name_into.Reads as name-into-reads
+use Rattle.abi_writing.proofs.write_into.Reads as write-into-reads
 use Rattle.abi_tile.proofs.open_into.Reads as open-into-reads
 use Rattle.abi_tile.proofs.step_into.Reads as step-into-reads
 use Rattle.abi_tile.proofs.decode_into.Reads as decode-into-reads
@@ -30,9 +32,13 @@ use Rattle.widrekas.proofs.widrekas_lookup.Reads as widrekas-lookup-reads
 use Rattle.widrekas.proofs.widrekas_entry.Reads as widrekas-entry-reads
 use Rattle.widrekas.proofs.widrekas_list.Reads as widrekas-list-reads
 use Rattle.widrekas.proofs.widrekas_name.Reads as widrekas-name-reads
+use Rattle.widrekas.proofs.widrekas_write.Reads as widrekas-write-reads
 use Rattle.widrekas.proofs.widrekas_open.Reads as widrekas-open-reads
 use Rattle.widrekas.proofs.widrekas_step.Reads as widrekas-step-reads
 use Rattle.widrekas.proofs.widrekas_decode.Reads as widrekas-decode-reads
+
+abbrev writtenLeft : ℕ → List ℕ → ℕ → WrittenOutcome
+writtenLeft r block count = record { answer = r; block = block; count = count }
 
 abbrev entryLeft : ℕ → List ℕ → List ℕ → List ℕ → List ℕ → ℤ → ℕ → EntryOutcome
 entryLeft r text comment digits out number column =
@@ -93,6 +99,11 @@ pub name-into : OneAnswer name-into-reads.Post
     (λ r s. nameLeft r (now (s .1 .1 .0)) (now (s .1 .1 .1 .0)) (now (s .1 .1 .1 .1 .0)))
 name-into κs a r q s t x y = x ∙ sym y
 
+-- `abi_writing::write_into`
+pub write-into : OneAnswer write-into-reads.Post
+    (λ r s. writtenLeft r (now (s .1 .1 .1 .1 .1 .1 .1 .0)) (now (s .1 .1 .1 .1 .1 .1 .1 .1 .0)))
+write-into κs a r q s t x y = x ∙ sym y
+
 -- `abi_tile::open_into`
 pub open-into : OneAnswer open-into-reads.Post
     (λ r s. pairOf r (cursorOf (now (s .1 .1 .1 .1 .0)) (now (s .1 .1 .1 .1 .1 .0)) (now (s .1 .1 .1 .1 .1 .1 .0))))
@@ -148,6 +159,11 @@ widrekas-list κs a r q s t x y = x ∙ sym y
 pub widrekas-name : OneAnswer widrekas-name-reads.Post
     (λ r s. nameLeft r (now (s .1 .1 .0)) (now (s .1 .1 .1 .0)) (now (s .1 .1 .1 .1 .0)))
 widrekas-name κs a r q s t x y = x ∙ sym y
+
+-- `widrekas::widrekas_write`
+pub widrekas-write : OneAnswer widrekas-write-reads.Post
+    (λ r s. writtenLeft r (now (s .1 .1 .1 .1 .1 .1 .1 .0)) (now (s .1 .1 .1 .1 .1 .1 .1 .1 .0)))
+widrekas-write κs a r q s t x y = x ∙ sym y
 
 -- `widrekas::widrekas_open`
 pub widrekas-open : OneAnswer widrekas-open-reads.Post

@@ -2,7 +2,8 @@
 use mathlib.Core.Path.{_≡_, sym, _∙_}
 use denote.Ref.{now}
 use Rattle.escaping.specs.Escaping.{escapeOutcome}
-use Rattle.one_answer.specs.OneAnswer.{OneAnswer}
+use Rattle.one_answer.specs.OneAnswer.{OneAnswer, pairOf}
+use Rattle.one_answer.proofs.Both.{both}
 use Rattle.refusal.proofs.Refusal.number.Reads as refusal-number-reads
 use Rattle.refusal.proofs.Fault.number.Reads as fault-number-reads
 use Rattle.refusal.proofs.fault_of.Reads as fault-of-reads
@@ -36,6 +37,8 @@ use Rattle.splitting.proofs.parse_string.Reads as parse-string-reads
 use Rattle.value.proofs.read_value.Reads as read-value-reads
 use Rattle.value.proofs.unit.Reads as unit-reads
 use Rattle.card.proofs.read_card.Reads as read-card-reads
+use Rattle.card.proofs.class_of.Reads as class-of-reads
+use Rattle.writing.proofs.write.Reads as write-reads
 
 -- `refusal::Refusal::number`
 pub refusal-number : OneAnswer refusal-number-reads.Post (λ r s. r)
@@ -168,3 +171,11 @@ unit κs a r q s t x y = x ∙ sym y
 -- `card::read_card`
 pub read-card : OneAnswer read-card-reads.Post (λ r s. r)
 read-card κs a r q s t x y = x ∙ sym y
+
+-- `card::class_of`
+pub class-of : OneAnswer class-of-reads.Post (λ r s. r)
+class-of κs a r q s t x y = x ∙ sym y
+
+-- `writing::write`
+pub write : OneAnswer write-reads.Post (λ r s. pairOf r (now (s .1 .1 .1 .1 .1 .0)))
+write κs a r q s t x y = both (x .0 ∙ sym (y .0)) (x .1 ∙ sym (y .1))

@@ -9,6 +9,9 @@ ghost use Rattle.listing.specs.Listing.{listOf};
 ghost use Rattle.naming.specs.Naming.{nameAt};
 ghost use Rattle.abi_header.specs.Headers.{HeaderLeft, EntryLeft, ListLeft, NameLeft};
 ghost use Rattle.laws.specs.Lending.{lentOf};
+ghost use Rattle.roles.specs.Roles.{commentOf};
+ghost use Rattle.writing.specs.Block.{writeOf};
+ghost use Rattle.abi_writing.specs.Asking.{isSet, valueAsked, WriteLeft};
 ghost use Rattle.abi_tile.specs.Tiles.{cursorIn, OpenLeft, StepLeft, DecodeLeft};
 
 // The version of this boundary.
@@ -125,6 +128,39 @@ pub extern "C" fn widrekas_name(
     ensures { λ r. ⌜ NameLeft (nameAt (now (header .entry)) card) (lentOf name) (lentOf length) (lentOf column) r ⌝ }
 {
     abi_header::name_into(header, card, name, length, column)
+}
+
+// ---- cards written
+
+// Writes the cards of a name and its value at the front of a block. Answers 0, with the number of cards as the count; what follows them
+// stays. Otherwise it answers 19, 20 or 21, in that order, and block and count stay as they are. The value is a kind with its flag and
+// number, as a lookup gives them, and the text is a decimal's digits or a string; a flag is false where it is 0.
+#[no_mangle]
+pub extern "C" fn widrekas_write(
+    name: &[u8],
+    kind: usize,
+    flag: usize,
+    number: i64,
+    text: &[u8],
+    commented: usize,
+    comment: &[u8],
+    block: &mut [u8],
+    count: &mut usize,
+) -> u8
+    ensures { λ r. ⌜ WriteLeft (writeOf (now (name .entry)) (valueAsked kind (isSet flag) number) (now (text .entry))
+        (commentOf (isSet commented) (now (comment .entry)))) (lentOf block) (lentOf count) r ⌝ }
+{
+    abi_writing::write_into(
+        name,
+        kind,
+        flag,
+        number,
+        text,
+        commented,
+        comment,
+        block,
+        count,
+    )
 }
 
 // ---- tiles
