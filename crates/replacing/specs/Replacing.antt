@@ -1,4 +1,4 @@
--- Written cards in the places of a name's old ones (SPECIFICATION 15.6).
+-- Written cards in the places of a name's old ones (SPECIFICATION 16.6).
 use Prim.Native.Nat.{ℕ, _<_}
 use mathlib.Core.Path.{_≡_}
 use mathlib.Core.Bool.{Bool, true, false, cond}

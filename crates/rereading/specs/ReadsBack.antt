@@ -1,4 +1,4 @@
--- What is written reads back (SPECIFICATION 15.5).
+-- What is written reads back (SPECIFICATION 16.5).
 use Prim.Native.Nat.{ℕ, _*_, _<_, _≤_}
 use mathlib.Core.Path.{_≡_}
 use mathlib.Core.Bool.{Bool, true, false}
