@@ -1,0 +1,2 @@
+-- What is proved of written cards.
+pub mod Owning
