@@ -1,2 +1,6 @@
 -- What is proved of written cards.
+pub mod Endings
+pub mod Scanning
+pub mod Splitting
+pub mod Valuing
 pub mod Owning
