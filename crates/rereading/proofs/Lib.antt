@@ -3,4 +3,6 @@ pub mod Endings
 pub mod Scanning
 pub mod Splitting
 pub mod Valuing
+pub mod Names
+pub mod Fronts
 pub mod Owning
