@@ -1,5 +1,4 @@
 -- The scan of what was written.
--- a byte that is put
 use Prim.Native.Nat.{ℕ, suc, _+_}
 use Prim.Native.Char.{code}
 use native.Mathlib.Omega.{arith}
@@ -21,6 +20,7 @@ use Rattle.writing.specs.Rules.{every}
 use Rattle.rereading.proofs.Endings.{every-first, every-rest, shown-printable}
 use Rattle.rereading.proofs.Endings.{every-first, every-rest, shown-printable}
 
+-- a byte that is put
 puts-byte : (q r : Quoting) (b : ℕ) (s : List ℕ) (i : ℕ) → isPrintable b ≡ true → move q (byteClass b) ≡ puts r
     → scanFrom q (b ∷ s) i ≡ putBefore (b ∷ []) (scanFrom r s (suc i))
 unfolding scanFrom after

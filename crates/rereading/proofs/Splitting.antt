@@ -1,5 +1,4 @@
 -- Splitting what was written: the value text and the comment.
--- the states that a slash ends
 use Prim.Native.Nat.{ℕ, suc, _+_}
 use Prim.Native.Char.{code}
 use native.Mathlib.Omega.{arith}
@@ -32,6 +31,7 @@ use Rattle.rereading.proofs.Scanning.{Passes, quoted-passes, isPlain, p
 use Rattle.rereading.proofs.Endings.{blank-printable, shown-all, lastIs, ends-space, last-behind, end-kept, trim-padded}
 use Rattle.rereading.proofs.Endings.{last-agrees}
 
+-- the states that a slash ends
 pub data Out : Quoting → Type 0 where
   outside : Out Outside
   closed : Out Closed

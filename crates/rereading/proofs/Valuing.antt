@@ -1,5 +1,4 @@
 -- The values that written texts read as.
--- ---- strings
 use Prim.Native.Nat.{ℕ}
 use Prim.Native.Char.{code}
 use mathlib.Core.Path.{_≡_, refl, ap, _∙_}
@@ -26,6 +25,7 @@ use Rattle.rereading.proofs.Splitting.{halvesOf, spaced, within, split-
 use Rattle.rereading.proofs.Endings.{lastIs, stem-behind, ends-behind, end-kept}
 use Rattle.rereading.proofs.Splitting.{halvesOf, spaced, within, split-quoted}
 
+-- ---- strings
 -- 2. what stands within quotes is read as it is, but for spaces at its end
 pub string-within : (s : List ℕ) → stringOf (within s) ≡ reads s
 unfolding stringOf opened
