@@ -16,10 +16,6 @@ use Rattle.rereading.proofs.Lists.{All, no-more, also}
 use Rattle.rereading.proofs.Endings.{every-first, every-rest, every-append, lastIs, last-behind}
 use Rattle.rereading.proofs.Splitting.{remark-printable}
 use Rattle.rereading.proofs.Valuing.{settled-kept}
-use Rattle.rereading.proofs.Endings.{every-first, every-rest, every-append, lastIs, last-behind}
-use Rattle.rereading.proofs.Valuing.{settled-kept}
-use Rattle.rereading.proofs.Lists.{All, no-more, also}
-use Rattle.rereading.proofs.Splitting.{remark-printable}
 
 -- ---- what fits and what is left are the whole
 pub cut-whole : (n : ℕ) (s : List ℕ) → fitting n s ++ leftover n s ≡ s

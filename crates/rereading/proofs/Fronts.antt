@@ -24,10 +24,6 @@ use Rattle.rereading.proofs.Endings.{every-first, every-append, every-w
 use Rattle.rereading.proofs.Splitting.{spaced}
 use Rattle.rereading.proofs.Names.{name-visible, visible-printable, visible-blank, last-none, name-length, name-bytes}
 use Rattle.rereading.proofs.Names.{name-other}
-use Rattle.rereading.proofs.Names.{name-visible, visible-printable, visible-blank, last-none, name-length, name-bytes}
-use Rattle.rereading.proofs.Names.{name-other}
-use Rattle.rereading.proofs.Endings.{every-first, every-append, every-weaker, low-all, every-spaces, trim-padded}
-use Rattle.rereading.proofs.Splitting.{spaced}
 use Rattle.card.specs.declared.Class.the-variants as K
 
 -- ---- a text filled with spaces to n bytes

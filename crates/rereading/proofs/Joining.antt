@@ -14,9 +14,6 @@ use Rattle.writing.specs.Pieces.{fitting, leftover, openRoom, fits, lastPiece, 
 use Rattle.rereading.proofs.Endings.{lastIs, stem-behind, ends-behind, end-kept}
 use Rattle.rereading.proofs.Cutting.{cut-whole, last-back}
 use Rattle.rereading.proofs.Roles.{moreOf}
-use Rattle.rereading.proofs.Cutting.{cut-whole, last-back}
-use Rattle.rereading.proofs.Endings.{lastIs, stem-behind, ends-behind, end-kept}
-use Rattle.rereading.proofs.Roles.{moreOf}
 
 -- the words of a string so far
 abbrev pub wordsOf : List ℕ → Comment → Words
@@ -50,7 +47,7 @@ step : (a s : List ℕ) (c : Comment) (t : List ℕ) → joinText (a ++ ascii "&
 unfolding joinOn joinWords joinComment
 step a s c t e h = rw (opens-here a none, e)
 
--- 4. the pieces joined to a text that ends in &
+-- the pieces joined to a text that ends in &
 pub join-pieces : (n : ℕ) (a s : List ℕ) (c : Comment) → lastIs isSpace (a ++ s) ≡ false → (h : List Role)
     → joinOn (wordsOf (a ++ ascii "&") none) (map moreOf (piecesFrom n s c) ++ h) ≡ joinOn (wordsOf (a ++ s) c) h
 unfolding piecesFrom

@@ -9,4 +9,6 @@ pub mod Fronts
 pub mod Cutting
 pub mod Roles
 pub mod Joining
+pub mod Strings
+pub mod Plain
 pub mod Owning

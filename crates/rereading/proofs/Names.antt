@@ -16,11 +16,9 @@ use Rattle.card.specs.Keywords.{classOf}
 use Rattle.writing.specs.Rules.{every, isNameByte, isOther, isName}
 use Rattle.rereading.proofs.Endings.{every-first, every-rest, blank-printable, lastIs}
 use Rattle.rereading.proofs.Scanning.{isPlain}
-use Rattle.rereading.proofs.Scanning.{isPlain}
-use Rattle.rereading.proofs.Endings.{every-first, every-rest, blank-printable, lastIs}
 use Rattle.card.specs.declared.Class.the-variants as K
 
-or-case : (u v : Bool) → (u || v) ≡ true → (u ≡ true) ⊎ (v ≡ true)
+pub or-case : (u v : Bool) → (u || v) ≡ true → (u ≡ true) ⊎ (v ≡ true)
 or-case true v e = inl refl
 or-case false v e = inr e
 

@@ -4,7 +4,7 @@ use native.Mathlib.Nat.{le-of-suc-le-suc, not-suc-le-zero}
 use mathlib.Core.Path.{_≡_, refl, ap, _∙_}
 use mathlib.Core.Bool.{true, false}
 use mathlib.Core.List.{List, [], _∷_, _++_}
-use lib.ListN.{length, getD, drop}
+use lib.ListN.{length, drop, getD}
 use Rattle.text.specs.Same.{same}
 use Rattle.roles.specs.Roles.{Held, Role, entry}
 use Rattle.joining.specs.Lookup.{isOpen}

@@ -24,11 +24,6 @@ use Rattle.rereading.proofs.Splitting.{halvesOf, within, split-quoted}
 use Rattle.rereading.proofs.Valuing.{string-within, value-quoted}
 use Rattle.rereading.proofs.Fronts.{left, card-read, continue-read, continue-text, role-by}
 use Rattle.rereading.proofs.Cutting.{Sound, piece-printable}
-use Rattle.rereading.proofs.Cutting.{Sound, piece-printable}
-use Rattle.rereading.proofs.Valuing.{string-within, value-quoted}
-use Rattle.rereading.proofs.Lists.{All, no-more, also}
-use Rattle.rereading.proofs.Fronts.{left, card-read, continue-read, continue-text, role-by}
-use Rattle.rereading.proofs.Splitting.{halvesOf, within, split-quoted}
 
 -- a comment that was read
 pub comment-back : (c : Comment) → commentOf (isThere c) (bytesOf (textOf (bytesIn c))) ≡ c
@@ -39,7 +34,7 @@ comment-back (some c) = ap some (bytes-text c)
 abbrev pub heldString : List ℕ → Comment → Held
 heldString s c = record { value = String; digits = []; words = record { text = s; comment = c; joins = true } }
 
--- 3. a written card of a string is the entry of its name, its text and its comment
+-- a written card of a string is the entry of its name, its text and its comment
 string-card : (name : List ℕ) → isName name ≡ true → {p : Piece} → Sound p
     → unplacedOf (cardFrom (nameFront name) (pieceText p)) ≡ ofValue false (textOf name) (valueAs String (textOf (p .text)) (isThere (p .comment)) (textOf (bytesIn (p .comment))))
 string-card name e {p} h =

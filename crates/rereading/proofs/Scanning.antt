@@ -18,7 +18,6 @@ use Rattle.splitting.proofs.Scanning.{class-plain, inside-other}
 use Rattle.writing.specs.Pieces.{doubled, quoted}
 use Rattle.writing.specs.Rules.{every}
 use Rattle.rereading.proofs.Endings.{every-first, every-rest, shown-printable}
-use Rattle.rereading.proofs.Endings.{every-first, every-rest, shown-printable}
 
 -- a byte that is put
 puts-byte : (q r : Quoting) (b : ℕ) (s : List ℕ) (i : ℕ) → isPrintable b ≡ true → move q (byteClass b) ≡ puts r
@@ -66,7 +65,7 @@ close-quote : (s : List ℕ) (i : ℕ) → scanFrom Inside (code "'" ∷ s) i �
 unfolding scanFrom after byteClass shown isPrintable
 close-quote s i = refl
 
--- 1. a written string is passed, the closing quote is behind, and what is put is the string between its quotes
+-- a written string is passed, the closing quote is behind, and what is put is the string between its quotes
 pub quoted-passes : (s : List ℕ) → every isPrintable s ≡ true → Passes (quoted s) (code "'" ∷ (s ++ ascii "'")) Closed
 quoted-passes s e r =
     let long : length (doubled s ++ ascii "'") ≡ length (doubled s) + 1 = length-append (doubled s) (ascii "'") in

@@ -27,9 +27,6 @@ use Rattle.writing.specs.Rules.{every, isRemark, isComment}
 use Rattle.rereading.proofs.Endings.{blank-printable, shown-all, lastIs, ends-space, last-behind, end-kept, trim-padded}
 use Rattle.rereading.proofs.Endings.{last-agrees}
 use Rattle.rereading.proofs.Scanning.{Passes, quoted-passes, isPlain, plain-passes}
-use Rattle.rereading.proofs.Scanning.{Passes, quoted-passes, isPlain, plain-passes}
-use Rattle.rereading.proofs.Endings.{blank-printable, shown-all, lastIs, ends-space, last-behind, end-kept, trim-padded}
-use Rattle.rereading.proofs.Endings.{last-agrees}
 
 -- the states that a slash ends
 pub data Out : Quoting → Type 0 where
@@ -119,7 +116,7 @@ module _ {q : Quoting} (d : ℕ) (t : List ℕ) (e : ℕ) (v : List ℕ) (out : 
 abbrev pub within : List ℕ → List ℕ
 within s = code "'" ∷ (s ++ ascii "'")
 
--- 1. splitting a written string, with its comment, among spaces
+-- splitting a written string, with its comment, among spaces
 pub split-quoted : (s : List ℕ) → every isPrintable s ≡ true → (n m : ℕ) (c : Comment) → isComment c ≡ true → splitOf (spaced n m (quoted s ++ tailOf c)) ≡ halvesOf (within s) c
 unfolding lastIs isBlank isSpace
 split-quoted s e n m c y =

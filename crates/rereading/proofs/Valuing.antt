@@ -22,11 +22,9 @@ use Rattle.writing.specs.Pieces.{quoted, tailOf}
 use Rattle.writing.specs.Rules.{every, isComment}
 use Rattle.rereading.proofs.Endings.{lastIs, stem-behind, ends-behind, end-kept}
 use Rattle.rereading.proofs.Splitting.{halvesOf, spaced, within, split-quoted}
-use Rattle.rereading.proofs.Endings.{lastIs, stem-behind, ends-behind, end-kept}
-use Rattle.rereading.proofs.Splitting.{halvesOf, spaced, within, split-quoted}
 
 -- ---- strings
--- 2. what stands within quotes is read as it is, but for spaces at its end
+-- what stands within quotes is read as it is, but for spaces at its end
 pub string-within : (s : List ℕ) → stringOf (within s) ≡ reads s
 unfolding stringOf opened
 string-within s = rw (ends-behind s (code "'"), stem-behind s (code "'"))
