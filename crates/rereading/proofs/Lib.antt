@@ -11,4 +11,7 @@ pub mod Roles
 pub mod Joining
 pub mod Strings
 pub mod Plain
+pub mod Digits
+pub mod Integers
+pub mod Decimals
 pub mod Owning
