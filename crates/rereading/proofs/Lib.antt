@@ -15,3 +15,5 @@ pub mod Digits
 pub mod Integers
 pub mod Decimals
 pub mod Owning
+pub mod Continued
+pub mod Answering
