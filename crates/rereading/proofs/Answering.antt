@@ -17,14 +17,11 @@ use Rattle.joining.specs.Words.{endsOpen, opens}
 use Rattle.joining.specs.Lookup.{lookup}
 use Rattle.joining.specs.Belonging.{Open, ended}
 use Rattle.writing.specs.Pieces.{Piece, piecesOf}
-use Rattle.writing.specs.Written.{cardFrom, nameFront, truthText, decimalText, plainText, stringCards, writtenCards, heldFor}
+use Rattle.writing.specs.Written.{cardFrom, nameFront, truthText, decimalText, plainText, writtenCards, heldFor}
 use Rattle.writing.specs.Rules.{every, isName, isComment, isShort, remarkLimit, isText, isLong, isSignificant, isPower, fitsCard}
 use Rattle.writing.specs.Rules.{isValue, isWritable}
-use Rattle.rereading.proofs.Lists.{no-more, also}
-use Rattle.rereading.proofs.Valuing.{settled-space}
-use Rattle.rereading.proofs.Cutting.{pieces-sound}
-use Rattle.rereading.proofs.Roles.{heldString, string-roles}
-use Rattle.rereading.proofs.Strings.{string-printable, string-shut, string-end, one-space, string-back}
+use Rattle.rereading.proofs.Roles.{heldString, rolesFor, string-roles}
+use Rattle.rereading.proofs.Strings.{string-shut, string-end, one-space, text-sound, string-back}
 use Rattle.rereading.proofs.Plain.{heldPlain, role-back, logical-role}
 use Rattle.rereading.proofs.Integers.{integer-role}
 use Rattle.rereading.proofs.Decimals.{decimal-role}
@@ -68,14 +65,13 @@ module _ (name : List ℕ) (good : isName name ≡ true) (text : List ℕ) (c : 
     owned-by (Float minus Nan) y e = absurd (true≢false (sym e))
     owned-by (Logical t) y e = plain-owned (Logical t) [] (cardFrom (nameFront name) (plainText (truthText t) c)) (logical-role name good t c y)
     owned-by String y e =
-        let is = and-both (isText text) (isShort remarkLimit c) e .0 in
-        let short = and-both (isText text) (isShort remarkLimit c) e .1 in
-        ⊎-elim (λ l. subst (Owns name q) (sym (string-roles name good (pieces-sound (length text) text c (string-printable text is) l y))) (owns-string name (length text) text c l (string-shut text is) q on))
-        (λ one. subst (λ (t : List ℕ). Owns name q (map roleOf (stringCards name (piecesOf t c)))) (sym one)
-        (subst (λ (ps : List Piece). Owns name q (map roleOf (stringCards name ps))) (sym (one-space c short))
-        (subst (Owns name q) (sym (string-roles name good (also (record { printable = refl; settles = settled-space; remark = y }) no-more)))
-        (owns-one name (heldString (ascii " ") c) (ap endsOpen (sym one) ∙ string-shut text is) q on))))
-        (string-end text is)
+        let (is, short) = and-both (isText text) (isShort remarkLimit c) e in
+        subst (Owns name q) (sym (string-roles name good (text-sound text c is y short)))
+        (⊎-elim (λ l. owns-string name (length text) text c l (string-shut text is) q on)
+        (λ one. subst (λ (t : List ℕ). Owns name q (rolesFor name (piecesOf t c))) (sym one)
+        (subst (λ (ps : List Piece). Owns name q (rolesFor name ps)) (sym (one-space c short))
+        (owns-one name (heldString (ascii " ") c) (ap endsOpen (sym one) ∙ string-shut text is) q on)))
+        (string-end text is))
     owned-by Undefined y e = absurd (true≢false (sym e))
     owned-by Invalid y e = absurd (true≢false (sym e))
 

@@ -17,3 +17,8 @@ pub mod Decimals
 pub mod Owning
 pub mod Continued
 pub mod Answering
+pub mod Lengths
+pub mod Counting
+pub mod Blocks
+pub mod Headers
+pub mod Soundness

@@ -2,7 +2,7 @@
 use Prim.Native.Nat.{ℕ, zero, suc, _≤_}
 use Prim.Native.Char.{code}
 use native.Mathlib.Omega.{arith}
-use mathlib.Core.Path.{_≡_, refl, sym, ap, _∙_}
+use mathlib.Core.Path.{_≡_, refl, sym, ap, subst, _∙_}
 use mathlib.Core.Logic.{_⊎_, inl, inr, ⊎-elim}
 use mathlib.Core.Bool.{Bool, true, false, cond, not, _&&_, _||_}
 use mathlib.Core.List.{List, [], _∷_, _++_, map}
@@ -14,6 +14,7 @@ use Rattle.laws.proofs.Truths.{and-both}
 use Rattle.text.specs.Bytes.{ascii, isSpace, isPrintable}
 use Rattle.text.specs.Same.{same}
 use Rattle.text.specs.Ends.{endsWith}
+use Rattle.numbers.specs.declared.Value.the-variants.{String}
 use Rattle.roles.specs.Roles.{Comment, Words, Held, Role, entry, roleOf}
 use Rattle.joining.specs.Words.{endsOpen, opens}
 use Rattle.joining.specs.Lookup.{joinOn, whole, lookup}
@@ -24,11 +25,11 @@ use Rattle.writing.specs.Pieces.{doubled, fitting, leftover, Piece, textRoom, o
 use Rattle.writing.specs.Pieces.{piecesOf}
 use Rattle.writing.specs.Written.{stringCards}
 use Rattle.writing.specs.Rules.{every, isName, isComment, isShort, textLimit, remarkLimit, endsWell, isText}
-use Rattle.rereading.proofs.Lists.{no-more, also}
+use Rattle.rereading.proofs.Lists.{All, no-more, also}
 use Rattle.rereading.proofs.Endings.{lastIs, ends-space}
 use Rattle.rereading.proofs.Valuing.{settled-space}
 use Rattle.rereading.proofs.Names.{or-case}
-use Rattle.rereading.proofs.Cutting.{cut-whole, pieces-sound}
+use Rattle.rereading.proofs.Cutting.{cut-whole, Sound, pieces-sound}
 use Rattle.rereading.proofs.Roles.{heldString, moreOf, rolesFor, string-roles}
 use Rattle.rereading.proofs.Joining.{wordsOf, join-pieces}
 
@@ -102,18 +103,28 @@ one-space (some c) y =
     let long : length c ≤ 65 = leb-true (length c) remarkLimit y in
     rw (le-leb (suc (suc (suc (suc (suc (length c)))))) textRoom (omega arith))
 
+-- the pieces of a string that may be written are sound
+pub text-sound : (s : List ℕ) (c : Comment) → isText s ≡ true → isComment c ≡ true → isShort remarkLimit c ≡ true
+    → All Sound (piecesOf s c)
+unfolding every isPrintable
+text-sound s c text remark short =
+    ⊎-elim (λ l. pieces-sound (length s) s c (string-printable s text) l remark)
+    (λ one. subst (λ (t : List ℕ). All Sound (piecesOf t c)) (sym one) (subst (All Sound) (sym (one-space c short))
+    (also (record { printable = refl; settles = settled-space; remark = remark }) no-more)))
+    (string-end s text)
+
 -- What is written of a string reads back by the lookup as that string with that comment, where no later card bears the name.
-pub string-back : (name s : List ℕ) (c : Comment) → isName name ≡ true → isText s ≡ true → isComment c ≡ true → isShort remarkLimit c ≡ true
-    → (h : List Role) → lookup name h ≡ none
+pub string-back : (name s : List ℕ) (c : Comment) → isName name ≡ true → isText s ≡ true → isComment c ≡ true
+    → isShort remarkLimit c ≡ true → (h : List Role) → lookup name h ≡ none
     → lookup name (map roleOf (stringCards name (piecesOf s c)) ++ h) ≡ some (heldString s c)
-unfolding every isPrintable opens
+unfolding opens
 string-back name s c good text remark short h free =
-    ⊎-elim (λ l. ap (λ (r : List Role). lookup name (r ++ h)) (string-roles name good (pieces-sound (length s) s c (string-printable s text) l remark))
-    ∙ first-joined (length s) name s c l (string-shut s text) h free)
-    (λ one. ap (λ (t : List ℕ). lookup name (map roleOf (stringCards name (piecesOf t c)) ++ h)) one
-    ∙ ap (λ (ps : List Piece). lookup name (map roleOf (stringCards name ps) ++ h)) (one-space c short)
-    ∙ ap (λ (r : List Role). lookup name (r ++ h)) (string-roles name good (also (record { printable = refl; settles = settled-space; remark = remark }) no-more))
+    ap (λ (r : List Role). lookup name (r ++ h)) (string-roles name good (text-sound s c text remark short))
+    ∙ ⊎-elim (λ l. first-joined (length s) name s c l (string-shut s text) h free)
+    (λ one. ap (λ (t : List ℕ). lookup name (rolesFor name (piecesOf t c) ++ h)) one
+    ∙ ap (λ (ps : List Piece). lookup name (rolesFor name ps ++ h)) (one-space c short)
     ∙ lookup-here name (heldString (ascii " ") c) h free
-    ∙ ap (λ (w : Words). some (record { value = heldString s c .value; digits = []; words = w })) (joinOn-shut (wordsOf (ascii " ") c) (ap endsOpen (sym one) ∙ string-shut s text) h)
+    ∙ ap (λ (w : Words). some (record { value = String; digits = []; words = w }))
+    (joinOn-shut (wordsOf (ascii " ") c) (ap endsOpen (sym one) ∙ string-shut s text) h)
     ∙ ap (λ (t : List ℕ). some (heldString t c)) (sym one))
     (string-end s text)
