@@ -27,18 +27,23 @@ unfolding leftover
 taken n [] = inl refl
 taken n (b ∷ s) = go (leb (bytesFor b) n) refl (taken (n - bytesFor b) s)
   where
-    go : (u : Bool) → leb (bytesFor b) n ≡ u → (length (leftover (n - bytesFor b) s) ≡ 0) ⊎ (length (leftover (n - bytesFor b) s) + (n - bytesFor b) / 2 ≤ length s)
+    go : (u : Bool) → leb (bytesFor b) n ≡ u
+        → (length (leftover (n - bytesFor b) s) ≡ 0) ⊎ (length (leftover (n - bytesFor b) s) + (n - bytesFor b) / 2 ≤ length s)
         → (length (cond u (leftover (n - bytesFor b) s) (b ∷ s)) ≡ 0) ⊎ (length (cond u (leftover (n - bytesFor b) s) (b ∷ s)) + n / 2 ≤ suc (length s))
-    go true e later = ⊎-elim (λ x. inl x) (λ x. inr (let y : length (leftover (n - bytesFor b) s) + (n - bytesFor b) / 2 ≤ length s = x in omega (arith, width-small b))) later
+    go true e later =
+        ⊎-elim (λ x. inl x) (λ x. inr (let y : length (leftover (n - bytesFor b) s) +
+        (n - bytesFor b) / 2 ≤ length s = x in omega (arith, width-small b))) later
     go false e later = inr (let y : n < bytesFor b = leb-false (bytesFor b) n e in omega (arith, width-small b))
 
 -- an empty rest is the last piece
-empty-last : (n : ℕ) (s : List ℕ) (c : Comment) → length s ≡ 0 → isShort remarkLimit c ≡ true → length (piecesFrom n s c) ≡ 1
+empty-last : (n : ℕ) (s : List ℕ) (c : Comment) → length s ≡ 0 → isShort remarkLimit c ≡ true
+    → length (piecesFrom n s c) ≡ 1
 unfolding piecesFrom
 empty-last zero s c h y = refl
 empty-last (suc n) s c h y = rw (le-leb (length (pieceText (lastPiece s c))) textRoom (empty-fits s c (omega arith) y))
 
-pub pieces-count : (n : ℕ) (s : List ℕ) (c : Comment) → isShort remarkLimit c ≡ true → length (piecesFrom n s c) ≤ length s / 33 + 2
+pub pieces-count : (n : ℕ) (s : List ℕ) (c : Comment) → isShort remarkLimit c ≡ true
+    → length (piecesFrom n s c) ≤ length s / 33 + 2
 unfolding piecesFrom
 pieces-count zero s c y = omega arith
 pieces-count (suc n) s c y = go (fits (lastPiece s c)) (pieces-count n (leftover openRoom s) c y)
@@ -46,7 +51,8 @@ pieces-count (suc n) s c y = go (fits (lastPiece s c)) (pieces-count n (leftover
     rest : List ℕ
     rest = leftover openRoom s
 
-    go : (u : Bool) → length (piecesFrom n rest c) ≤ length rest / 33 + 2 → length (cond u (lastPiece s c ∷ []) (openPiece s ∷ piecesFrom n rest c)) ≤ length s / 33 + 2
+    go : (u : Bool) → length (piecesFrom n rest c) ≤ length rest / 33 + 2
+        → length (cond u (lastPiece s c ∷ []) (openPiece s ∷ piecesFrom n rest c)) ≤ length s / 33 + 2
     go true later = omega arith
     go false later =
         ⊎-elim (λ x. let one : length (piecesFrom n rest c) ≡ 1 = empty-last n rest c x y in omega arith)

@@ -43,21 +43,26 @@ use Rattle.rereading.proofs.Digits.{digit-sign}
 use Rattle.rereading.proofs.Integers.{start-digit, Figures, integer-figures, answer, number-card, figures}
 
 -- ---- a text of digits before something else
-stop-start : (p : ℕ → Bool) (s : List ℕ) (b : ℕ) (t : List ℕ) → every p s ≡ true → p b ≡ false → trimStart p (s ++ b ∷ t) ≡ b ∷ t
+stop-start : (p : ℕ → Bool) (s : List ℕ) (b : ℕ) (t : List ℕ) → every p s ≡ true → p b ≡ false
+    → trimStart p (s ++ b ∷ t) ≡ b ∷ t
 unfolding trimStart
 stop-start p [] b t e d = rw d
 stop-start p (a ∷ s) b t e d = rw (every-first p a s e, stop-start p s b t (every-rest p a s e) d)
 
-stop-leading : (p : ℕ → Bool) (s : List ℕ) (b : ℕ) (t : List ℕ) → every p s ≡ true → p b ≡ false → leading p (s ++ b ∷ t) ≡ s
+stop-leading : (p : ℕ → Bool) (s : List ℕ) (b : ℕ) (t : List ℕ) → every p s ≡ true → p b ≡ false
+    → leading p (s ++ b ∷ t) ≡ s
 unfolding leading
 stop-leading p [] b t e d = rw d
 stop-leading p (a ∷ s) b t e d = rw (every-first p a s e, stop-leading p s b t (every-rest p a s e) d)
 
 -- ---- the exponent, by what it does: digits d with the power z
 abbrev Given : List ℕ → ℤ → Type 0
-Given s z = (minus : Bool) (b : ℕ) (d : List ℕ) (other : Number) → withExponent (writtenOf s) minus (b ∷ d) 0 other ≡ scaled minus (b ∷ d) 0 z
+Given s z =
+    (minus : Bool) (b : ℕ) (d : List ℕ) (other : Number)
+    → withExponent (writtenOf s) minus (b ∷ d) 0 other ≡ scaled minus (b ∷ d) 0 z
 
-given-positive : (s : List ℕ) (n : ℕ) → every isDigit s ≡ true → isEmpty s ≡ false → digitsValue s ≡ n → n ≤ maxExponent → Given s (pos n)
+given-positive : (s : List ℕ) (n : ℕ) → every isDigit s ≡ true → isEmpty s ≡ false → digitsValue s ≡ n
+    → n ≤ maxExponent → Given s (pos n)
 unfolding writtenOf isNegative unsigned
 given-positive [] n e d v h minus c r other = absurd (true≢false d)
 given-positive (b ∷ s) n e d v h minus c r other =
@@ -65,7 +70,8 @@ given-positive (b ∷ s) n e d v h minus c r other =
     let small : min n maxExponent ≡ n = omega arith in
     rw (digit-not b (code "-") first (omega arith), digit-sign b first, all-digits (b ∷ s) e refl, v, small)
 
-given-negative : (s : List ℕ) (n : ℕ) → every isDigit s ≡ true → isEmpty s ≡ false → digitsValue s ≡ suc n → suc n ≤ maxExponent → Given (code "-" ∷ s) (negsuc n)
+given-negative : (s : List ℕ) (n : ℕ) → every isDigit s ≡ true → isEmpty s ≡ false → digitsValue s ≡ suc n
+    → suc n ≤ maxExponent → Given (code "-" ∷ s) (negsuc n)
 unfolding writtenOf isNegative unsigned isSign
 given-negative s n e d v h minus c r other =
     let small : min (suc n) maxExponent ≡ suc n = omega arith in
@@ -105,18 +111,27 @@ module _ (b : ℕ) (d : List ℕ) (e : every isDigit (b ∷ d) ≡ true) (z : �
   finite-read : (minus : Bool) (other : Number) → finiteOf minus text other ≡ scaled minus (b ∷ d) 0 z
   unfolding finiteOf afterFraction fractionOf exponentOf isMark
   finite-read minus other =
-      rw (behind-digits, stop-leading isDigit (b ∷ d) (code "E") (signedDigits z) e mark-is, append-nil) (exponent-read z h minus b d other)
+      rw (behind-digits, stop-leading isDigit (b ∷ d) (code "E") (signedDigits z) e mark-is, append-nil)
+      (exponent-read z h minus b d other)
 
   decimal-unsigned : (s : List ℕ) → unsigned s ≡ text → decimalOf s ≡ scaled (isNegative s) (b ∷ d) 0 z
   unfolding decimalOf
   decimal-unsigned s u =
-      rw (u, no-word (code "i") (ascii "nf") (omega arith), no-word (code "i") (ascii "nfinity") (omega arith), no-word (code "n") (ascii "an") (omega arith), finite-read)
+      rw (
+        u,
+        no-word (code "i") (ascii "nf") (omega arith),
+        no-word (code "i") (ascii "nfinity") (omega arith),
+        no-word (code "n")
+            (ascii "an") (omega arith),
+        finite-read,
+      )
 
   no-integer : (s : List ℕ) → unsigned s ≡ text → integerOf s ≡ invalid s
   unfolding integerOf
   no-integer s u = rw (u, no-digits)
 
-  number-unsigned : (s : List ℕ) → unsigned s ≡ text → (minus : Bool) (digits : List ℕ) → isNegative s ≡ minus → scaled minus (b ∷ d) 0 z ≡ decimalNumber minus (Finite z) digits
+  number-unsigned : (s : List ℕ) → unsigned s ≡ text → (minus : Bool) (digits : List ℕ) → isNegative s ≡ minus
+      → scaled minus (b ∷ d) 0 z ≡ decimalNumber minus (Finite z) digits
       → readNumber s ≡ decimalNumber minus (Finite z) digits
   unfolding readNumber
   number-unsigned s u minus digits sign is =
@@ -126,7 +141,12 @@ module _ (b : ℕ) (d : List ℕ) (e : every isDigit (b ∷ d) ≡ true) (z : �
   signed-text : (minus : Bool) → unsigned (minusOf minus ++ text) ≡ text
   unfolding unsigned isSign
   signed-text true = refl
-  signed-text false = rw (digit-not b (code "+") (every-first isDigit b d e) (omega arith), digit-not b (code "-") (every-first isDigit b d e) (omega arith))
+  signed-text false =
+      rw (
+        digit-not b (code "+") (every-first isDigit b d e) (omega arith),
+        digit-not b (code "-") (every-first isDigit b d e)
+            (omega arith),
+      )
 
   sign-read : (minus : Bool) → isNegative (minusOf minus ++ text) ≡ minus
   unfolding isNegative
@@ -135,7 +155,9 @@ module _ (b : ℕ) (d : List ℕ) (e : every isDigit (b ∷ d) ≡ true) (z : �
 
   figures-name : every isNameByte text ≡ true
   unfolding every isNameByte isDigit
-  figures-name = every-append isNameByte (b ∷ d) (code "E" ∷ signedDigits z) (every-weaker isDigit isNameByte digit-name (b ∷ d) e) (names (integer-figures z))
+  figures-name =
+      every-append isNameByte (b ∷ d) (code "E" ∷ signedDigits z) (every-weaker isDigit isNameByte digit-name (b ∷ d) e)
+      (names (integer-figures z))
     where
       names : {t : List ℕ} → Figures t → every isNameByte t ≡ true
       names (figures first all) = all
@@ -148,7 +170,8 @@ module _ (b : ℕ) (d : List ℕ) (e : every isDigit (b ∷ d) ≡ true) (z : �
 -- ---- the significant digits, and the power
 
 -- where trimming leaves all, no zero stands in front, and none goes at the end
-untrimmed : (b : ℕ) (d : List ℕ) → trim isZero (b ∷ d) ≡ b ∷ d → (isZero b ≡ false) × (trimEnd isZero (b ∷ d) ≡ b ∷ d)
+untrimmed : (b : ℕ) (d : List ℕ) → trim isZero (b ∷ d) ≡ b ∷ d
+    → (isZero b ≡ false) × (trimEnd isZero (b ∷ d) ≡ b ∷ d)
 unfolding trim trimStart
 untrimmed b d e = go (isZero b) refl
   where
@@ -202,16 +225,21 @@ decimal-number minus (b ∷ d) z e p =
     number-unsigned b d digits z h (decimalText minus (b ∷ d) z) (signed-text b d digits z h minus) minus (b ∷ d)
     (sign-read b d digits z h minus) (scaled-some minus b d z kept)
 
-pub decimal-figures : (minus : Bool) (d : List ℕ) (z : ℤ) → isSignificant d ≡ true → isPower d z ≡ true → Figures (decimalText minus d z)
+pub decimal-figures : (minus : Bool) (d : List ℕ) (z : ℤ) → isSignificant d ≡ true → isPower d z ≡ true
+    → Figures (decimalText minus d z)
 unfolding decimalDigits digitsBefore
 decimal-figures minus [] (pos n) e p = signed-figures (code "0") [] zero-digit (pos 0) (omega arith) minus
 decimal-figures minus [] (negsuc n) e p = absurd (true≢false (sym p))
 decimal-figures minus (b ∷ d) z e p = signed-figures b d (significant-parts (b ∷ d) e .0) z (power-fits b d z p) minus
 
 -- a decimal's card is the entry of its name, its sign, power and digits, and its comment
-pub decimal-role : (name : List ℕ) → isName name ≡ true → (minus : Bool) (d : List ℕ) (z : ℤ) → isSignificant d ≡ true → isPower d z ≡ true → (c : Comment) → isComment c ≡ true
+pub decimal-role : (name : List ℕ) → isName name ≡ true → (minus : Bool) (d : List ℕ) (z : ℤ)
+    → isSignificant d ≡ true → isPower d z ≡ true → (c : Comment) → isComment c ≡ true
     → roleOf (cardFrom (nameFront name) (plainText (decimalText minus d z) c)) ≡ entry name (heldPlain (Float minus (Finite z)) d c)
 decimal-role name good minus d z e p c y =
-    role-by (cardFrom (nameFront name) (plainText (decimalText minus d z) c)) (number-card c y name good (decimal-figures minus d z e p) ∙ ap (λ (r : Number). ofValue false (textOf name) (answer c y r)) (decimal-number minus d z e p))
-    ∙ ap (λ (n : List ℕ). entry n (heldPlain (Float minus (Finite z)) (bytesOf (textOf d)) (commentOf (isThere c) (bytesOf (textOf (bytesIn c)))))) (bytes-text name)
+    role-by (cardFrom (nameFront name) (plainText (decimalText minus d z) c))
+    (number-card c y name good (decimal-figures minus d z e p)
+    ∙ ap (λ (r : Number). ofValue false (textOf name) (answer c y r)) (decimal-number minus d z e p))
+    ∙ ap (λ (n : List ℕ). entry n (heldPlain (Float minus (Finite z)) (bytesOf (textOf d))
+    (commentOf (isThere c) (bytesOf (textOf (bytesIn c)))))) (bytes-text name)
     ∙ ap₂ (λ (t : List ℕ) (x : Comment). entry name (heldPlain (Float minus (Finite z)) t x)) (bytes-text d) (comment-back c)

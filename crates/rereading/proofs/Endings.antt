@@ -32,7 +32,8 @@ module _ (p : ℕ → Bool) where
   every-append [] t e d = d
   every-append (b ∷ s) t e d = rw (every-first b s e, every-append s t (every-rest b s e) d)
 
-pub every-weaker : (p q : ℕ → Bool) → ((b : ℕ) → p b ≡ true → q b ≡ true) → (s : List ℕ) → every p s ≡ true → every q s ≡ true
+pub every-weaker : (p q : ℕ → Bool) → ((b : ℕ) → p b ≡ true → q b ≡ true) → (s : List ℕ)
+    → every p s ≡ true → every q s ≡ true
 unfolding every
 every-weaker p q f [] e = refl
 every-weaker p q f (b ∷ s) e = rw (f b (every-first p b s e), every-weaker p q f s (every-rest p b s e))

@@ -88,7 +88,8 @@ name-trimmed (b ∷ n) e k =
     (last-none isNameByte isBlank (λ x y. visible-blank x (name-visible x y)) (b ∷ n) e)
 
 -- a card by parts of it
-by-parts : (k c name raw : List ℕ) → c ≡ (k ++ ascii "= ") ++ raw → length k ≡ 8 → hasHigh c ≡ false → trim isBlank k ≡ name
+by-parts : (k c name raw : List ℕ) → c ≡ (k ++ ascii "= ") ++ raw → length k ≡ 8 → hasHigh c ≡ false
+    → trim isBlank k ≡ name
     → classOf name ≡ K.Other → unplacedOf c ≡ ofValue false (textOf name) (valueOf raw)
 unfolding unplacedOf otherOf same
 by-parts k c name raw is long low trims other =

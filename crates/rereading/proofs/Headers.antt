@@ -38,7 +38,8 @@ lookup-spoken n (last ∷ h) = refl
 lookup-spoken n (refused f ∷ h) = lookup-spoken n h
 
 -- an answer stays behind other cards, where none of them is END
-pub lookup-behind : (n : List ℕ) (b h : List Role) (v : Held) → goesOn b ≡ true → lookup n h ≡ some v → lookup n (b ++ h) ≡ some v
+pub lookup-behind : (n : List ℕ) (b h : List Role) (v : Held) → goesOn b ≡ true → lookup n h ≡ some v
+    → lookup n (b ++ h) ≡ some v
 unfolding lookup goesOn
 lookup-behind n [] h v g e = e
 lookup-behind n (entry m w ∷ b) h v g e = rw (lookup-behind n b h v g e)

@@ -50,14 +50,16 @@ start-digit b e =
     )
 
 -- ---- an integer's text is read as that integer
-read-positive : (s : List ℕ) (n : ℕ) → every isDigit s ≡ true → isEmpty s ≡ false → digitsValue s ≡ n → fits64 false n ≡ true → integerOf s ≡ wholeOf (pos n)
+read-positive : (s : List ℕ) (n : ℕ) → every isDigit s ≡ true → isEmpty s ≡ false → digitsValue s ≡ n
+    → fits64 false n ≡ true → integerOf s ≡ wholeOf (pos n)
 unfolding integerOf isNegative unsigned
 read-positive [] n e d v f = absurd (true≢false d)
 read-positive (b ∷ s) n e d v f =
     let first = every-first isDigit b s e in
     rw (digit-not b (code "-") first (omega arith), digit-sign b first, all-digits (b ∷ s) e refl, v, f)
 
-read-negative : (s : List ℕ) (n : ℕ) → every isDigit s ≡ true → isEmpty s ≡ false → digitsValue s ≡ n → fits64 true n ≡ true → integerOf (code "-" ∷ s) ≡ wholeOf (signedOf true n)
+read-negative : (s : List ℕ) (n : ℕ) → every isDigit s ≡ true → isEmpty s ≡ false → digitsValue s ≡ n
+    → fits64 true n ≡ true → integerOf (code "-" ∷ s) ≡ wholeOf (signedOf true n)
 unfolding integerOf isNegative unsigned isSign
 read-negative s n e d v f = rw (all-digits s e d, v, f)
 
@@ -85,7 +87,8 @@ minus-figures s e = figures refl e
 
 pub integer-figures : (z : ℤ) → Figures (signedDigits z)
 integer-figures (pos n) = digits-figures (decimalDigits n) (digits-all n) (digits-some n)
-integer-figures (negsuc n) = minus-figures (decimalDigits (suc n)) (every-weaker isDigit isNameByte digit-name (decimalDigits (suc n)) (digits-all (suc n)))
+integer-figures (negsuc n) =
+    minus-figures (decimalDigits (suc n)) (every-weaker isDigit isNameByte digit-name (decimalDigits (suc n)) (digits-all (suc n)))
 
 module _ (c : Comment) (y : isComment c ≡ true) where
   abbrev pub answer : Number → ValueRead
@@ -98,12 +101,16 @@ module _ (c : Comment) (y : isComment c ≡ true) where
       ∙ ap (λ (k : Start). byStart k (textOf (b ∷ s)) (spaced n m ((b ∷ s) ++ tailOf c)) (isThere c) (textOf (bytesIn c))) first
       ∙ ap (λ (w : List ℕ). answer (readNumber w)) (bytes-text (b ∷ s))
 
-  pub number-card : (name : List ℕ) → isName name ≡ true → {t : List ℕ} → Figures t → unplacedOf (cardFrom (nameFront name) (plainText t c)) ≡ ofValue false (textOf name) (answer (readNumber t))
-  number-card name good (figures {b} {s} first e) = plain-card b s e c y name good (answer (readNumber (b ∷ s))) (number-value (figures first e))
+  pub number-card : (name : List ℕ) → isName name ≡ true → {t : List ℕ} → Figures t
+      → unplacedOf (cardFrom (nameFront name) (plainText t c)) ≡ ofValue false (textOf name) (answer (readNumber t))
+  number-card name good (figures {b} {s} first e) =
+      plain-card b s e c y name good (answer (readNumber (b ∷ s))) (number-value (figures first e))
 
 -- integers
 pub integer-role : (name : List ℕ) → isName name ≡ true → (z : ℤ) → isLong z ≡ true → (c : Comment) → isComment c ≡ true
     → roleOf (cardFrom (nameFront name) (plainText (signedDigits z) c)) ≡ entry name (heldPlain (Integer z) [] c)
 integer-role name good z f c y =
-    role-by (cardFrom (nameFront name) (plainText (signedDigits z) c)) (number-card c y name good (integer-figures z) ∙ ap (λ (r : Number). ofValue false (textOf name) (answer c y r)) (integer-number z f))
+    role-by (cardFrom (nameFront name) (plainText (signedDigits z) c))
+    (number-card c y name good (integer-figures z)
+    ∙ ap (λ (r : Number). ofValue false (textOf name) (answer c y r)) (integer-number z f))
     ∙ ap₂ (λ (n : List ℕ) (d : Comment). entry n (heldPlain (Integer z) [] d)) (bytes-text name) (comment-back c)

@@ -40,19 +40,30 @@ unfolding fitting doubled
 fitting-long n [] = omega arith
 fitting-long n (b ∷ s) = go (leb (bytesFor b) n) refl (fitting-long (n - bytesFor b) s)
   where
-    go : (u : Bool) → leb (bytesFor b) n ≡ u → length (doubled (fitting (n - bytesFor b) s)) ≤ n - bytesFor b → length (doubled (cond u (b ∷ fitting (n - bytesFor b) s) [])) ≤ n
+    go : (u : Bool) → leb (bytesFor b) n ≡ u → length (doubled (fitting (n - bytesFor b) s)) ≤ n - bytesFor b
+        → length (doubled (cond u (b ∷ fitting (n - bytesFor b) s) [])) ≤ n
     go true e h = let w : bytesFor b ≤ n = leb-true (bytesFor b) n e in omega (arith, width-doubled b (fitting (n - bytesFor b) s))
     go false e h = omega arith
 
 doubled-open : (s : List ℕ) → length (doubled (s ++ ascii "&")) ≡ length (doubled s) + 1
 unfolding doubled
 doubled-open [] = refl
-doubled-open (b ∷ s) = width-doubled b (s ++ ascii "&") ∙ (let later : length (doubled (s ++ ascii "&")) ≡ length (doubled s) + 1 = doubled-open s in omega (arith, width-doubled b s))
+doubled-open (b ∷ s) =
+    width-doubled b (s ++ ascii "&")
+    ∙ (let later : length (doubled (s ++ ascii "&")) ≡ length (doubled s) + 1 = doubled-open s in omega
+    (arith, width-doubled b s))
 
 open-fits : (s : List ℕ) → length (pieceText (openPiece s)) ≤ textRoom
 open-fits s =
     let t = fitting openRoom s ++ ascii "&" in
-    omega (arith, ap length (append-nil (quoted t)), length-append (doubled t) (ascii "'"), doubled-open (fitting openRoom s), fitting-long openRoom s)
+    omega (
+      arith,
+      ap length (append-nil (quoted t)),
+      length-append (doubled t) (ascii "'"),
+      doubled-open
+          (fitting openRoom s),
+      fitting-long openRoom s,
+    )
 
 pub width-small : (b : ℕ) → bytesFor b ≤ 2
 unfolding bytesFor
@@ -67,7 +78,8 @@ unfolding leftover
 leftover-shorter n [] = omega arith
 leftover-shorter n (b ∷ s) = go (leb (bytesFor b) n) (leftover-shorter (n - bytesFor b) s)
   where
-    go : (u : Bool) → length (leftover (n - bytesFor b) s) ≤ length s → length (cond u (leftover (n - bytesFor b) s) (b ∷ s)) ≤ suc (length s)
+    go : (u : Bool) → length (leftover (n - bytesFor b) s) ≤ length s
+        → length (cond u (leftover (n - bytesFor b) s) (b ∷ s)) ≤ suc (length s)
     go true h = omega arith
     go false h = omega arith
 
@@ -75,24 +87,28 @@ leftover-shorter n (b ∷ s) = go (leb (bytesFor b) n) (leftover-shorter (n - by
 leftover-less : (n : ℕ) (s : List ℕ) → length s ≤ suc n → length (leftover openRoom s) ≤ n
 unfolding leftover
 leftover-less n [] h = omega arith
-leftover-less n (b ∷ s) h = rw (le-leb (bytesFor b) openRoom (omega (arith, width-small b))) (omega (arith, leftover-shorter (openRoom - bytesFor b) s))
+leftover-less n (b ∷ s) h =
+    rw (le-leb (bytesFor b) openRoom (omega (arith, width-small b))) (omega (arith, leftover-shorter (openRoom - bytesFor b) s))
 
 -- a piece fits a card
 abbrev pub Fits : Piece → Type 0
 Fits p = length (pieceText p) ≤ textRoom
 
-pub empty-fits : (s : List ℕ) (c : Comment) → length s ≤ 0 → isShort remarkLimit c ≡ true → length (pieceText (lastPiece s c)) ≤ textRoom
+pub empty-fits : (s : List ℕ) (c : Comment) → length s ≤ 0 → isShort remarkLimit c ≡ true
+    → length (pieceText (lastPiece s c)) ≤ textRoom
 unfolding doubled
 empty-fits [] none h y = omega arith
 empty-fits [] (some c) h y = omega (arith, leb-true (length c) remarkLimit y)
 empty-fits (b ∷ s) c h y = absurd (omega arith)
 
-pub pieces-fit : (n : ℕ) (s : List ℕ) (c : Comment) → length s ≤ n → isShort remarkLimit c ≡ true → All Fits (piecesFrom n s c)
+pub pieces-fit : (n : ℕ) (s : List ℕ) (c : Comment) → length s ≤ n → isShort remarkLimit c ≡ true
+    → All Fits (piecesFrom n s c)
 unfolding piecesFrom
 pieces-fit zero s c h y = also (empty-fits s c h y) no-more
 pieces-fit (suc n) s c h y = go (fits (lastPiece s c)) refl (pieces-fit n (leftover openRoom s) c (leftover-less n s h) y)
   where
-    go : (u : Bool) → fits (lastPiece s c) ≡ u → All Fits (piecesFrom n (leftover openRoom s) c) → All Fits (cond u (lastPiece s c ∷ []) (openPiece s ∷ piecesFrom n (leftover openRoom s) c))
+    go : (u : Bool) → fits (lastPiece s c) ≡ u → All Fits (piecesFrom n (leftover openRoom s) c)
+        → All Fits (cond u (lastPiece s c ∷ []) (openPiece s ∷ piecesFrom n (leftover openRoom s) c))
     go true e later = also (leb-true (length (pieceText (lastPiece s c))) textRoom e) no-more
     go false e later = also (open-fits s) later
 
@@ -103,11 +119,13 @@ IsWhole c = length c ≡ size
 -- what holds of the card of each piece, under the name and on a CONTINUE card, holds of every card of a string
 pub string-all : (P : Piece → Type 0) (Q : List ℕ → Type 0) (name : List ℕ)
     → ((p : Piece) → P p → Q (cardFrom (nameFront name) (pieceText p)))
-    → ((p : Piece) → P p → Q (cardFrom continueFront (pieceText p))) → {ps : List Piece} → All P ps → All Q (stringCards name ps)
+    → ((p : Piece) → P p → Q (cardFrom continueFront (pieceText p))) → {ps : List Piece} → All P ps
+    → All Q (stringCards name ps)
 string-all P Q name f g no-more = no-more
 string-all P Q name f g (also {x} h hs) = also (f x h) (all-map P Q (λ (q : Piece). cardFrom continueFront (pieceText q)) g hs)
 
-plain-whole : (name : List ℕ) → isName name ≡ true → (t : List ℕ) (c : Comment) → fitsCard t c ≡ true → All IsWhole (plainCards name t c)
+plain-whole : (name : List ℕ) → isName name ≡ true → (t : List ℕ) (c : Comment) → fitsCard t c ≡ true
+    → All IsWhole (plainCards name t c)
 plain-whole name good t c e =
     also (card-long (nameFront name) (plainText t c) (front-long name good) (leb-true (length (plainText t c)) textRoom e)) no-more
 
@@ -119,11 +137,14 @@ string-whole name good =
 module _ (name : List ℕ) (good : isName name ≡ true) (text : List ℕ) (c : Comment) where
   by-value : (v : Value) → isValue v text c ≡ true → All IsWhole (writtenCards v name text c)
   by-value (Integer z) e = plain-whole name good (signedDigits z) c (and-both (isLong z) (fitsCard (signedDigits z) c) e .1)
-  by-value (Float minus (Finite power)) e = plain-whole name good (decimalText minus text power) c (and-both (isSignificant text && isPower text power) (fitsCard (decimalText minus text power) c) e .1)
+  by-value (Float minus (Finite power)) e =
+      plain-whole name good (decimalText minus text power) c
+      (and-both (isSignificant text && isPower text power) (fitsCard (decimalText minus text power) c) e .1)
   by-value (Float minus Infinite) e = no-more
   by-value (Float minus Nan) e = no-more
   by-value (Logical t) e = plain-whole name good (truthText t) c e
-  by-value String e = string-whole name good (pieces-fit (length text) text c (omega arith) (and-both (isText text) (isShort remarkLimit c) e .1))
+  by-value String e =
+      string-whole name good (pieces-fit (length text) text c (omega arith) (and-both (isText text) (isShort remarkLimit c) e .1))
   by-value Undefined e = no-more
   by-value Invalid e = no-more
 

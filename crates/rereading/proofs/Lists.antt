@@ -13,7 +13,8 @@ module _ {A : Type 0} (P : A → Type 0) where
   all-append no-more v = v
   all-append (also h u) v = also h (all-append u v)
 
-  pub all-map : {B : Type 0} (Q : B → Type 0) (f : A → B) → ((x : A) → P x → Q (f x)) → {l : List A} → All P l → All Q (map f l)
+  pub all-map : {B : Type 0} (Q : B → Type 0) (f : A → B) → ((x : A) → P x → Q (f x)) → {l : List A} → All P l
+      → All Q (map f l)
   all-map Q f g no-more = no-more
   all-map Q f g (also {x} h u) = also (g x h) (all-map Q f g u)
 

@@ -44,7 +44,8 @@ name-range b e =
     (or-case (leb (code "A") b && leb b (code "Z")) ((leb (code "0") b && leb b (code "9")) || (eqb b (code "-") || eqb b (code "_"))) e)
 
 pub name-visible : (b : ℕ) → isNameByte b ≡ true → Visible b
-name-visible b e = ⊎-elim (λ x. (let y : b ≡ code "-" = x in (omega arith, omega arith))) (λ (l, h). (omega arith, omega arith)) (name-range b e)
+name-visible b e =
+    ⊎-elim (λ x. (let y : b ≡ code "-" = x in (omega arith, omega arith))) (λ (l, h). (omega arith, omega arith)) (name-range b e)
 
 pub visible-printable : (b : ℕ) → Visible b → isPrintable b ≡ true
 unfolding isPrintable
@@ -70,7 +71,8 @@ name-plain b e =
     outside other low = ⊎-elim other (λ (l, h). omega arith) (name-range b e)
 
 -- where every byte is visible, the last is no blank
-pub last-none : (p q : ℕ → Bool) → ((b : ℕ) → p b ≡ true → q b ≡ false) → (s : List ℕ) → every p s ≡ true → lastIs q s ≡ false
+pub last-none : (p q : ℕ → Bool) → ((b : ℕ) → p b ≡ true → q b ≡ false) → (s : List ℕ) → every p s ≡ true
+    → lastIs q s ≡ false
 unfolding lastIs
 last-none p q f [] e = refl
 last-none p q f (b ∷ []) e = f b (every-first p b [] e)

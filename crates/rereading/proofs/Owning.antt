@@ -19,7 +19,8 @@ pub data Owns (name : List ℕ) : Open → List Role → Type 0 where
 
 module _ (name : List ℕ) where
   -- before END, a card that bears an entry gives it
-  pub bears-entry : (q : Open) → (q ≡ ended → ⊥) → (v : Held) → does q (entry name v) ≡ gives (record { name = name; value = v })
+  pub bears-entry : (q : Open) → (q ≡ ended → ⊥) → (v : Held)
+      → does q (entry name v) ≡ gives (record { name = name; value = v })
   bears-entry ended on v = absurd (on refl)
   bears-entry idle on v = refl
   bears-entry (held e) on v = refl

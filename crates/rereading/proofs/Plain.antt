@@ -3,8 +3,7 @@ use Prim.Native.Nat.{ℕ, _-_}
 use Prim.Native.Char.{code}
 use mathlib.Core.Path.{_≡_, refl, ap, ap₂, _∙_}
 use mathlib.Core.Bool.{Bool, true, false}
-use mathlib.Core.List.{List, [], _∷_, _++_, append-assoc, map}
-use mathlib.Core.Option.{none, some}
+use mathlib.Core.List.{List, [], _∷_, _++_, append-assoc}
 use lib.ListN.{length}
 use Rattle.text.specs.Bytes.{isSpace, isBlank, isPrintable}
 use Rattle.text.specs.Text.{textOf}
@@ -14,10 +13,7 @@ use Rattle.numbers.specs.declared.Value.the-variants.{Logical}
 use Rattle.value.specs.declared.ValueRead.{ValueRead}
 use Rattle.value.specs.Values.{startOf, valueAs, byStart, valueOf}
 use Rattle.card.specs.Cards.{ofValue, unplacedOf}
-use Rattle.roles.specs.Roles.{Comment, Words, Held, Role, entry, roleOf}
-use Rattle.joining.specs.Words.{opens}
-use Rattle.joining.specs.Lookup.{lookup}
-use Rattle.joining.proofs.Answers.{joinOn-shut}
+use Rattle.roles.specs.Roles.{Comment, Held, entry, roleOf}
 use Rattle.entries.specs.Answers.{isThere, bytesIn}
 use Rattle.writing.specs.Pieces.{tailOf}
 use Rattle.writing.specs.Written.{cardFrom, nameFront, truthText, numberRoom, justified, plainText}
@@ -29,7 +25,6 @@ use Rattle.rereading.proofs.Names.{name-visible, visible-printable, vis
 use Rattle.rereading.proofs.Fronts.{spaces, left, card-read, role-by}
 use Rattle.rereading.proofs.Cutting.{tail-printable}
 use Rattle.rereading.proofs.Roles.{comment-back}
-use Rattle.rereading.proofs.Strings.{lookup-here}
 
 -- what an entry holds that is no string
 abbrev pub heldPlain : Value → List ℕ → Comment → Held
@@ -37,20 +32,24 @@ heldPlain v digits c = record { value = v; digits = digits; words = record { tex
 
 -- a text of name bytes, among spaces and with its comment, by its first byte
 module _ (b : ℕ) (s : List ℕ) (e : every isNameByte (b ∷ s) ≡ true) (c : Comment) (y : isComment c ≡ true) where
-  pub plain-value : (n m : ℕ) → valueOf (spaced n m ((b ∷ s) ++ tailOf c)) ≡ byStart (startOf b) (textOf (b ∷ s)) (spaced n m ((b ∷ s) ++ tailOf c)) (isThere c) (textOf (bytesIn c))
+  pub plain-value : (n m : ℕ)
+      → valueOf (spaced n m ((b ∷ s) ++ tailOf c))
+      ≡ byStart (startOf b) (textOf (b ∷ s)) (spaced n m ((b ∷ s) ++ tailOf c)) (isThere c) (textOf (bytesIn c))
   plain-value n m =
       let first = name-visible b (every-first isNameByte b s e) in
       let raw = spaced n m ((b ∷ s) ++ tailOf c) in
       by-halves raw (b ∷ s) c
       (split-plain b s (every-weaker isNameByte _ name-plain (b ∷ s) e) (visible-blank b first) (visible-space b first)
-      (last-none isNameByte isBlank (λ x d. visible-blank x (name-visible x d)) (b ∷ s) e) (last-none isNameByte isSpace (λ x d. visible-space x (name-visible x d)) (b ∷ s) e) n m c y)
+      (last-none isNameByte isBlank (λ x d. visible-blank x (name-visible x d)) (b ∷ s) e)
+      (last-none isNameByte isSpace (λ x d. visible-space x (name-visible x d)) (b ∷ s) e) n m c y)
       ∙ by-start raw b s (isThere c) (textOf (bytesIn c))
 
   pub plain-printable-text : every isPrintable (plainText (b ∷ s) c) ≡ true
   unfolding justified
   plain-printable-text =
       every-append isPrintable (spaces (numberRoom - length (b ∷ s)) ++ (b ∷ s)) (tailOf c)
-      (every-append isPrintable (spaces (numberRoom - length (b ∷ s))) (b ∷ s) (every-spaces (numberRoom - length (b ∷ s))) (every-weaker isNameByte isPrintable (λ x d. visible-printable x (name-visible x d)) (b ∷ s) e))
+      (every-append isPrintable (spaces (numberRoom - length (b ∷ s))) (b ∷ s) (every-spaces (numberRoom - length (b ∷ s)))
+      (every-weaker isNameByte isPrintable (λ x d. visible-printable x (name-visible x d)) (b ∷ s) e))
       (tail-printable c y)
 
   justified-spaced : (m : ℕ) → (plainText (b ∷ s) c) ++ spaces m ≡ spaced (numberRoom - length (b ∷ s)) m ((b ∷ s) ++ tailOf c)
@@ -60,7 +59,8 @@ module _ (b : ℕ) (s : List ℕ) (e : every isNameByte (b ∷ s) ≡ true) (c :
       ∙ append-assoc (spaces (numberRoom - length (b ∷ s))) ((b ∷ s) ++ tailOf c) (spaces m)
 
   -- the card of such a text, where its value is read as r whatever spaces stand about it
-  pub plain-card : (name : List ℕ) → isName name ≡ true → (r : ValueRead) → ((n m : ℕ) → valueOf (spaced n m ((b ∷ s) ++ tailOf c)) ≡ r)
+  pub plain-card : (name : List ℕ) → isName name ≡ true → (r : ValueRead)
+      → ((n m : ℕ) → valueOf (spaced n m ((b ∷ s) ++ tailOf c)) ≡ r)
       → unplacedOf (cardFrom (nameFront name) (plainText (b ∷ s) c)) ≡ ofValue false (textOf name) r
   plain-card name good r about =
       let t = plainText (b ∷ s) c in
@@ -68,24 +68,16 @@ module _ (b : ℕ) (s : List ℕ) (e : every isNameByte (b ∷ s) ≡ true) (c :
       ∙ ap (λ (w : List ℕ). ofValue false (textOf name) (valueOf w)) (justified-spaced (left (nameFront name) t))
       ∙ ap (ofValue false (textOf name)) (about (numberRoom - length (b ∷ s)) (left (nameFront name) t))
 
--- ---- a value that is no string, read back
--- a card that is read as such an entry
-pub role-back : (name : List ℕ) (v : Value) (digits : List ℕ) (c : Comment) (card : List ℕ) → roleOf card ≡ entry name (heldPlain v digits c)
-    → (h : List Role) → lookup name h ≡ none → lookup name (map roleOf (card ∷ []) ++ h) ≡ some (heldPlain v digits c)
-unfolding opens
-role-back name v digits c card e h free =
-    ap (λ (r : Role). lookup name (r ∷ h)) e
-    ∙ lookup-here name (heldPlain v digits c) h free
-    ∙ ap (λ (w : Words). some (record { value = v; digits = digits; words = w })) (joinOn-shut (heldPlain v digits c .words) refl h)
-
 -- logicals
-logical-value : (t : Bool) (c : Comment) → isComment c ≡ true → (n m : ℕ) → valueOf (spaced n m (truthText t ++ tailOf c)) ≡ valueAs (Logical t) (textOf []) (isThere c) (textOf (bytesIn c))
+logical-value : (t : Bool) (c : Comment) → isComment c ≡ true → (n m : ℕ)
+    → valueOf (spaced n m (truthText t ++ tailOf c)) ≡ valueAs (Logical t) (textOf []) (isThere c) (textOf (bytesIn c))
 unfolding every isNameByte startOf
 logical-value true c y n m = plain-value (code "T") [] refl c y n m
 logical-value false c y n m = plain-value (code "F") [] refl c y n m
 
 logical-card : (name : List ℕ) → isName name ≡ true → (t : Bool) (c : Comment) → isComment c ≡ true
-    → unplacedOf (cardFrom (nameFront name) (plainText (truthText t) c)) ≡ ofValue false (textOf name) (valueAs (Logical t) (textOf []) (isThere c) (textOf (bytesIn c)))
+    → unplacedOf (cardFrom (nameFront name) (plainText (truthText t) c))
+    ≡ ofValue false (textOf name) (valueAs (Logical t) (textOf []) (isThere c) (textOf (bytesIn c)))
 unfolding every isNameByte
 logical-card name good true c y = plain-card (code "T") [] refl c y name good _ (logical-value true c y)
 logical-card name good false c y = plain-card (code "F") [] refl c y name good _ (logical-value false c y)

@@ -26,7 +26,8 @@ unfolding scanFrom after
 puts-byte q r b s i e m = rw (m, shown-printable b e)
 
 -- two quotes inside a string are put as one
-two-quotes : (s : List ℕ) (i : ℕ) → scanFrom Inside (code "'" ∷ code "'" ∷ s) i ≡ putBefore (ascii "'") (scanFrom Inside s (suc (suc i)))
+two-quotes : (s : List ℕ) (i : ℕ)
+    → scanFrom Inside (code "'" ∷ code "'" ∷ s) i ≡ putBefore (ascii "'") (scanFrom Inside s (suc (suc i)))
 unfolding scanFrom after byteClass shown isPrintable
 two-quotes s i = refl
 
@@ -45,13 +46,15 @@ inside-turn b s t i j e n later = go (eqb b (code "'")) refl
         rw (d, is) (two-quotes (doubled s ++ t) i ∙ ap (putBefore (ascii "'")) (later (suc (suc i)) (omega arith)))
     go false d =
         let m : length (b ∷ doubled s) + i ≡ j = rw d at n in
-        rw d (puts-byte Inside Inside b (doubled s ++ t) i e (inside-other (eqb-false b (code "'") d) Inside refl) ∙ ap (putBefore (b ∷ [])) (later (suc i) (omega arith)))
+        rw d (puts-byte Inside Inside b (doubled s ++ t) i e (inside-other (eqb-false b (code "'") d) Inside refl)
+        ∙ ap (putBefore (b ∷ [])) (later (suc i) (omega arith)))
 
 -- inside a string, doubled quotes are put once and every other byte as it is
 pub inside-doubled : (s t : List ℕ) (i j : ℕ) → every isPrintable s ≡ true → length (doubled s) + i ≡ j → Passed s t i j
 unfolding doubled
 inside-doubled [] t i j e n = ap (scanFrom Inside t) (let same : i ≡ j = omega arith in same)
-inside-doubled (b ∷ s) t i j e n = inside-turn b s t i j (every-first isPrintable b s e) n (λ k m. inside-doubled s t k j (every-rest isPrintable b s e) m)
+inside-doubled (b ∷ s) t i j e n =
+    inside-turn b s t i j (every-first isPrintable b s e) n (λ k m. inside-doubled s t k j (every-rest isPrintable b s e) m)
 
 -- a text that a scan from outside passes: it puts v, and leaves the state q
 abbrev pub Passes : List ℕ → List ℕ → Quoting → Type 0
@@ -74,7 +77,12 @@ quoted-passes s e r =
     ∙ open-quote (doubled s ++ code "'" ∷ r)
     ∙ ap (putBefore (ascii "'")) (inside-doubled s (code "'" ∷ r) 1 (length (doubled s) + 1) e refl)
     ∙ ap (λ (x : Scan). putBefore (ascii "'") (putBefore s x)) (close-quote r (length (doubled s) + 1))
-    ∙ ap (λ (l : List ℕ). record { place = (scanFrom Closed r (suc (length (doubled s) + 1))) .place; value = code "'" ∷ l }) (sym (append-assoc s (ascii "'") ((scanFrom Closed r (suc (length (doubled s) + 1))) .value)))
+    ∙ ap (λ (l : List ℕ). record {
+      place = (scanFrom Closed r
+          (suc (length (doubled s) + 1))) .place;
+      value = code "'" ∷ l;
+    }) (sym (append-assoc s (ascii "'") ((scanFrom Closed r
+    (suc (length (doubled s) + 1))) .value)))
     ∙ ap (λ (k : ℕ). putBefore (code "'" ∷ (s ++ ascii "'")) (scanFrom Closed r k)) n
 
 -- neither a quote nor a slash, and printable
@@ -85,13 +93,17 @@ plain-class : (b : ℕ) → isPlain b ≡ true → byteClass b ≡ plain
 unfolding isPlain
 plain-class b e =
     let rest = and-both (isPrintable b) (not (eqb b (code "'")) && not (eqb b (code "/"))) e .1 in
-    class-plain (eqb-false b (code "'") (not-true (eqb b (code "'")) (and-both (not (eqb b (code "'"))) (not (eqb b (code "/"))) rest .0))) (eqb-false b (code "/") (not-true (eqb b (code "/")) (and-both (not (eqb b (code "'"))) (not (eqb b (code "/"))) rest .1))) (and-both (isPrintable b) (not (eqb b (code "'")) && not (eqb b (code "/"))) e .0)
+    class-plain (eqb-false b (code "'") (not-true (eqb b (code "'"))
+    (and-both (not (eqb b (code "'"))) (not (eqb b (code "/"))) rest .0))) (eqb-false b (code "/") (not-true (eqb b (code "/"))
+    (and-both (not (eqb b (code "'"))) (not (eqb b (code "/"))) rest .1))) (and-both (isPrintable b) (not
+    (eqb b (code "'")) && not (eqb b (code "/"))) e .0)
 
 pub plain-printable : (b : ℕ) → isPlain b ≡ true → isPrintable b ≡ true
 unfolding isPlain
 plain-printable b e = and-both (isPrintable b) (not (eqb b (code "'")) && not (eqb b (code "/"))) e .0
 
-outside-plain : (s r : List ℕ) (i j : ℕ) → every isPlain s ≡ true → length s + i ≡ j → scanFrom Outside (s ++ r) i ≡ putBefore s (scanFrom Outside r j)
+outside-plain : (s r : List ℕ) (i j : ℕ) → every isPlain s ≡ true → length s + i ≡ j
+    → scanFrom Outside (s ++ r) i ≡ putBefore s (scanFrom Outside r j)
 outside-plain [] r i j e n = ap (scanFrom Outside r) (let same : i ≡ j = omega arith in same)
 outside-plain (b ∷ s) r i j e n =
     let here : isPlain b ≡ true = every-first isPlain b s e in

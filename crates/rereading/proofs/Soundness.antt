@@ -52,7 +52,8 @@ module _ (name : List ℕ) (good : isName name ≡ true) (c : Comment) (y : isCo
 
   string-printed : {ps : List Piece} → All Sound ps → All Printable (stringCards name ps)
   string-printed =
-      string-all Sound Printable name (λ p h. card-printable (nameFront name) (pieceText p) (front-printable name good) (piece-printable h))
+      string-all Sound Printable name (λ p h. card-printable (nameFront name) (pieceText p) (front-printable name good)
+      (piece-printable h))
       (λ p h. card-printable continueFront (pieceText p) continue-printable (piece-printable h))
 
   by-value : (v : Value) (text : List ℕ) → isValue v text c ≡ true → All Printable (writtenCards v name text c)

@@ -34,7 +34,8 @@ pub data Out : Quoting → Type 0 where
   closed : Out Closed
 
 -- a space and a slash behind a value
-slash-ends : {q : Quoting} → Out q → (c : List ℕ) (n : ℕ) → scanFrom q (code " " ∷ code "/" ∷ c) n ≡ record { place = At (suc n); value = ascii " " }
+slash-ends : {q : Quoting} → Out q → (c : List ℕ) (n : ℕ)
+    → scanFrom q (code " " ∷ code "/" ∷ c) n ≡ record { place = At (suc n); value = ascii " " }
 unfolding scanFrom after byteClass isPrintable shown
 slash-ends outside c n = refl
 slash-ends closed c n = refl
@@ -57,7 +58,8 @@ remark-end c e =
 remark-last : (c : List ℕ) → isRemark c ≡ true → lastIs isBlank (code "/" ∷ c) ≡ false
 unfolding lastIs isBlank
 remark-last [] e = refl
-remark-last (b ∷ c) e = last-agrees isPrintable isBlank isSpace blank-printable (b ∷ c) (remark-printable (b ∷ c) e) ∙ remark-end (b ∷ c) e
+remark-last (b ∷ c) e =
+    last-agrees isPrintable isBlank isSpace blank-printable (b ∷ c) (remark-printable (b ∷ c) e) ∙ remark-end (b ∷ c) e
 
 remark-read : (c : List ℕ) → isRemark c ≡ true → trimEnd isSpace (map shown c) ≡ c
 remark-read c e = ap (trimEnd isSpace) (shown-all c (remark-printable c e)) ∙ end-kept isSpace c (remark-end c e)
@@ -80,13 +82,15 @@ unfolding isSpace
 space-space = refl
 
 module _ {q : Quoting} (d : ℕ) (t : List ℕ) (e : ℕ) (v : List ℕ) (out : Out q) (pass : Passes (d ∷ t) (e ∷ v) q)
-    (first : isBlank d ≡ false) (ending : lastIs isBlank (d ∷ t) ≡ false) (front : isSpace e ≡ false) (end : lastIs isSpace (e ∷ v) ≡ false) where
+    (first : isBlank d ≡ false) (ending : lastIs isBlank (d ∷ t) ≡ false) (front : isSpace e ≡ false)
+    (end : lastIs isSpace (e ∷ v) ≡ false) where
   tail-last : (c : Comment) → isComment c ≡ true → lastIs isBlank ((d ∷ t) ++ tailOf c) ≡ false
   unfolding lastIs
   tail-last none y = ap (lastIs isBlank) (append-nil (d ∷ t)) ∙ ending
   tail-last (some c) y = last-behind isBlank (d ∷ t) (code " ") (code "/" ∷ c) ∙ remark-last c y
 
-  trimmed : (n m : ℕ) (c : Comment) → isComment c ≡ true → trim isBlank (spaced n m ((d ∷ t) ++ tailOf c)) ≡ (d ∷ t) ++ tailOf c
+  trimmed : (n m : ℕ) (c : Comment) → isComment c ≡ true
+      → trim isBlank (spaced n m ((d ∷ t) ++ tailOf c)) ≡ (d ∷ t) ++ tailOf c
   trimmed n m c y = trim-padded isBlank n m (code " ") d (t ++ tailOf c) space-blank first (tail-last c y)
 
   value-alone : trim isSpace ((e ∷ v) ++ []) ≡ e ∷ v
@@ -98,16 +102,22 @@ module _ {q : Quoting} (d : ℕ) (t : List ℕ) (e : ℕ) (v : List ℕ) (out : 
   halves : (c : Comment) → isComment c ≡ true
       → partsAt ((scanFrom Outside ((d ∷ t) ++ tailOf c) 0) .place) ((d ∷ t) ++ tailOf c) ((scanFrom Outside ((d ∷ t) ++ tailOf c) 0) .value) ≡ halvesOf (e ∷ v) c
   halves none y =
-      ap (λ (r : Scan). partsAt (r .place) ((d ∷ t) ++ []) (r .value)) (pass [] ∙ ap (putBefore (e ∷ v)) (ends-here q (length (d ∷ t))))
+      ap (λ (r : Scan). partsAt (r .place) ((d ∷ t) ++ []) (r .value))
+      (pass [] ∙ ap (putBefore (e ∷ v)) (ends-here q (length (d ∷ t))))
       ∙ ap (λ (w : List ℕ). halvesOf w none) value-alone
   halves (some c) y =
       let n : suc (suc (length (d ∷ t))) ≡ length (d ∷ t) + 2 = omega arith in
-      let cut : drop (suc (suc (length (d ∷ t)))) ((d ∷ t) ++ code " " ∷ code "/" ∷ c) ≡ c = ap (λ (k : ℕ). drop k ((d ∷ t) ++ code " " ∷ code "/" ∷ c)) n ∙ drop-append-add (d ∷ t) (code " " ∷ code "/" ∷ c) 2 in
-      ap (λ (r : Scan). partsAt (r .place) ((d ∷ t) ++ code " " ∷ code "/" ∷ c) (r .value)) (pass (code " " ∷ code "/" ∷ c) ∙ ap (putBefore (e ∷ v)) (slash-ends out c (length (d ∷ t))))
-      ∙ ap₂ (λ (w k : List ℕ). halvesOf w (some k)) value-spaced (ap (λ (k : List ℕ). trimEnd isSpace (map shown k)) cut ∙ remark-read c y)
+      let cut : drop (suc (suc (length (d ∷ t)))) ((d ∷ t) ++ code " " ∷ code "/" ∷ c) ≡ c =
+      ap (λ (k : ℕ). drop k ((d ∷ t) ++ code " " ∷ code "/" ∷ c)) n
+      ∙ drop-append-add (d ∷ t) (code " " ∷ code "/" ∷ c) 2 in
+      ap (λ (r : Scan). partsAt (r .place) ((d ∷ t) ++ code " " ∷ code "/" ∷ c) (r .value))
+      (pass (code " " ∷ code "/" ∷ c) ∙ ap (putBefore (e ∷ v)) (slash-ends out c (length (d ∷ t))))
+      ∙ ap₂ (λ (w k : List ℕ). halvesOf w (some k)) value-spaced
+      (ap (λ (k : List ℕ). trimEnd isSpace (map shown k)) cut ∙ remark-read c y)
 
   -- a value that the scan passes, with its comment, among spaces
-  pub split-read : (n m : ℕ) (c : Comment) → isComment c ≡ true → splitOf (spaced n m ((d ∷ t) ++ tailOf c)) ≡ halvesOf (e ∷ v) c
+  pub split-read : (n m : ℕ) (c : Comment) → isComment c ≡ true
+      → splitOf (spaced n m ((d ∷ t) ++ tailOf c)) ≡ halvesOf (e ∷ v) c
   unfolding splitOf
   split-read n m c y =
       ap (λ (s : List ℕ). partsAt ((scanFrom Outside s 0) .place) s ((scanFrom Outside s 0) .value)) (trimmed n m c y) ∙ halves c y
@@ -117,12 +127,15 @@ abbrev pub within : List ℕ → List ℕ
 within s = code "'" ∷ (s ++ ascii "'")
 
 -- splitting a written string, with its comment, among spaces
-pub split-quoted : (s : List ℕ) → every isPrintable s ≡ true → (n m : ℕ) (c : Comment) → isComment c ≡ true → splitOf (spaced n m (quoted s ++ tailOf c)) ≡ halvesOf (within s) c
+pub split-quoted : (s : List ℕ) → every isPrintable s ≡ true → (n m : ℕ) (c : Comment) → isComment c ≡ true
+    → splitOf (spaced n m (quoted s ++ tailOf c)) ≡ halvesOf (within s) c
 unfolding lastIs isBlank isSpace
 split-quoted s e n m c y =
-    split-read (code "'") (doubled s ++ ascii "'") (code "'") (s ++ ascii "'") closed (quoted-passes s e) refl (last-behind isBlank (code "'" ∷ doubled s) (code "'") []) refl (last-behind isSpace (code "'" ∷ s) (code "'") []) n m c y
+    split-read (code "'") (doubled s ++ ascii "'") (code "'") (s ++ ascii "'") closed (quoted-passes s e) refl
+    (last-behind isBlank (code "'" ∷ doubled s) (code "'") []) refl (last-behind isSpace (code "'" ∷ s) (code "'") []) n m c y
 
 -- and a text of plain bytes
-pub split-plain : (b : ℕ) (s : List ℕ) → every isPlain (b ∷ s) ≡ true → isBlank b ≡ false → isSpace b ≡ false → lastIs isBlank (b ∷ s) ≡ false → lastIs isSpace (b ∷ s) ≡ false
+pub split-plain : (b : ℕ) (s : List ℕ) → every isPlain (b ∷ s) ≡ true → isBlank b ≡ false → isSpace b ≡ false
+    → lastIs isBlank (b ∷ s) ≡ false → lastIs isSpace (b ∷ s) ≡ false
     → (n m : ℕ) (c : Comment) → isComment c ≡ true → splitOf (spaced n m ((b ∷ s) ++ tailOf c)) ≡ halvesOf (b ∷ s) c
 split-plain b s e first front ending end n m c y = split-read b s b s outside (plain-passes (b ∷ s) e) first ending front end n m c y

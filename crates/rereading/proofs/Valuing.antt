@@ -42,18 +42,21 @@ settled-space = refl
 
 -- ---- values, by the halves that were found
 
-pub by-halves : (raw v : List ℕ) (c : Comment) → splitOf raw ≡ halvesOf v c → valueOf raw ≡ valueWith (textOf v) raw (isThere c) (textOf (bytesIn c))
+pub by-halves : (raw v : List ℕ) (c : Comment) → splitOf raw ≡ halvesOf v c
+    → valueOf raw ≡ valueWith (textOf v) raw (isThere c) (textOf (bytesIn c))
 unfolding valueOf
 by-halves raw v none e = ap (λ (h : Halves). byParts (h .answer) (h .value) raw (h .comment)) e
 by-halves raw v (some c) e = ap (λ (h : Halves). byParts (h .answer) (h .value) raw (h .comment)) e
 
 -- by the first byte of the value text
-pub by-start : (raw : List ℕ) (b : ℕ) (v : List ℕ) (t : Bool) (c : Text) → valueWith (textOf (b ∷ v)) raw t c ≡ byStart (startOf b) (textOf (b ∷ v)) raw t c
+pub by-start : (raw : List ℕ) (b : ℕ) (v : List ℕ) (t : Bool) (c : Text)
+    → valueWith (textOf (b ∷ v)) raw t c ≡ byStart (startOf b) (textOf (b ∷ v)) raw t c
 unfolding valueWith
 by-start raw b v t c = ap (λ (w : List ℕ). byBytes w (textOf (b ∷ v)) raw t c) (bytes-text (b ∷ v))
 
 -- a written string is read as itself
-pub value-quoted : (s : List ℕ) → every isPrintable s ≡ true → settledOf s ≡ s → (n m : ℕ) (c : Comment) → isComment c ≡ true
+pub value-quoted : (s : List ℕ) → every isPrintable s ≡ true → settledOf s ≡ s → (n m : ℕ) (c : Comment)
+    → isComment c ≡ true
     → valueOf (spaced n m (quoted s ++ tailOf c)) ≡ valueAs String (textOf s) (isThere c) (textOf (bytesIn c))
 unfolding startOf ofString
 value-quoted s e settles n m c y =
