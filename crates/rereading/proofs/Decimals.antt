@@ -40,7 +40,7 @@ use Rattle.rereading.proofs.Roles.{comment-back}
 use Rattle.rereading.proofs.Plain.{heldPlain}
 use Rattle.rereading.proofs.Digits.{digits-all, digits-some, all-digits, digit-range, digit-not, digit-above, digit-name}
 use Rattle.rereading.proofs.Digits.{digit-sign}
-use Rattle.rereading.proofs.Integers.{start-digit, Figures, integer-figures, answer, number-card, figures}
+use Rattle.rereading.proofs.Integers.{start-digit, Figures, integer-figures, numberRead, number-card, figures}
 
 -- ---- a text of digits before something else
 stop-start : (p : ℕ → Bool) (s : List ℕ) (b : ℕ) (t : List ℕ) → every p s ≡ true → p b ≡ false
@@ -239,7 +239,7 @@ pub decimal-role : (name : List ℕ) → isName name ≡ true → (minus : Bool)
 decimal-role name good minus d z e p c y =
     role-by (cardFrom (nameFront name) (plainText (decimalText minus d z) c))
     (number-card c y name good (decimal-figures minus d z e p)
-    ∙ ap (λ (r : Number). ofValue false (textOf name) (answer c y r)) (decimal-number minus d z e p))
+    ∙ ap (λ (r : Number). ofValue false (textOf name) (numberRead c y r)) (decimal-number minus d z e p))
     ∙ ap (λ (n : List ℕ). entry n (heldPlain (Float minus (Finite z)) (bytesOf (textOf d))
     (commentOf (isThere c) (bytesOf (textOf (bytesIn c)))))) (bytes-text name)
     ∙ ap₂ (λ (t : List ℕ) (x : Comment). entry name (heldPlain (Float minus (Finite z)) t x)) (bytes-text d) (comment-back c)

@@ -166,3 +166,11 @@ unfolding lastIs
 last-agrees r p q f [] e = refl
 last-agrees r p q f (b ∷ []) e = f b (every-first r b [] e)
 last-agrees r p q f (b ∷ c ∷ s) e = last-agrees r p q f (c ∷ s) (every-rest r b (c ∷ s) e)
+
+-- where no byte passes it, the last does not
+pub last-none : (p q : ℕ → Bool) → ((b : ℕ) → p b ≡ true → q b ≡ false) → (s : List ℕ) → every p s ≡ true
+    → lastIs q s ≡ false
+unfolding lastIs
+last-none p q f [] e = refl
+last-none p q f (b ∷ []) e = f b (every-first p b [] e)
+last-none p q f (b ∷ c ∷ s) e = last-none p q f (c ∷ s) (every-rest p b (c ∷ s) e)

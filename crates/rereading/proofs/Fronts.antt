@@ -20,10 +20,9 @@ use Rattle.roles.specs.Roles.{roleRead, roleOf}
 use Rattle.writing.specs.Pieces.{textRoom}
 use Rattle.writing.specs.Written.{cardFrom, nameFront, continueFront}
 use Rattle.writing.specs.Rules.{every, isNameByte, isOther, isName}
-use Rattle.rereading.proofs.Endings.{every-first, every-append, every-weaker, low-all, every-spaces, trim-padded}
+use Rattle.rereading.proofs.Endings.{every-first, every-append, every-weaker, low-all, every-spaces, trim-padded, last-none}
+use Rattle.rereading.proofs.Names.{name-printable, name-blank, name-length, name-bytes, name-other}
 use Rattle.rereading.proofs.Splitting.{spaced}
-use Rattle.rereading.proofs.Names.{name-visible, visible-printable, visible-blank, last-none, name-length, name-bytes}
-use Rattle.rereading.proofs.Names.{name-other}
 use Rattle.card.specs.declared.Class.the-variants as K
 
 -- ---- a text filled with spaces to n bytes
@@ -57,7 +56,7 @@ front-printable name e =
     every-append isPrintable (eight name) (ascii "= ") (filled-printable 8 name bytes) refl
   where
     bytes : every isPrintable name ≡ true
-    bytes = every-weaker isNameByte isPrintable (λ b y. visible-printable b (name-visible b y)) name (name-bytes name e)
+    bytes = every-weaker isNameByte isPrintable name-printable name (name-bytes name e)
 
 pub continue-printable : every isPrintable continueFront ≡ true
 unfolding every isPrintable
@@ -84,8 +83,8 @@ name-trimmed : (name : List ℕ) → every isNameByte name ≡ true → classOf 
 unfolding isBlank classOf same filled
 name-trimmed [] e k = absurd (true≢false (sym (ap isOther k)))
 name-trimmed (b ∷ n) e k =
-    trim-padded isBlank 0 (8 - length (b ∷ n)) (code " ") b n refl (visible-blank b (name-visible b (every-first isNameByte b n e)))
-    (last-none isNameByte isBlank (λ x y. visible-blank x (name-visible x y)) (b ∷ n) e)
+    trim-padded isBlank 0 (8 - length (b ∷ n)) (code " ") b n refl (name-blank b (every-first isNameByte b n e))
+    (last-none isNameByte isBlank name-blank (b ∷ n) e)
 
 -- a card by parts of it
 by-parts : (k c name raw : List ℕ) → c ≡ (k ++ ascii "= ") ++ raw → length k ≡ 8 → hasHigh c ≡ false

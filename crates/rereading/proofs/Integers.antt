@@ -91,20 +91,20 @@ integer-figures (negsuc n) =
     minus-figures (decimalDigits (suc n)) (every-weaker isDigit isNameByte digit-name (decimalDigits (suc n)) (digits-all (suc n)))
 
 module _ (c : Comment) (y : isComment c ≡ true) where
-  abbrev pub answer : Number → ValueRead
-  answer r = valueAs (r .value) (r .text) (isThere c) (textOf (bytesIn c))
+  abbrev pub numberRead : Number → ValueRead
+  numberRead r = valueAs (r .value) (r .text) (isThere c) (textOf (bytesIn c))
 
-  number-value : {t : List ℕ} → Figures t → (n m : ℕ) → valueOf (spaced n m (t ++ tailOf c)) ≡ answer (readNumber t)
+  number-value : {t : List ℕ} → Figures t → (n m : ℕ) → valueOf (spaced n m (t ++ tailOf c)) ≡ numberRead (readNumber t)
   unfolding ofNumber
   number-value (figures {b} {s} first e) n m =
       plain-value b s e c y n m
       ∙ ap (λ (k : Start). byStart k (textOf (b ∷ s)) (spaced n m ((b ∷ s) ++ tailOf c)) (isThere c) (textOf (bytesIn c))) first
-      ∙ ap (λ (w : List ℕ). answer (readNumber w)) (bytes-text (b ∷ s))
+      ∙ ap (λ (w : List ℕ). numberRead (readNumber w)) (bytes-text (b ∷ s))
 
   pub number-card : (name : List ℕ) → isName name ≡ true → {t : List ℕ} → Figures t
-      → unplacedOf (cardFrom (nameFront name) (plainText t c)) ≡ ofValue false (textOf name) (answer (readNumber t))
+      → unplacedOf (cardFrom (nameFront name) (plainText t c)) ≡ ofValue false (textOf name) (numberRead (readNumber t))
   number-card name good (figures {b} {s} first e) =
-      plain-card b s e c y name good (answer (readNumber (b ∷ s))) (number-value (figures first e))
+      plain-card b s e c y name good (numberRead (readNumber (b ∷ s))) (number-value (figures first e))
 
 -- integers
 pub integer-role : (name : List ℕ) → isName name ≡ true → (z : ℤ) → isLong z ≡ true → (c : Comment) → isComment c ≡ true
@@ -112,5 +112,5 @@ pub integer-role : (name : List ℕ) → isName name ≡ true → (z : ℤ) → 
 integer-role name good z f c y =
     role-by (cardFrom (nameFront name) (plainText (signedDigits z) c))
     (number-card c y name good (integer-figures z)
-    ∙ ap (λ (r : Number). ofValue false (textOf name) (answer c y r)) (integer-number z f))
+    ∙ ap (λ (r : Number). ofValue false (textOf name) (numberRead c y r)) (integer-number z f))
     ∙ ap₂ (λ (n : List ℕ) (d : Comment). entry n (heldPlain (Integer z) [] d)) (bytes-text name) (comment-back c)

@@ -1,10 +1,10 @@
 -- What is proved of written cards.
 pub mod Lists
 pub mod Endings
+pub mod Names
 pub mod Scanning
 pub mod Splitting
 pub mod Valuing
-pub mod Names
 pub mod Fronts
 pub mod Cutting
 pub mod Roles

@@ -5,7 +5,7 @@ use mathlib.Core.Path.{_≡_, refl, ap, ap₂, _∙_}
 use mathlib.Core.Bool.{Bool, true, false}
 use mathlib.Core.List.{List, [], _∷_, _++_, append-assoc}
 use lib.ListN.{length}
-use Rattle.text.specs.Bytes.{isSpace, isBlank, isPrintable}
+use Rattle.text.specs.Bytes.{isPrintable}
 use Rattle.text.specs.Text.{textOf}
 use Rattle.text.proofs.Texts.{bytes-text}
 use Rattle.numbers.specs.declared.Value.{Value}
@@ -18,10 +18,10 @@ use Rattle.entries.specs.Answers.{isThere, bytesIn}
 use Rattle.writing.specs.Pieces.{tailOf}
 use Rattle.writing.specs.Written.{cardFrom, nameFront, truthText, numberRoom, justified, plainText}
 use Rattle.writing.specs.Rules.{every, isNameByte, isName, isComment}
-use Rattle.rereading.proofs.Endings.{every-first, every-append, every-weaker, every-spaces}
-use Rattle.rereading.proofs.Splitting.{spaced, split-plain}
+use Rattle.rereading.proofs.Endings.{every-append, every-weaker, every-spaces}
+use Rattle.rereading.proofs.Names.{name-printable}
+use Rattle.rereading.proofs.Splitting.{spaced, split-names}
 use Rattle.rereading.proofs.Valuing.{by-halves, by-start}
-use Rattle.rereading.proofs.Names.{name-visible, visible-printable, visible-space, visible-blank, name-plain, last-none}
 use Rattle.rereading.proofs.Fronts.{spaces, left, card-read, role-by}
 use Rattle.rereading.proofs.Cutting.{tail-printable}
 use Rattle.rereading.proofs.Roles.{comment-back}
@@ -36,20 +36,15 @@ module _ (b : ℕ) (s : List ℕ) (e : every isNameByte (b ∷ s) ≡ true) (c :
       → valueOf (spaced n m ((b ∷ s) ++ tailOf c))
       ≡ byStart (startOf b) (textOf (b ∷ s)) (spaced n m ((b ∷ s) ++ tailOf c)) (isThere c) (textOf (bytesIn c))
   plain-value n m =
-      let first = name-visible b (every-first isNameByte b s e) in
       let raw = spaced n m ((b ∷ s) ++ tailOf c) in
-      by-halves raw (b ∷ s) c
-      (split-plain b s (every-weaker isNameByte _ name-plain (b ∷ s) e) (visible-blank b first) (visible-space b first)
-      (last-none isNameByte isBlank (λ x d. visible-blank x (name-visible x d)) (b ∷ s) e)
-      (last-none isNameByte isSpace (λ x d. visible-space x (name-visible x d)) (b ∷ s) e) n m c y)
-      ∙ by-start raw b s (isThere c) (textOf (bytesIn c))
+      by-halves raw (b ∷ s) c (split-names b s e n m c y) ∙ by-start raw b s (isThere c) (textOf (bytesIn c))
 
   pub plain-printable-text : every isPrintable (plainText (b ∷ s) c) ≡ true
   unfolding justified
   plain-printable-text =
       every-append isPrintable (spaces (numberRoom - length (b ∷ s)) ++ (b ∷ s)) (tailOf c)
       (every-append isPrintable (spaces (numberRoom - length (b ∷ s))) (b ∷ s) (every-spaces (numberRoom - length (b ∷ s)))
-      (every-weaker isNameByte isPrintable (λ x d. visible-printable x (name-visible x d)) (b ∷ s) e))
+      (every-weaker isNameByte isPrintable name-printable (b ∷ s) e))
       (tail-printable c y)
 
   justified-spaced : (m : ℕ) → (plainText (b ∷ s) c) ++ spaces m ≡ spaced (numberRoom - length (b ∷ s)) m ((b ∷ s) ++ tailOf c)

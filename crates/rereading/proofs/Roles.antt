@@ -20,7 +20,8 @@ use Rattle.writing.specs.Pieces.{Piece, pieceText}
 use Rattle.writing.specs.Written.{cardFrom, nameFront, continueFront, stringCards}
 use Rattle.writing.specs.Rules.{isName}
 use Rattle.rereading.proofs.Lists.{All, no-more, also}
-use Rattle.rereading.proofs.Splitting.{halvesOf, within, split-quoted}
+use Rattle.rereading.proofs.Scanning.{within}
+use Rattle.rereading.proofs.Splitting.{halvesOf, split-quoted}
 use Rattle.rereading.proofs.Valuing.{string-within, value-quoted}
 use Rattle.rereading.proofs.Fronts.{left, card-read, continue-read, continue-text, role-by}
 use Rattle.rereading.proofs.Cutting.{Sound, piece-printable}

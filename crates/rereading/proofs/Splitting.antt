@@ -23,10 +23,11 @@ use Rattle.splitting.specs.Scan.{byteClass, Scan, putBefore, after, scanFrom}
 use Rattle.splitting.specs.Split.{partsAt, splitOf}
 use Rattle.roles.specs.Roles.{Comment}
 use Rattle.writing.specs.Pieces.{doubled, quoted, tailOf}
-use Rattle.writing.specs.Rules.{every, isRemark, isComment}
-use Rattle.rereading.proofs.Endings.{blank-printable, shown-all, lastIs, ends-space, last-behind, end-kept, trim-padded}
-use Rattle.rereading.proofs.Endings.{last-agrees}
-use Rattle.rereading.proofs.Scanning.{Passes, quoted-passes, isPlain, plain-passes}
+use Rattle.writing.specs.Rules.{every, isNameByte, isRemark, isComment}
+use Rattle.rereading.proofs.Endings.{every-first, blank-printable, shown-all, lastIs, ends-space, last-behind, end-kept}
+use Rattle.rereading.proofs.Endings.{trim-padded, last-agrees, last-none}
+use Rattle.rereading.proofs.Names.{name-blank, name-space}
+use Rattle.rereading.proofs.Scanning.{Passes, within, quoted-passes, names-pass}
 
 -- the states that a slash ends
 pub data Out : Quoting → Type 0 where
@@ -81,6 +82,10 @@ space-space : isSpace (code " ") ≡ true
 unfolding isSpace
 space-space = refl
 
+-- a trimmed text, by its scan
+abbrev byScan : List ℕ → Halves
+byScan s = let r = scanFrom Outside s 0 in partsAt (r .place) s (r .value)
+
 module _ {q : Quoting} (d : ℕ) (t : List ℕ) (e : ℕ) (v : List ℕ) (out : Out q) (pass : Passes (d ∷ t) (e ∷ v) q)
     (first : isBlank d ≡ false) (ending : lastIs isBlank (d ∷ t) ≡ false) (front : isSpace e ≡ false)
     (end : lastIs isSpace (e ∷ v) ≡ false) where
@@ -99,32 +104,26 @@ module _ {q : Quoting} (d : ℕ) (t : List ℕ) (e : ℕ) (v : List ℕ) (out : 
   value-spaced : trim isSpace ((e ∷ v) ++ ascii " ") ≡ e ∷ v
   value-spaced = trim-padded isSpace 0 1 (code " ") e v space-space front end
 
-  halves : (c : Comment) → isComment c ≡ true
-      → partsAt ((scanFrom Outside ((d ∷ t) ++ tailOf c) 0) .place) ((d ∷ t) ++ tailOf c) ((scanFrom Outside ((d ∷ t) ++ tailOf c) 0) .value) ≡ halvesOf (e ∷ v) c
+  halves : (c : Comment) → isComment c ≡ true → byScan ((d ∷ t) ++ tailOf c) ≡ halvesOf (e ∷ v) c
   halves none y =
       ap (λ (r : Scan). partsAt (r .place) ((d ∷ t) ++ []) (r .value))
       (pass [] ∙ ap (putBefore (e ∷ v)) (ends-here q (length (d ∷ t))))
       ∙ ap (λ (w : List ℕ). halvesOf w none) value-alone
   halves (some c) y =
+      let tail = tailOf (some c) in
       let n : suc (suc (length (d ∷ t))) ≡ length (d ∷ t) + 2 = omega arith in
-      let cut : drop (suc (suc (length (d ∷ t)))) ((d ∷ t) ++ code " " ∷ code "/" ∷ c) ≡ c =
-      ap (λ (k : ℕ). drop k ((d ∷ t) ++ code " " ∷ code "/" ∷ c)) n
-      ∙ drop-append-add (d ∷ t) (code " " ∷ code "/" ∷ c) 2 in
-      ap (λ (r : Scan). partsAt (r .place) ((d ∷ t) ++ code " " ∷ code "/" ∷ c) (r .value))
-      (pass (code " " ∷ code "/" ∷ c) ∙ ap (putBefore (e ∷ v)) (slash-ends out c (length (d ∷ t))))
+      let cut : drop (suc (suc (length (d ∷ t)))) ((d ∷ t) ++ tail) ≡ c =
+      ap (λ (k : ℕ). drop k ((d ∷ t) ++ tail)) n ∙ drop-append-add (d ∷ t) tail 2 in
+      ap (λ (r : Scan). partsAt (r .place) ((d ∷ t) ++ tail) (r .value))
+      (pass tail ∙ ap (putBefore (e ∷ v)) (slash-ends out c (length (d ∷ t))))
       ∙ ap₂ (λ (w k : List ℕ). halvesOf w (some k)) value-spaced
       (ap (λ (k : List ℕ). trimEnd isSpace (map shown k)) cut ∙ remark-read c y)
 
   -- a value that the scan passes, with its comment, among spaces
-  pub split-read : (n m : ℕ) (c : Comment) → isComment c ≡ true
+  split-read : (n m : ℕ) (c : Comment) → isComment c ≡ true
       → splitOf (spaced n m ((d ∷ t) ++ tailOf c)) ≡ halvesOf (e ∷ v) c
   unfolding splitOf
-  split-read n m c y =
-      ap (λ (s : List ℕ). partsAt ((scanFrom Outside s 0) .place) s ((scanFrom Outside s 0) .value)) (trimmed n m c y) ∙ halves c y
-
--- a string between its quotes
-abbrev pub within : List ℕ → List ℕ
-within s = code "'" ∷ (s ++ ascii "'")
+  split-read n m c y = ap byScan (trimmed n m c y) ∙ halves c y
 
 -- splitting a written string, with its comment, among spaces
 pub split-quoted : (s : List ℕ) → every isPrintable s ≡ true → (n m : ℕ) (c : Comment) → isComment c ≡ true
@@ -134,8 +133,10 @@ split-quoted s e n m c y =
     split-read (code "'") (doubled s ++ ascii "'") (code "'") (s ++ ascii "'") closed (quoted-passes s e) refl
     (last-behind isBlank (code "'" ∷ doubled s) (code "'") []) refl (last-behind isSpace (code "'" ∷ s) (code "'") []) n m c y
 
--- and a text of plain bytes
-pub split-plain : (b : ℕ) (s : List ℕ) → every isPlain (b ∷ s) ≡ true → isBlank b ≡ false → isSpace b ≡ false
-    → lastIs isBlank (b ∷ s) ≡ false → lastIs isSpace (b ∷ s) ≡ false
-    → (n m : ℕ) (c : Comment) → isComment c ≡ true → splitOf (spaced n m ((b ∷ s) ++ tailOf c)) ≡ halvesOf (b ∷ s) c
-split-plain b s e first front ending end n m c y = split-read b s b s outside (plain-passes (b ∷ s) e) first ending front end n m c y
+-- and a text of name bytes
+pub split-names : (b : ℕ) (s : List ℕ) → every isNameByte (b ∷ s) ≡ true → (n m : ℕ) (c : Comment) → isComment c ≡ true
+    → splitOf (spaced n m ((b ∷ s) ++ tailOf c)) ≡ halvesOf (b ∷ s) c
+split-names b s e n m c y =
+    let first = every-first isNameByte b s e in
+    split-read b s b s outside (names-pass (b ∷ s) e) (name-blank b first) (last-none isNameByte isBlank name-blank (b ∷ s) e)
+    (name-space b first) (last-none isNameByte isSpace name-space (b ∷ s) e) n m c y

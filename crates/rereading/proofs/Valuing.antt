@@ -21,7 +21,8 @@ use Rattle.entries.specs.Answers.{isThere, bytesIn}
 use Rattle.writing.specs.Pieces.{quoted, tailOf}
 use Rattle.writing.specs.Rules.{every, isComment}
 use Rattle.rereading.proofs.Endings.{lastIs, stem-behind, ends-behind, end-kept}
-use Rattle.rereading.proofs.Splitting.{halvesOf, spaced, within, split-quoted}
+use Rattle.rereading.proofs.Scanning.{within}
+use Rattle.rereading.proofs.Splitting.{halvesOf, spaced, split-quoted}
 
 -- ---- strings
 -- what stands within quotes is read as it is, but for spaces at its end
