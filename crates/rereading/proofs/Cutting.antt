@@ -99,7 +99,8 @@ open-sound s e =
       remark = refl;
     }
 
-pub pieces-sound : {c : Comment} {s : List ℕ} {ps : List Piece} → Cut c s ps → every isPrintable s ≡ true → lastIs isSpace s ≡ false
+pub pieces-sound : {c : Comment} {s : List ℕ} {ps : List Piece} → Cut c s ps → every isPrintable s ≡ true
+    → lastIs isSpace s ≡ false
     → isComment c ≡ true → All Sound ps
 pieces-sound (final {s}) e l y = also (record { printable = e; settles = settled-kept s l; remark = y }) no-more
 pieces-sound (goes-on {s} cut) e l y =

@@ -1,21 +1,24 @@
--- The digits that are written are digits, and a text of digits is read as one.
+-- The digits that are written, and their sign, as they are read.
 use Prim.Native.Nat.{ℕ, zero, suc, _/_, _%_, _<_, _≤_}
 use Prim.Native.Char.{code}
 use native.Mathlib.Omega.{arith}
-use mathlib.Core.Path.{_≡_, refl, sym, ap}
+use mathlib.Core.Path.{_≡_, refl, sym, ap, subst, _∙_}
 use mathlib.Core.Bool.{Bool, true, false, cond, _&&_, _||_}
-use mathlib.Core.List.{List, [], _∷_}
+use mathlib.Core.List.{List, [], _∷_, _++_}
 use borrow.Author.Tests.{ne-eqb, le-leb, leb-true, ltb-true}
 use lib.Dec.{eqb, leb, ltb}
 use Rattle.laws.proofs.Truths.{and-both}
 use Rattle.text.specs.Bytes.{isDigit}
 use Rattle.text.specs.Trim.{trimStart}
-use Rattle.numbers.specs.Signs.{isSign}
-use Rattle.numbers.specs.Digits.{isEmpty, isDigits}
-use Rattle.numerals.specs.Numerals.{digitByte, digitsBefore, decimalDigits}
+use Rattle.numbers.specs.Signs.{isSign, isNegative, unsigned}
+use Rattle.numbers.specs.Digits.{isDigits}
+use Rattle.numerals.specs.Numerals.{digitByte, digitsBefore, decimalDigits, minusOf}
 use Rattle.numerals.proofs.Decimals.{some-digits}
+use Rattle.value.specs.Values.{startsNumber, startOf}
 use Rattle.writing.specs.Rules.{every, isNameByte}
-use Rattle.rereading.proofs.Endings.{every-first, every-rest}
+use Rattle.rereading.proofs.Endings.{every-first, every-rest, every-weaker}
+use Rattle.rereading.proofs.Plain.{Figures, figures}
+use Rattle.value.specs.declared.Start.the-variants.{Number as Numeric}
 
 digit-here : (n : ℕ) → n < 10 → isDigit (digitByte n) ≡ true
 unfolding isDigit
@@ -32,23 +35,29 @@ before-digits (suc m) n v e =
     go true x later = rw (digit-here n (ltb-true n 10 x)) e
     go false x later = later
 
-pub digits-all : (n : ℕ) → every isDigit (decimalDigits n) ≡ true
+-- a digit or more, and nothing else
+pub data Digital : List ℕ → Type 0 where
+  digital : {b : ℕ} {s : List ℕ} → isDigit b ≡ true → every isDigit s ≡ true → Digital (b ∷ s)
+
+pub digital-all : (b : ℕ) (s : List ℕ) → every isDigit (b ∷ s) ≡ true → Digital (b ∷ s)
+digital-all b s e = digital (every-first isDigit b s e) (every-rest isDigit b s e)
+
+-- the digits that are written are such
+pub digital-written : (n : ℕ) → Digital (decimalDigits n)
 unfolding decimalDigits every
-digits-all n = before-digits (suc n) n [] refl
+digital-written n =
+    let (b, s, e) = some-digits n in
+    subst Digital (sym e) (digital-all b s (ap (every isDigit) (sym e) ∙ before-digits (suc n) n [] refl))
 
-pub digits-some : (n : ℕ) → isEmpty (decimalDigits n) ≡ false
-digits-some n = let (b, rest, e) = some-digits n in ap isEmpty e
-
--- ---- a text of digits
-pub start-all : (p : ℕ → Bool) (s : List ℕ) → every p s ≡ true → trimStart p s ≡ []
+-- and they are read as digits
+start-all : (p : ℕ → Bool) (s : List ℕ) → every p s ≡ true → trimStart p s ≡ []
 unfolding trimStart
 start-all p [] e = refl
 start-all p (b ∷ s) e = rw (every-first p b s e, start-all p s (every-rest p b s e))
 
-pub all-digits : (s : List ℕ) → every isDigit s ≡ true → isEmpty s ≡ false → isDigits s ≡ true
-unfolding isDigits
-all-digits [] e d = sym d
-all-digits (b ∷ s) e d = ap isEmpty (start-all isDigit (b ∷ s) e)
+pub digital-read : {s : List ℕ} → Digital s → isDigits s ≡ true
+unfolding isDigits trimStart
+digital-read (digital {b} {s} h e) = rw (h, start-all isDigit s e)
 
 -- ---- a digit is none of the other bytes that a number's reading asks for
 pub digit-range : (b : ℕ) → isDigit b ≡ true → (code "0" ≤ b) × (b ≤ code "9")
@@ -74,3 +83,38 @@ digit-name b e = rw e (any (leb (code "A") b && leb b (code "Z")))
 pub digit-sign : (b : ℕ) → isDigit b ≡ true → isSign b ≡ false
 unfolding isSign
 digit-sign b e = rw (digit-not b (code "+") e (omega arith), digit-not b (code "-") e (omega arith))
+
+pub digital-names : {s : List ℕ} → Digital s → every isNameByte s ≡ true
+unfolding every
+digital-names (digital {b} {s} h e) = rw (digit-name b h, every-weaker isDigit isNameByte digit-name s e)
+
+pub start-digit : (b : ℕ) → isDigit b ≡ true → startOf b ≡ Numeric
+unfolding startOf startsNumber
+start-digit b e =
+    rw (
+      digit-not b (code "'") e (omega arith),
+      digit-above b (code "T") e (omega arith),
+      digit-above b (code "F") e (omega arith),
+      digit-not b (code "(") e (omega arith),
+      digit-not b (code "+") e (omega arith),
+      digit-not b (code "-") e (omega arith),
+      digit-not b (code ".") e (omega arith),
+      e,
+    )
+
+-- ---- a minus or none before a digit
+module _ (b : ℕ) (s : List ℕ) (h : isDigit b ≡ true) where
+  pub unsigned-front : (minus : Bool) → unsigned (minusOf minus ++ b ∷ s) ≡ b ∷ s
+  unfolding unsigned isSign
+  unsigned-front true = refl
+  unsigned-front false = rw (digit-sign b h)
+
+  pub negative-front : (minus : Bool) → isNegative (minusOf minus ++ b ∷ s) ≡ minus
+  unfolding isNegative
+  negative-front true = refl
+  negative-front false = digit-not b (code "-") h (omega arith)
+
+  pub figures-front : (minus : Bool) → every isNameByte (b ∷ s) ≡ true → Figures (minusOf minus ++ b ∷ s)
+  unfolding startOf startsNumber every isNameByte isDigit
+  figures-front true e = figures refl e
+  figures-front false e = figures (start-digit b h) e

@@ -3,28 +3,24 @@ use Prim.Native.Nat.{ℕ, zero, suc, _+_, _-_, _≤_}
 use Prim.Native.Char.{code}
 use native.Mathlib.Omega.{arith}
 use mathlib.Core.Path.{_≡_, refl, ap, _∙_}
-use mathlib.Core.Bool.{Bool, true, false, cond, _&&_}
-use mathlib.Core.List.{List, [], _∷_, _++_, append-nil}
+use mathlib.Core.Bool.{Bool, true, false, cond}
+use mathlib.Core.List.{List, [], _∷_, append-nil}
 use mathlib.Core.Option.{none, some}
 use borrow.Author.Tests.{le-leb, leb-true}
 use lib.Dec.{eqb, leb}
-use lib.ListN.{length, length-append}
-use Rattle.laws.proofs.Truths.{and-both}
-use Rattle.text.specs.Bytes.{ascii}
+use lib.ListN.{length}
 use Rattle.text.specs.Text.{size}
-use Rattle.numbers.specs.declared.Size.the-variants.{Finite, Infinite, Nan}
+use Rattle.text.proofs.Texts.{length-put}
 use Rattle.numbers.specs.declared.Value.{Value}
-use Rattle.numbers.specs.declared.Value.the-variants.{Integer, Float, Logical, String, Undefined, Invalid}
-use Rattle.numerals.specs.Numerals.{signedDigits}
 use Rattle.roles.specs.Roles.{Comment}
 use Rattle.writing.specs.Pieces.{doubled, quoted, bytesFor, fitting, leftover, Piece, pieceText, textRoom, openRoom, fits, lastPiece}
 use Rattle.writing.specs.Pieces.{openPiece, piecesFrom}
-use Rattle.writing.specs.Written.{cardFrom, nameFront, continueFront, truthText, decimalText, plainText, plainCards, stringCards}
-use Rattle.writing.specs.Written.{writtenCards}
-use Rattle.writing.specs.Rules.{isName, isComment, isShort, remarkLimit, isText, isLong, isSignificant, isPower, fitsCard, isValue}
-use Rattle.writing.specs.Rules.{isWritable}
+use Rattle.writing.specs.Written.{cardFrom, nameFront, continueFront, plainText, stringCards, writtenCards}
+use Rattle.writing.specs.Rules.{isName, isShort, remarkLimit, isWritable}
 use Rattle.rereading.proofs.Lists.{All, all-map, no-more, also}
 use Rattle.rereading.proofs.Fronts.{front-long, card-long}
+use Rattle.rereading.proofs.Cutting.{headPart, restPart, openText}
+use Rattle.rereading.proofs.Forms.{Formed, written-formed, one-card, string-cards}
 
 -- ---- the pieces fit
 width-doubled : (b : ℕ) (s : List ℕ) → length (doubled (b ∷ s)) ≡ bytesFor b + length (doubled s)
@@ -45,25 +41,18 @@ fitting-long n (b ∷ s) = go (leb (bytesFor b) n) refl (fitting-long (n - bytes
     go true e h = let w : bytesFor b ≤ n = leb-true (bytesFor b) n e in omega (arith, width-doubled b (fitting (n - bytesFor b) s))
     go false e h = omega arith
 
-doubled-open : (s : List ℕ) → length (doubled (s ++ ascii "&")) ≡ length (doubled s) + 1
+doubled-open : (s : List ℕ) → length (doubled (openText s)) ≡ length (doubled s) + 1
 unfolding doubled
 doubled-open [] = refl
 doubled-open (b ∷ s) =
-    width-doubled b (s ++ ascii "&")
-    ∙ (let later : length (doubled (s ++ ascii "&")) ≡ length (doubled s) + 1 = doubled-open s in omega
-    (arith, width-doubled b s))
+    let later : length (doubled (openText s)) ≡ length (doubled s) + 1 = doubled-open s in
+    width-doubled b (openText s) ∙ omega (arith, width-doubled b s)
 
 open-fits : (s : List ℕ) → length (pieceText (openPiece s)) ≤ textRoom
 open-fits s =
-    let t = fitting openRoom s ++ ascii "&" in
-    omega (
-      arith,
-      ap length (append-nil (quoted t)),
-      length-append (doubled t) (ascii "'"),
-      doubled-open
-          (fitting openRoom s),
-      fitting-long openRoom s,
-    )
+    let t = openText (headPart s) in
+    let long : length (pieceText (openPiece s)) ≡ length (quoted t) = ap length (append-nil (quoted t)) in
+    omega (arith, length-put (doubled t) (code "'"), doubled-open (headPart s), fitting-long openRoom s)
 
 pub width-small : (b : ℕ) → bytesFor b ≤ 2
 unfolding bytesFor
@@ -84,7 +73,7 @@ leftover-shorter n (b ∷ s) = go (leb (bytesFor b) n) (leftover-shorter (n - by
     go false h = omega arith
 
 -- a piece takes a character at least
-leftover-less : (n : ℕ) (s : List ℕ) → length s ≤ suc n → length (leftover openRoom s) ≤ n
+leftover-less : (n : ℕ) (s : List ℕ) → length s ≤ suc n → length (restPart s) ≤ n
 unfolding leftover
 leftover-less n [] h = omega arith
 leftover-less n (b ∷ s) h =
@@ -105,10 +94,10 @@ pub pieces-fit : (n : ℕ) (s : List ℕ) (c : Comment) → length s ≤ n → i
     → All Fits (piecesFrom n s c)
 unfolding piecesFrom
 pieces-fit zero s c h y = also (empty-fits s c h y) no-more
-pieces-fit (suc n) s c h y = go (fits (lastPiece s c)) refl (pieces-fit n (leftover openRoom s) c (leftover-less n s h) y)
+pieces-fit (suc n) s c h y = go (fits (lastPiece s c)) refl (pieces-fit n (restPart s) c (leftover-less n s h) y)
   where
-    go : (u : Bool) → fits (lastPiece s c) ≡ u → All Fits (piecesFrom n (leftover openRoom s) c)
-        → All Fits (cond u (lastPiece s c ∷ []) (openPiece s ∷ piecesFrom n (leftover openRoom s) c))
+    go : (u : Bool) → fits (lastPiece s c) ≡ u → All Fits (piecesFrom n (restPart s) c)
+        → All Fits (cond u (lastPiece s c ∷ []) (openPiece s ∷ piecesFrom n (restPart s) c))
     go true e later = also (leb-true (length (pieceText (lastPiece s c))) textRoom e) no-more
     go false e later = also (open-fits s) later
 
@@ -124,31 +113,16 @@ pub string-all : (P : Piece → Type 0) (Q : List ℕ → Type 0) (name : List �
 string-all P Q name f g no-more = no-more
 string-all P Q name f g (also {x} h hs) = also (f x h) (all-map P Q (λ (q : Piece). cardFrom continueFront (pieceText q)) g hs)
 
-plain-whole : (name : List ℕ) → isName name ≡ true → (t : List ℕ) (c : Comment) → fitsCard t c ≡ true
-    → All IsWhole (plainCards name t c)
-plain-whole name good t c e =
-    also (card-long (nameFront name) (plainText t c) (front-long name good) (leb-true (length (plainText t c)) textRoom e)) no-more
-
-string-whole : (name : List ℕ) → isName name ≡ true → {ps : List Piece} → All Fits ps → All IsWhole (stringCards name ps)
-string-whole name good =
+formed-whole : {name : List ℕ} {c : Comment} {v : Value} {text : List ℕ} {cs : List (List ℕ)} → isName name ≡ true
+    → Formed name c v text cs → All IsWhole cs
+formed-whole {name} {c} good (one-card {v} {text} {t} one) =
+    also (card-long (nameFront name) (plainText t c) (front-long name good) (one .fit)) no-more
+formed-whole {name} {c} good (string-cards {s} is remark short) =
     string-all Fits IsWhole name (λ p h. card-long (nameFront name) (pieceText p) (front-long name good) h)
-    (λ p h. card-long continueFront (pieceText p) refl h)
+    (λ p h. card-long continueFront (pieceText p) refl h) (pieces-fit (length s) s c (omega arith) short)
 
-module _ (name : List ℕ) (good : isName name ≡ true) (text : List ℕ) (c : Comment) where
-  by-value : (v : Value) → isValue v text c ≡ true → All IsWhole (writtenCards v name text c)
-  by-value (Integer z) e = plain-whole name good (signedDigits z) c (and-both (isLong z) (fitsCard (signedDigits z) c) e .1)
-  by-value (Float minus (Finite power)) e =
-      plain-whole name good (decimalText minus text power) c
-      (and-both (isSignificant text && isPower text power) (fitsCard (decimalText minus text power) c) e .1)
-  by-value (Float minus Infinite) e = no-more
-  by-value (Float minus Nan) e = no-more
-  by-value (Logical t) e = plain-whole name good (truthText t) c e
-  by-value String e =
-      string-whole name good (pieces-fit (length text) text c (omega arith) (and-both (isText text) (isShort remarkLimit c) e .1))
-  by-value Undefined e = no-more
-  by-value Invalid e = no-more
-
-  -- each written card has size bytes
-  pub written-whole : (v : Value) → isWritable v text c ≡ true → All IsWhole (writtenCards v name text c)
-  unfolding isWritable
-  written-whole v e = by-value v (and-both (isComment c) (isValue v text c) e .1)
+-- each written card has 80 bytes
+pub written-whole : (name : List ℕ) → isName name ≡ true → (text : List ℕ) (c : Comment) (v : Value)
+    → isWritable v text c ≡ true
+    → All IsWhole (writtenCards v name text c)
+written-whole name good text c v e = formed-whole good (written-formed name good text c v e)

@@ -14,6 +14,7 @@ pub mod Plain
 pub mod Digits
 pub mod Integers
 pub mod Decimals
+pub mod Forms
 pub mod Owning
 pub mod Continued
 pub mod Answering

@@ -1,84 +1,105 @@
 -- Cards of logicals and numbers, by what their texts read as.
 use Prim.Native.Nat.{ℕ, _-_}
 use Prim.Native.Char.{code}
-use mathlib.Core.Path.{_≡_, refl, ap, ap₂, _∙_}
+use mathlib.Core.Path.{_≡_, refl, ap, _∙_}
 use mathlib.Core.Bool.{Bool, true, false}
 use mathlib.Core.List.{List, [], _∷_, _++_, append-assoc}
 use lib.ListN.{length}
 use Rattle.text.specs.Bytes.{isPrintable}
 use Rattle.text.specs.Text.{textOf}
 use Rattle.text.proofs.Texts.{bytes-text}
+use Rattle.numbers.specs.declared.Number.{Number}
 use Rattle.numbers.specs.declared.Value.{Value}
 use Rattle.numbers.specs.declared.Value.the-variants.{Logical}
+use Rattle.numbers.specs.Numbers.{readNumber}
 use Rattle.value.specs.declared.ValueRead.{ValueRead}
-use Rattle.value.specs.Values.{startOf, valueAs, byStart, valueOf}
-use Rattle.card.specs.Cards.{ofValue, unplacedOf}
-use Rattle.roles.specs.Roles.{Comment, Held, entry, roleOf}
+use Rattle.value.specs.declared.Start.{Start}
+use Rattle.value.specs.Values.{keepsComment, startOf, valueAs, ofNumber, byStart, valueOf}
+use Rattle.card.specs.Cards.{ofValue}
+use Rattle.roles.specs.Roles.{Comment, entry, roleOf}
 use Rattle.entries.specs.Answers.{isThere, bytesIn}
 use Rattle.writing.specs.Pieces.{tailOf}
-use Rattle.writing.specs.Written.{cardFrom, nameFront, truthText, numberRoom, justified, plainText}
+use Rattle.writing.specs.Written.{cardFrom, nameFront, truthText, numberRoom, justified, plainText, heldFor}
 use Rattle.writing.specs.Rules.{every, isNameByte, isName, isComment}
 use Rattle.rereading.proofs.Endings.{every-append, every-weaker, every-spaces}
 use Rattle.rereading.proofs.Names.{name-printable}
 use Rattle.rereading.proofs.Splitting.{spaced, split-names}
 use Rattle.rereading.proofs.Valuing.{by-halves, by-start}
-use Rattle.rereading.proofs.Fronts.{spaces, left, card-read, role-by}
+use Rattle.rereading.proofs.Fronts.{spaces, left, card-read}
 use Rattle.rereading.proofs.Cutting.{tail-printable}
-use Rattle.rereading.proofs.Roles.{comment-back}
-
--- what an entry holds that is no string
-abbrev pub heldPlain : Value → List ℕ → Comment → Held
-heldPlain v digits c = record { value = v; digits = digits; words = record { text = []; comment = c; joins = false } }
+use Rattle.rereading.proofs.Roles.{value-role}
+use Rattle.value.specs.declared.Start.the-variants.{Number as Numeric}
 
 -- a text of name bytes, among spaces and with its comment, by its first byte
 module _ (b : ℕ) (s : List ℕ) (e : every isNameByte (b ∷ s) ≡ true) (c : Comment) (y : isComment c ≡ true) where
-  pub plain-value : (n m : ℕ)
-      → valueOf (spaced n m ((b ∷ s) ++ tailOf c))
-      ≡ byStart (startOf b) (textOf (b ∷ s)) (spaced n m ((b ∷ s) ++ tailOf c)) (isThere c) (textOf (bytesIn c))
-  plain-value n m =
-      let raw = spaced n m ((b ∷ s) ++ tailOf c) in
-      by-halves raw (b ∷ s) c (split-names b s e n m c y) ∙ by-start raw b s (isThere c) (textOf (bytesIn c))
+  -- the spaces in front of it
+  abbrev room : ℕ
+  room = numberRoom - length (b ∷ s)
 
-  pub plain-printable-text : every isPrintable (plainText (b ∷ s) c) ≡ true
+  pub plain-printable : every isPrintable (plainText (b ∷ s) c) ≡ true
   unfolding justified
-  plain-printable-text =
-      every-append isPrintable (spaces (numberRoom - length (b ∷ s)) ++ (b ∷ s)) (tailOf c)
-      (every-append isPrintable (spaces (numberRoom - length (b ∷ s))) (b ∷ s) (every-spaces (numberRoom - length (b ∷ s)))
+  plain-printable =
+      every-append isPrintable (spaces room ++ (b ∷ s)) (tailOf c)
+      (every-append isPrintable (spaces room) (b ∷ s) (every-spaces room)
       (every-weaker isNameByte isPrintable name-printable (b ∷ s) e))
       (tail-printable c y)
 
-  justified-spaced : (m : ℕ) → (plainText (b ∷ s) c) ++ spaces m ≡ spaced (numberRoom - length (b ∷ s)) m ((b ∷ s) ++ tailOf c)
+  plain-spaced : (m : ℕ) → plainText (b ∷ s) c ++ spaces m ≡ spaced room m ((b ∷ s) ++ tailOf c)
   unfolding justified
-  justified-spaced m =
-      ap (λ (l : List ℕ). l ++ spaces m) (append-assoc (spaces (numberRoom - length (b ∷ s))) (b ∷ s) (tailOf c))
-      ∙ append-assoc (spaces (numberRoom - length (b ∷ s))) ((b ∷ s) ++ tailOf c) (spaces m)
+  plain-spaced m =
+      ap (λ (l : List ℕ). l ++ spaces m) (append-assoc (spaces room) (b ∷ s) (tailOf c))
+      ∙ append-assoc (spaces room) ((b ∷ s) ++ tailOf c) (spaces m)
 
-  -- the card of such a text, where its value is read as r whatever spaces stand about it
-  pub plain-card : (name : List ℕ) → isName name ≡ true → (r : ValueRead)
-      → ((n m : ℕ) → valueOf (spaced n m ((b ∷ s) ++ tailOf c)) ≡ r)
-      → unplacedOf (cardFrom (nameFront name) (plainText (b ∷ s) c)) ≡ ofValue false (textOf name) r
-  plain-card name good r about =
-      let t = plainText (b ∷ s) c in
-      card-read name t good plain-printable-text
-      ∙ ap (λ (w : List ℕ). ofValue false (textOf name) (valueOf w)) (justified-spaced (left (nameFront name) t))
-      ∙ ap (ofValue false (textOf name)) (about (numberRoom - length (b ∷ s)) (left (nameFront name) t))
+  -- the card of such a text, where its first byte says that it is read as v with text t
+  pub plain-role : (name : List ℕ) → isName name ≡ true → (v : Value) (t : List ℕ) → keepsComment v ≡ true
+      → ((raw : List ℕ) → byStart (startOf b) (textOf (b ∷ s)) raw (isThere c) (textOf (bytesIn c))
+      ≡ valueAs v (textOf t) (isThere c) (textOf (bytesIn c)))
+      → roleOf (cardFrom (nameFront name) (plainText (b ∷ s) c)) ≡ entry name (heldFor v t c)
+  plain-role name good v t keeps about =
+      let m = left (nameFront name) (plainText (b ∷ s) c) in
+      let raw = spaced room m ((b ∷ s) ++ tailOf c) in
+      value-role (cardFrom (nameFront name) (plainText (b ∷ s) c)) name v t c keeps
+      (card-read name (plainText (b ∷ s) c) good plain-printable
+      ∙ ap (λ (w : List ℕ). ofValue false (textOf name) (valueOf w)) (plain-spaced m)
+      ∙ ap (ofValue false (textOf name))
+      (by-halves raw (b ∷ s) c (split-names b s e room m c y) ∙ by-start raw b s (isThere c) (textOf (bytesIn c)) ∙ about raw))
 
--- logicals
-logical-value : (t : Bool) (c : Comment) → isComment c ≡ true → (n m : ℕ)
-    → valueOf (spaced n m (truthText t ++ tailOf c)) ≡ valueAs (Logical t) (textOf []) (isThere c) (textOf (bytesIn c))
-unfolding every isNameByte startOf
-logical-value true c y n m = plain-value (code "T") [] refl c y n m
-logical-value false c y n m = plain-value (code "F") [] refl c y n m
-
-logical-card : (name : List ℕ) → isName name ≡ true → (t : Bool) (c : Comment) → isComment c ≡ true
-    → unplacedOf (cardFrom (nameFront name) (plainText (truthText t) c))
-    ≡ ofValue false (textOf name) (valueAs (Logical t) (textOf []) (isThere c) (textOf (bytesIn c)))
+-- ---- logicals
+pub truth-names : (t : Bool) → every isNameByte (truthText t) ≡ true
 unfolding every isNameByte
-logical-card name good true c y = plain-card (code "T") [] refl c y name good _ (logical-value true c y)
-logical-card name good false c y = plain-card (code "F") [] refl c y name good _ (logical-value false c y)
+truth-names true = refl
+truth-names false = refl
 
-pub logical-role : (name : List ℕ) → isName name ≡ true → (t : Bool) (c : Comment) → isComment c ≡ true
-    → roleOf (cardFrom (nameFront name) (plainText (truthText t) c)) ≡ entry name (heldPlain (Logical t) [] c)
-logical-role name good t c y =
-    role-by (cardFrom (nameFront name) (plainText (truthText t) c)) (logical-card name good t c y)
-    ∙ ap₂ (λ (n : List ℕ) (d : Comment). entry n (heldPlain (Logical t) [] d)) (bytes-text name) (comment-back c)
+pub truth-printable : (t : Bool) (c : Comment) → isComment c ≡ true → every isPrintable (plainText (truthText t) c) ≡ true
+truth-printable true c y = plain-printable (code "T") [] (truth-names true) c y
+truth-printable false c y = plain-printable (code "F") [] (truth-names false) c y
+
+pub truth-role : (name : List ℕ) → isName name ≡ true → (t : Bool) (c : Comment) → isComment c ≡ true
+    → roleOf (cardFrom (nameFront name) (plainText (truthText t) c)) ≡ entry name (heldFor (Logical t) [] c)
+unfolding startOf
+truth-role name good true c y = plain-role (code "T") [] (truth-names true) c y name good (Logical true) [] refl (λ raw. refl)
+truth-role name good false c y = plain-role (code "F") [] (truth-names false) c y name good (Logical false) [] refl (λ raw. refl)
+
+-- ---- numbers: the first byte of the text starts a number, and all its bytes are name bytes
+pub data Figures : List ℕ → Type 0 where
+  figures : {b : ℕ} {s : List ℕ} → startOf b ≡ Numeric → every isNameByte (b ∷ s) ≡ true → Figures (b ∷ s)
+
+pub figures-names : {t : List ℕ} → Figures t → every isNameByte t ≡ true
+figures-names (figures first e) = e
+
+module _ (c : Comment) (y : isComment c ≡ true) where
+  pub figures-printable : {t : List ℕ} → Figures t → every isPrintable (plainText t c) ≡ true
+  figures-printable (figures {b} {s} first e) = plain-printable b s e c y
+
+  abbrev numberRead : Number → ValueRead
+  numberRead r = valueAs (r .value) (r .text) (isThere c) (textOf (bytesIn c))
+
+  pub figures-role : (name : List ℕ) → isName name ≡ true → {t : List ℕ} → Figures t → (v : Value) (d : List ℕ)
+      → keepsComment v ≡ true
+      → readNumber t ≡ record { value = v; text = textOf d }
+      → roleOf (cardFrom (nameFront name) (plainText t c)) ≡ entry name (heldFor v d c)
+  unfolding ofNumber
+  figures-role name good (figures {b} {s} first e) v d keeps is =
+      plain-role b s e c y name good v d keeps (λ raw.
+      ap (λ (k : Start). byStart k (textOf (b ∷ s)) raw (isThere c) (textOf (bytesIn c))) first
+      ∙ ap (λ (w : List ℕ). numberRead (readNumber w)) (bytes-text (b ∷ s)) ∙ ap numberRead is)

@@ -1,4 +1,4 @@
--- What the written cards of a string are to a header.
+-- What a card that is read is to a header, and the written cards of a string.
 use Prim.Native.Nat.{ℕ}
 use mathlib.Core.Path.{_≡_, refl, ap, ap₂, _∙_}
 use mathlib.Core.Bool.{true, false}
@@ -11,13 +11,15 @@ use Rattle.splitting.specs.declared.Halves.{Halves}
 use Rattle.splitting.specs.declared.StringRead.{StringRead}
 use Rattle.splitting.specs.Split.{splitOf}
 use Rattle.splitting.specs.Strings.{stringOf}
+use Rattle.numbers.specs.declared.Value.{Value}
 use Rattle.numbers.specs.declared.Value.the-variants.{String}
-use Rattle.value.specs.Values.{valueAs}
+use Rattle.value.specs.Values.{keepsComment, valueAs}
+use Rattle.card.specs.declared.CardRead.{CardRead}
 use Rattle.card.specs.Cards.{ofValue, stringCard, continued, continuationOf, unplacedOf}
 use Rattle.roles.specs.Roles.{Comment, Held, Role, entry, more, commentOf, roleOf}
 use Rattle.entries.specs.Answers.{isThere, bytesIn}
 use Rattle.writing.specs.Pieces.{Piece, pieceText}
-use Rattle.writing.specs.Written.{cardFrom, nameFront, continueFront, stringCards}
+use Rattle.writing.specs.Written.{cardFrom, nameFront, continueFront, stringCards, heldFor}
 use Rattle.writing.specs.Rules.{isName}
 use Rattle.rereading.proofs.Lists.{All, no-more, also}
 use Rattle.rereading.proofs.Scanning.{within}
@@ -31,48 +33,50 @@ pub comment-back : (c : Comment) → commentOf (isThere c) (bytesOf (textOf (byt
 comment-back none = refl
 comment-back (some c) = ap some (bytes-text c)
 
+-- a card whose value is read with text t and comment c is the entry of its name, with that value, text and comment
+pub value-role : (card name : List ℕ) (v : Value) (t : List ℕ) (c : Comment) → keepsComment v ≡ true
+    → unplacedOf card ≡ ofValue false (textOf name) (valueAs v (textOf t) (isThere c) (textOf (bytesIn c)))
+    → roleOf card ≡ entry name (heldFor v t c)
+value-role card name v t c keeps e =
+    let read = commentOf (isThere c) (bytesOf (textOf (bytesIn c))) in
+    role-by card e
+    ∙ rw keeps (ap (λ (n : List ℕ). entry n (heldFor v (bytesOf (textOf t)) read)) (bytes-text name)
+    ∙ ap₂ (λ (s : List ℕ) (d : Comment). entry name (heldFor v s d)) (bytes-text t) (comment-back c))
+
 -- what a string's entry holds
 abbrev pub heldString : List ℕ → Comment → Held
-heldString s c = record { value = String; digits = []; words = record { text = s; comment = c; joins = true } }
+heldString s c = heldFor String s c
 
 -- a written card of a string is the entry of its name, its text and its comment
-string-card : (name : List ℕ) → isName name ≡ true → {p : Piece} → Sound p
-    → unplacedOf (cardFrom (nameFront name) (pieceText p))
-    ≡ ofValue false (textOf name) (valueAs String (textOf (p .text)) (isThere (p .comment)) (textOf (bytesIn (p .comment))))
-string-card name e {p} h =
-    card-read name (pieceText p) e (piece-printable h)
-    ∙ ap (ofValue false (textOf name)) (value-quoted (p .text) (h .printable) (h .settles) 0
-    (left (nameFront name) (pieceText p)) (p .comment) (h .remark))
-
 pub string-role : (name : List ℕ) → isName name ≡ true → {p : Piece} → Sound p
     → roleOf (cardFrom (nameFront name) (pieceText p)) ≡ entry name (heldString (p .text) (p .comment))
 string-role name e {p} h =
-    role-by (cardFrom (nameFront name) (pieceText p)) (string-card name e h)
-    ∙ ap (λ (n : List ℕ). entry n (heldString (bytesOf (textOf (p .text)))
-    (commentOf (isThere (p .comment)) (bytesOf (textOf (bytesIn (p .comment))))))) (bytes-text name)
-    ∙ ap₂ (λ (s : List ℕ) (c : Comment). entry name (heldString s c)) (bytes-text (p .text)) (comment-back (p .comment))
+    let room = left (nameFront name) (pieceText p) in
+    value-role (cardFrom (nameFront name) (pieceText p)) name String (p .text) (p .comment) refl
+    (card-read name (pieceText p) e (piece-printable h)
+    ∙ ap (ofValue false (textOf name)) (value-quoted (p .text) (h .printable) (h .settles) 0 room (p .comment) (h .remark)))
 
 -- and a CONTINUE card likewise
-found : (name s : List ℕ) (c : Comment)
-    → continued (halvesOf (within s) c .answer) (textOf name) (halvesOf (within s) c .value) (halvesOf (within s) c .comment)
-    ≡ (let r = stringOf (within s) in stringCard (r .answer) (textOf name) (r .text) (isThere c) (textOf (bytesIn c)))
-found name s none =
-    ap (λ (w : List ℕ). let r = stringOf w in stringCard (r .answer) (textOf name) (r .text) false (textOf [])) (bytes-text (within s))
-found name s (some c) =
-    ap (λ (w : List ℕ). let r = stringOf w in stringCard (r .answer) (textOf name) (r .text) true (textOf c)) (bytes-text (within s))
+abbrev readBy : Halves → CardRead
+readBy h = continued (h .answer) (textOf (ascii "CONTINUE")) (h .value) (h .comment)
+
+abbrev stringBy : Comment → StringRead → CardRead
+stringBy c r = stringCard (r .answer) (textOf (ascii "CONTINUE")) (r .text) (isThere c) (textOf (bytesIn c))
+
+halves-read : (s : List ℕ) (c : Comment) → readBy (halvesOf (within s) c) ≡ stringBy c (stringOf (within s))
+halves-read s none = ap (λ (w : List ℕ). stringBy none (stringOf w)) (bytes-text (within s))
+halves-read s (some c) = ap (λ (w : List ℕ). stringBy (some c) (stringOf w)) (bytes-text (within s))
 
 pub continue-role : {p : Piece} → Sound p → roleOf (cardFrom continueFront (pieceText p)) ≡ more (p .text) (p .comment)
 unfolding continuationOf
 continue-role {p} h =
-    let word = ascii "CONTINUE" in
-    role-by (cardFrom continueFront (pieceText p)) (continue-read (pieceText p) (piece-printable h)
-    ∙ ap (λ (t : List ℕ). let r = splitOf t in continued (r .answer) (textOf word) (r .value) (r .comment))
-    (continue-text (pieceText p))
-    ∙ ap (λ (r : Halves). continued (r .answer) (textOf word) (r .value) (r .comment))
-    (split-quoted (p .text) (h .printable) 2 (left continueFront (pieceText p)) (p .comment) (h .remark))
-    ∙ found word (p .text) (p .comment)
-    ∙ ap (λ (r : StringRead). stringCard (r .answer) (textOf word) (r .text) (isThere (p .comment))
-    (textOf (bytesIn (p .comment)))) (string-within (p .text)))
+    let room = left continueFront (pieceText p) in
+    role-by (cardFrom continueFront (pieceText p))
+    (continue-read (pieceText p) (piece-printable h)
+    ∙ ap (λ (t : List ℕ). readBy (splitOf t)) (continue-text (pieceText p))
+    ∙ ap readBy (split-quoted (p .text) (h .printable) 2 room (p .comment) (h .remark))
+    ∙ halves-read (p .text) (p .comment)
+    ∙ ap (stringBy (p .comment)) (string-within (p .text)))
     ∙ ap₂ more (bytes-text _ ∙ h .settles) (comment-back (p .comment))
 
 -- the roles of a string's cards
@@ -86,9 +90,9 @@ rolesFor name (p ∷ ps) = entry name (heldString (p .text) (p .comment)) ∷ ma
 continued-roles : {ps : List Piece} → All Sound ps
     → map roleOf (map (λ (q : Piece). cardFrom continueFront (pieceText q)) ps) ≡ map moreOf ps
 continued-roles no-more = refl
-continued-roles (also h hs) = ap₂ (λ (r : Role) (rs : List Role). r ∷ rs) (continue-role h) (continued-roles hs)
+continued-roles (also h hs) = ap₂ _∷_ (continue-role h) (continued-roles hs)
 
 pub string-roles : (name : List ℕ) → isName name ≡ true → {ps : List Piece} → All Sound ps
     → map roleOf (stringCards name ps) ≡ rolesFor name ps
 string-roles name e no-more = refl
-string-roles name e (also h hs) = ap₂ (λ (r : Role) (rs : List Role). r ∷ rs) (string-role name e h) (continued-roles hs)
+string-roles name e (also h hs) = ap₂ _∷_ (string-role name e h) (continued-roles hs)
