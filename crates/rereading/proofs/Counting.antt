@@ -44,7 +44,7 @@ empty-last zero s c h y = refl
 empty-last (suc n) s c h y = rw (le-leb (length (pieceText (lastPiece s c))) textRoom (empty-fits s c (omega arith) y))
 
 pieces-count : (n : ℕ) (s : List ℕ) (c : Comment) → isShort remarkLimit c ≡ true
-    → length (piecesFrom n s c) ≤ length s / 33 + 2
+    → length (piecesFrom n s c) ≤ length s / (openRoom / 2) + 2
 unfolding piecesFrom
 pieces-count zero s c y = omega arith
 pieces-count (suc n) s c y = go (fits (lastPiece s c)) (pieces-count n (restPart s) c y)
@@ -52,8 +52,8 @@ pieces-count (suc n) s c y = go (fits (lastPiece s c)) (pieces-count n (restPart
     rest : List ℕ
     rest = restPart s
 
-    go : (u : Bool) → length (piecesFrom n rest c) ≤ length rest / 33 + 2
-        → length (cond u (lastPiece s c ∷ []) (openPiece s ∷ piecesFrom n rest c)) ≤ length s / 33 + 2
+    go : (u : Bool) → length (piecesFrom n rest c) ≤ length rest / (openRoom / 2) + 2
+        → length (cond u (lastPiece s c ∷ []) (openPiece s ∷ piecesFrom n rest c)) ≤ length s / (openRoom / 2) + 2
     go true later = omega arith
     go false later =
         ⊎-elim (λ x. let one : length (piecesFrom n rest c) ≡ 1 = empty-last n rest c x y in omega arith)

@@ -18,7 +18,7 @@ use Rattle.rereading.proofs.Splitting.{remark-printable}
 use Rattle.rereading.proofs.Valuing.{settled-kept}
 
 -- ---- what fits and what is left are the whole
-pub cut-whole : (n : ℕ) (s : List ℕ) → fitting n s ++ leftover n s ≡ s
+cut-whole : (n : ℕ) (s : List ℕ) → fitting n s ++ leftover n s ≡ s
 unfolding fitting leftover
 cut-whole n [] = refl
 cut-whole n (b ∷ s) = go (leb (bytesFor b) n) (cut-whole (n - bytesFor b) s)

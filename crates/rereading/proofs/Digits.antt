@@ -39,7 +39,7 @@ before-digits (suc m) n v e =
 pub data Digital : List ℕ → Type 0 where
   digital : {b : ℕ} {s : List ℕ} → isDigit b ≡ true → every isDigit s ≡ true → Digital (b ∷ s)
 
-pub digital-all : (b : ℕ) (s : List ℕ) → every isDigit (b ∷ s) ≡ true → Digital (b ∷ s)
+digital-all : (b : ℕ) (s : List ℕ) → every isDigit (b ∷ s) ≡ true → Digital (b ∷ s)
 digital-all b s e = digital (every-first isDigit b s e) (every-rest isDigit b s e)
 
 -- the digits that are written are such
@@ -66,7 +66,7 @@ digit-range b e =
     let both = and-both (leb (code "0") b) (leb b (code "9")) e in
     (leb-true (code "0") b (both .0), leb-true b (code "9") (both .1))
 
-pub digit-not : (b k : ℕ) → isDigit b ≡ true → k < code "0" → eqb b k ≡ false
+digit-not : (b k : ℕ) → isDigit b ≡ true → k < code "0" → eqb b k ≡ false
 digit-not b k e h = ne-eqb b k (λ x. let y : b ≡ k = x in omega (arith, digit-range b e))
 
 pub digit-above : (b k : ℕ) → isDigit b ≡ true → code "9" < k → eqb b k ≡ false
@@ -80,7 +80,7 @@ digit-name b e = rw e (any (leb (code "A") b && leb b (code "Z")))
     any true = refl
     any false = refl
 
-pub digit-sign : (b : ℕ) → isDigit b ≡ true → isSign b ≡ false
+digit-sign : (b : ℕ) → isDigit b ≡ true → isSign b ≡ false
 unfolding isSign
 digit-sign b e = rw (digit-not b (code "+") e (omega arith), digit-not b (code "-") e (omega arith))
 
@@ -88,7 +88,7 @@ pub digital-names : {s : List ℕ} → Digital s → every isNameByte s ≡ true
 unfolding every
 digital-names (digital {b} {s} h e) = rw (digit-name b h, every-weaker isDigit isNameByte digit-name s e)
 
-pub start-digit : (b : ℕ) → isDigit b ≡ true → startOf b ≡ Numeric
+start-digit : (b : ℕ) → isDigit b ≡ true → startOf b ≡ Numeric
 unfolding startOf startsNumber
 start-digit b e =
     rw (

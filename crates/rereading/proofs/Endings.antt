@@ -44,11 +44,11 @@ module _ (b : ℕ) (e : isPrintable b ≡ true) where
   unfolding shown
   shown-printable = rw e
 
-  pub printable-least : (code " ") ≤ b
+  printable-least : (code " ") ≤ b
   unfolding isPrintable
   printable-least = leb-true (code " ") b (and-both (leb (code " ") b) (leb b (code "~")) e .0)
 
-  pub printable-most : b ≤ code "~"
+  printable-most : b ≤ code "~"
   unfolding isPrintable
   printable-most = leb-true b (code "~") (and-both (leb (code " ") b) (leb b (code "~")) e .1)
 
@@ -97,7 +97,7 @@ last-byte p b (c ∷ s) =
     rw x (rw y at (last-byte p c s))
 
 -- the last byte is b, which is not 0
-pub ends-with : (b : ℕ) → eqb 0 b ≡ false → (s : List ℕ) → endsWith b s ≡ lastIs (λ (x : ℕ). eqb x b) s
+ends-with : (b : ℕ) → eqb 0 b ≡ false → (s : List ℕ) → endsWith b s ≡ lastIs (λ (x : ℕ). eqb x b) s
 unfolding endsWith lastIs
 ends-with b e [] = e
 ends-with b e (x ∷ s) = last-byte (λ (y : ℕ). eqb y b) x s
@@ -141,14 +141,14 @@ module _ (p : ℕ → Bool) where
   end-kept (b ∷ c ∷ s) e = ap (consTrimmed (p b) b) (end-kept (c ∷ s) e) ∙ cons-some (p b) b c s
 
   -- bytes that pass it go behind such an end
-  pub end-padded : (s : List ℕ) (n b : ℕ) → p b ≡ true → lastIs p s ≡ false → trimEnd p (s ++ replicate n b) ≡ s
+  end-padded : (s : List ℕ) (n b : ℕ) → p b ≡ true → lastIs p s ≡ false → trimEnd p (s ++ replicate n b) ≡ s
   unfolding trimEnd lastIs consTrimmed
   end-padded [] zero b y e = refl
   end-padded [] (suc n) b y e = rw (y, end-padded [] n b y e)
   end-padded (a ∷ []) n b y e = rw (e, end-padded [] n b y refl)
   end-padded (a ∷ c ∷ s) n b y e = ap (consTrimmed (p a) a) (end-padded (c ∷ s) n b y e) ∙ cons-some (p a) a c s
 
-  pub start-padded : (n b : ℕ) (s : List ℕ) → p b ≡ true → trimStart p (replicate n b ++ s) ≡ trimStart p s
+  start-padded : (n b : ℕ) (s : List ℕ) → p b ≡ true → trimStart p (replicate n b ++ s) ≡ trimStart p s
   unfolding trimStart
   start-padded zero b s y = refl
   start-padded (suc n) b s y = rw (y, start-padded n b s y)

@@ -2,11 +2,12 @@
 use Prim.Native.Nat.{ℕ, _+_, _-_, _≤_}
 use Prim.Native.Char.{code}
 use native.Mathlib.Omega.{arith}
-use mathlib.Core.Path.{_≡_, refl, sym, ap, _∙_}
-use mathlib.Core.Bool.{true, false, true≢false}
+use mathlib.Core.Path.{_≡_, refl, ap, _∙_}
+use mathlib.Core.Bool.{true, false}
 use mathlib.Core.List.{List, [], _∷_, _++_, append-assoc}
 use lib.ListN.{length, replicate, take, drop, length-append, length-replicate}
 use lib.Seq.{take-at, drop-at}
+use Rattle.laws.proofs.Truths.{false≢true}
 use Rattle.text.specs.Bytes.{ascii, isBlank, isPrintable}
 use Rattle.text.specs.Trim.{trimStart, trimEnd, trim, consTrimmed}
 use Rattle.text.specs.Same.{same}
@@ -29,7 +30,7 @@ use Rattle.card.specs.declared.Class.the-variants as K
 abbrev pub spaces : ℕ → List ℕ
 spaces n = replicate n (code " ")
 
-pub filled-long : (n : ℕ) (s : List ℕ) → length s ≤ n → length (filled (code " ") n s) ≡ n
+filled-long : (n : ℕ) (s : List ℕ) → length s ≤ n → length (filled (code " ") n s) ≡ n
 unfolding filled
 filled-long n s h =
     length-append s (spaces (n - length s))
@@ -52,8 +53,7 @@ front-long name e = omega (arith, length-append (eight name) (ascii "= "), fille
 
 pub front-printable : (name : List ℕ) → isName name ≡ true → every isPrintable (nameFront name) ≡ true
 unfolding nameFront every isPrintable
-front-printable name e =
-    every-append isPrintable (eight name) (ascii "= ") (filled-printable 8 name bytes) refl
+front-printable name e = every-append isPrintable (eight name) (ascii "= ") (filled-printable 8 name bytes) refl
   where
     bytes : every isPrintable name ≡ true
     bytes = every-weaker isNameByte isPrintable name-printable name (name-bytes name e)
@@ -67,7 +67,8 @@ module _ (front t : List ℕ) where
   pub card-long : length front ≡ 10 → length t ≤ textRoom → length (cardFrom front t) ≡ size
   card-long h k = filled-long size (front ++ t) (omega (arith, length-append front t))
 
-  pub card-printable : every isPrintable front ≡ true → every isPrintable t ≡ true → every isPrintable (cardFrom front t) ≡ true
+  pub card-printable : every isPrintable front ≡ true → every isPrintable t ≡ true
+      → every isPrintable (cardFrom front t) ≡ true
   card-printable f e = filled-printable size (front ++ t) (every-append isPrintable front t f e)
 
   -- the spaces behind its text
@@ -81,15 +82,14 @@ module _ (front t : List ℕ) where
 -- ---- cards that bear a name
 name-trimmed : (name : List ℕ) → every isNameByte name ≡ true → classOf name ≡ K.Other → trim isBlank (eight name) ≡ name
 unfolding isBlank classOf same filled
-name-trimmed [] e k = absurd (true≢false (sym (ap isOther k)))
+name-trimmed [] e k = absurd (false≢true (ap isOther k))
 name-trimmed (b ∷ n) e k =
     trim-padded isBlank 0 (8 - length (b ∷ n)) (code " ") b n refl (name-blank b (every-first isNameByte b n e))
     (last-none isNameByte isBlank name-blank (b ∷ n) e)
 
 -- a card by parts of it
 by-parts : (k c name raw : List ℕ) → c ≡ (k ++ ascii "= ") ++ raw → length k ≡ 8 → hasHigh c ≡ false
-    → trim isBlank k ≡ name
-    → classOf name ≡ K.Other → unplacedOf c ≡ ofValue false (textOf name) (valueOf raw)
+    → trim isBlank k ≡ name → classOf name ≡ K.Other → unplacedOf c ≡ ofValue false (textOf name) (valueOf raw)
 unfolding unplacedOf otherOf same
 by-parts k c name raw is long low trims other =
     let shape : c ≡ k ++ (ascii "= " ++ raw) = is ∙ append-assoc k (ascii "= ") raw in

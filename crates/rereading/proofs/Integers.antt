@@ -17,7 +17,7 @@ use Rattle.rereading.proofs.Digits.{Digital, digital-written, digital-r
 use Rattle.rereading.proofs.Digits.{figures-front, digital}
 
 -- an integer's sign and size
-abbrev pub isMinus : ℤ → Bool
+abbrev isMinus : ℤ → Bool
 isMinus (pos n) = false
 isMinus (negsuc n) = true
 
@@ -25,25 +25,15 @@ abbrev pub sizeOf : ℤ → ℕ
 sizeOf (pos n) = n
 sizeOf (negsuc n) = suc n
 
--- ---- a text of digits behind a minus or none
-module _ {s : List ℕ} (d : Digital s) (minus : Bool) where
-  unsigned-digits : unsigned (minusOf minus ++ s) ≡ s
-  unsigned-digits = go d
-    where
-      go : {s : List ℕ} → Digital s → unsigned (minusOf minus ++ s) ≡ s
-      go (digital {b} {s} h e) = unsigned-front b s h minus
+-- ---- digits behind a minus or none
+unsigned-digits : {s : List ℕ} → Digital s → (minus : Bool) → unsigned (minusOf minus ++ s) ≡ s
+unsigned-digits (digital {b} {s} h e) minus = unsigned-front b s h minus
 
-  negative-digits : isNegative (minusOf minus ++ s) ≡ minus
-  negative-digits = go d
-    where
-      go : {s : List ℕ} → Digital s → isNegative (minusOf minus ++ s) ≡ minus
-      go (digital {b} {s} h e) = negative-front b s h minus
+negative-digits : {s : List ℕ} → Digital s → (minus : Bool) → isNegative (minusOf minus ++ s) ≡ minus
+negative-digits (digital {b} {s} h e) minus = negative-front b s h minus
 
-  figures-digits : Figures (minusOf minus ++ s)
-  figures-digits = go d
-    where
-      go : {s : List ℕ} → Digital s → Figures (minusOf minus ++ s)
-      go (digital {b} {s} h e) = figures-front b s h minus (digital-names (digital h e))
+figures-digits : {s : List ℕ} → Digital s → (minus : Bool) → Figures (minusOf minus ++ s)
+figures-digits (digital {b} {s} h e) minus = figures-front b s h minus (digital-names (digital h e))
 
 -- ---- an integer's text: its sign and its digits
 signed-shape : (z : ℤ) → signedDigits z ≡ minusOf (isMinus z) ++ decimalDigits (sizeOf z)

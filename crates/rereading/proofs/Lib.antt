@@ -1,4 +1,4 @@
--- What is proved of written cards.
+-- What is proved of written cards: open `Soundness`, `Counting`, `Blocks` and `Headers` first.
 pub mod Lists
 pub mod Endings
 pub mod Names

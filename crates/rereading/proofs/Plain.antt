@@ -36,7 +36,7 @@ module _ (b : ℕ) (s : List ℕ) (e : every isNameByte (b ∷ s) ≡ true) (c :
   abbrev room : ℕ
   room = numberRoom - length (b ∷ s)
 
-  pub plain-printable : every isPrintable (plainText (b ∷ s) c) ≡ true
+  plain-printable : every isPrintable (plainText (b ∷ s) c) ≡ true
   unfolding justified
   plain-printable =
       every-append isPrintable (spaces room ++ (b ∷ s)) (tailOf c)
@@ -51,7 +51,7 @@ module _ (b : ℕ) (s : List ℕ) (e : every isNameByte (b ∷ s) ≡ true) (c :
       ∙ append-assoc (spaces room) ((b ∷ s) ++ tailOf c) (spaces m)
 
   -- the card of such a text, where its first byte says that it is read as v with text t
-  pub plain-role : (name : List ℕ) → isName name ≡ true → (v : Value) (t : List ℕ) → keepsComment v ≡ true
+  plain-role : (name : List ℕ) → isName name ≡ true → (v : Value) (t : List ℕ) → keepsComment v ≡ true
       → ((raw : List ℕ) → byStart (startOf b) (textOf (b ∷ s)) raw (isThere c) (textOf (bytesIn c))
       ≡ valueAs v (textOf t) (isThere c) (textOf (bytesIn c)))
       → roleOf (cardFrom (nameFront name) (plainText (b ∷ s) c)) ≡ entry name (heldFor v t c)
@@ -65,7 +65,7 @@ module _ (b : ℕ) (s : List ℕ) (e : every isNameByte (b ∷ s) ≡ true) (c :
       (by-halves raw (b ∷ s) c (split-names b s e room m c y) ∙ by-start raw b s (isThere c) (textOf (bytesIn c)) ∙ about raw))
 
 -- ---- logicals
-pub truth-names : (t : Bool) → every isNameByte (truthText t) ≡ true
+truth-names : (t : Bool) → every isNameByte (truthText t) ≡ true
 unfolding every isNameByte
 truth-names true = refl
 truth-names false = refl

@@ -29,7 +29,7 @@ use Rattle.rereading.proofs.Fronts.{left, card-read, continue-read, con
 use Rattle.rereading.proofs.Cutting.{Sound, piece-printable}
 
 -- a comment that was read
-pub comment-back : (c : Comment) → commentOf (isThere c) (bytesOf (textOf (bytesIn c))) ≡ c
+comment-back : (c : Comment) → commentOf (isThere c) (bytesOf (textOf (bytesIn c))) ≡ c
 comment-back none = refl
 comment-back (some c) = ap some (bytes-text c)
 
@@ -48,7 +48,7 @@ abbrev pub heldString : List ℕ → Comment → Held
 heldString s c = heldFor String s c
 
 -- a written card of a string is the entry of its name, its text and its comment
-pub string-role : (name : List ℕ) → isName name ≡ true → {p : Piece} → Sound p
+string-role : (name : List ℕ) → isName name ≡ true → {p : Piece} → Sound p
     → roleOf (cardFrom (nameFront name) (pieceText p)) ≡ entry name (heldString (p .text) (p .comment))
 string-role name e {p} h =
     let room = left (nameFront name) (pieceText p) in
@@ -67,7 +67,7 @@ halves-read : (s : List ℕ) (c : Comment) → readBy (halvesOf (within s) c) �
 halves-read s none = ap (λ (w : List ℕ). stringBy none (stringOf w)) (bytes-text (within s))
 halves-read s (some c) = ap (λ (w : List ℕ). stringBy (some c) (stringOf w)) (bytes-text (within s))
 
-pub continue-role : {p : Piece} → Sound p → roleOf (cardFrom continueFront (pieceText p)) ≡ more (p .text) (p .comment)
+continue-role : {p : Piece} → Sound p → roleOf (cardFrom continueFront (pieceText p)) ≡ more (p .text) (p .comment)
 unfolding continuationOf
 continue-role {p} h =
     let room = left continueFront (pieceText p) in

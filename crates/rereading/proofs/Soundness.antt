@@ -9,10 +9,8 @@ use Rattle.text.specs.Bytes.{isPrintable}
 use Rattle.numbers.specs.declared.Value.{Value}
 use Rattle.card.specs.declared.Card.{Card}
 use Rattle.card.specs.declared.CardAnswer.{CardAnswer}
-use Rattle.card.specs.declared.CardAnswer.the-variants.{Read}
 use Rattle.card.specs.Cards.{cardOf}
 use Rattle.roles.specs.Roles.{Comment, refused, roleBy, roleIn, roleOf}
-use Rattle.joining.specs.Lookup.{whole}
 use Rattle.joining.specs.Belonging.{Open, ended, idle, held, Effect, gives, nothing, stops, does}
 use Rattle.writing.specs.Pieces.{pieceText}
 use Rattle.writing.specs.Written.{nameFront, continueFront, plainText, writtenCards}
@@ -43,7 +41,7 @@ formed-printable {name} {c} good (string-cards {s} is remark short) =
 
 -- ---- a card that gives an entry is read
 abbrev IsRead : List ℕ → Type 0
-IsRead card = (x : Card) × (cardOf card .answer ≡ Read x)
+IsRead card = (x : Card) × (cardOf card .answer ≡ A.Read x)
 
 abbrev isGift : Effect → Bool
 isGift (gives e) = true
@@ -70,11 +68,12 @@ owned-read name q (c ∷ cs) (gives-one e d is o) = also (read-by q c (ap isGift
 pub each-is-sound : EachIsSound
 each-is-sound name v text c may p less =
     let cs = writtenCards v name text c in
-    let (reading, read) =
-    all-at IsRead [] (owned-read name idle cs (written-owned name (may .named) text c idle idle-goes v (may .allowed))) p less in
+    let formed = written-formed name (may .named) text c v (may .allowed) in
+    let owned = written-owned name (may .named) text c idle idle-goes v (may .allowed) in
+    let (reading, read) = all-at IsRead [] (owned-read name idle cs owned) p less in
     record {
       whole = all-at IsWhole [] (written-whole name (may .named) text c v (may .allowed)) p less;
-      printable = all-at Printable [] (formed-printable (may .named) (written-formed name (may .named) text c v (may .allowed))) p less;
+      printable = all-at Printable [] (formed-printable (may .named) formed) p less;
       reading = reading;
       read = read;
     }

@@ -30,7 +30,7 @@ use Rattle.rereading.proofs.Names.{name-blank, name-space}
 use Rattle.rereading.proofs.Scanning.{Passes, within, quoted-passes, names-pass}
 
 -- the states that a slash ends
-pub data Out : Quoting → Type 0 where
+data Out : Quoting → Type 0 where
   outside : Out Outside
   closed : Out Closed
 
@@ -50,7 +50,7 @@ pub remark-printable : (c : List ℕ) → isRemark c ≡ true → every isPrinta
 unfolding isRemark
 remark-printable c e = and-both (every isPrintable c) (not (endsWith (code " ") c)) e .0
 
-pub remark-end : (c : List ℕ) → isRemark c ≡ true → lastIs isSpace c ≡ false
+remark-end : (c : List ℕ) → isRemark c ≡ true → lastIs isSpace c ≡ false
 unfolding isRemark
 remark-end c e =
     sym (ends-space c)

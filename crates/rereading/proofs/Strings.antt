@@ -33,7 +33,7 @@ module _ (s : List ℕ) (e : isText s ≡ true) where
   short-end : (leb (length s) textLimit ≡ true) × (endsWell s ≡ true)
   short-end = and-both (leb (length s) textLimit) (endsWell s) (printable-rest .1)
 
-  pub string-printable : every isPrintable s ≡ true
+  string-printable : every isPrintable s ≡ true
   string-printable = printable-rest .0
 
   pub string-length : length s ≤ textLimit
