@@ -1,0 +1,25 @@
+-- What is proved of written cards: open `Soundness`, `Counting`, `Blocks` and `Headers` first.
+pub mod Lists
+pub mod Endings
+pub mod Names
+pub mod Scanning
+pub mod Splitting
+pub mod Valuing
+pub mod Fronts
+pub mod Cutting
+pub mod Roles
+pub mod Joining
+pub mod Strings
+pub mod Plain
+pub mod Digits
+pub mod Integers
+pub mod Decimals
+pub mod Forms
+pub mod Owning
+pub mod Continued
+pub mod Answering
+pub mod Lengths
+pub mod Counting
+pub mod Blocks
+pub mod Headers
+pub mod Soundness
