@@ -1,2 +1,3 @@
--- What is proved of the readings at the edges.
+-- What is proved of the readings and writings at the edges.
 pub mod Edges
+pub mod Writing

@@ -2,7 +2,7 @@
 use Prim.Native.Nat.{ℕ, zero, suc, _+_, _-_, _*_, _/_, _%_, _^_, _<_, _≤_}
 use native.Mathlib.Nat.{pow-suc}
 use native.Mathlib.Omega.{arith}
-use mathlib.Core.Path.{_≡_, refl, sym, ap, _∙_}
+use mathlib.Core.Path.{_≡_, refl, sym, ap, subst, _∙_}
 use mathlib.Core.Bool.{Bool, true, false, cond}
 use mathlib.Core.List.{List, [], _∷_, _++_}
 use borrow.Author.Tests.{lt-ltb, le-ltb, ltb-false}
@@ -74,6 +74,30 @@ few-digits n h = few-before (suc n) n 20 [] (omega arith) (omega arith)
 pub few-signed : (z : ℤ) → SFits w64 z → length (signedDigits z) ≤ 21
 few-signed (pos n) f = omega (arith, few-digits n (omega (arith, f .sfits)))
 few-signed (negsuc n) f = omega (arith, few-digits (suc n) (omega (arith, f .sfits)))
+
+-- so many digits are told in no more turns than the power
+few-turns : (at more n : ℕ) (v : List ℕ) → 1 ≤ at → n < 10 ^ at → n < more → digitsBefore more n v ≡ digitsBefore at n v
+unfolding digitsBefore
+few-turns zero more n v some room enough = absurd (omega arith)
+few-turns (suc at) zero n v some room enough = absurd (omega arith)
+few-turns (suc at) (suc more) n v some room enough =
+    go (ltb n 10) refl (λ h. few-turns at more (n / 10) (digitByte (n % 10) ∷ v) (h .0) (h .1 .0) (h .1 .1))
+  where
+    go : (t : Bool) → ltb n 10 ≡ t
+        → ((1 ≤ at) × ((n / 10 < 10 ^ at) × (n / 10 < more))
+        → digitsBefore more (n / 10) (digitByte (n % 10) ∷ v) ≡ digitsBefore at (n / 10) (digitByte (n % 10) ∷ v))
+        → cond t (digitByte n ∷ v) (digitsBefore more (n / 10) (digitByte (n % 10) ∷ v))
+        ≡ cond t (digitByte n ∷ v) (digitsBefore at (n / 10) (digitByte (n % 10) ∷ v))
+    go true e later = refl
+    go false e later =
+        let big = ltb-false n 10 e in
+        let r = room-less (suc at) n some big room in
+        let less : suc at - 1 ≡ at = omega arith in
+        later (omega arith, (subst (λ (k : ℕ). n / 10 < 10 ^ k) less (r .1), omega arith))
+
+pub digits-told : (at n : ℕ) → 1 ≤ at → n < 10 ^ at → decimalDigits n ≡ digitsBefore at n []
+unfolding decimalDigits
+digits-told at n some room = few-turns at (suc n) n [] some room (omega arith)
 
 -- bytes in front of a text that holds v
 pub text-before : {t : Text} (a v : List ℕ) → t ≡ textOf v → length a + length v ≤ size
