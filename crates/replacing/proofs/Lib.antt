@@ -2,3 +2,4 @@
 pub mod Walking
 pub mod Choosing
 pub mod Replaced
+pub mod Example

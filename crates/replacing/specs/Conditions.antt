@@ -4,10 +4,8 @@ use Prim.Native.Nat.{ℕ}
 use Prim.Native.Char.{code}
 use Prim.Native.String.{String}
 use mathlib.Core.Path.{_≡_, refl}
-use mathlib.Core.Bool.{Bool}
 use mathlib.Core.List.{List, [], _∷_, _++_, map}
 use mathlib.Core.Option.{none}
-use lib.IntN.{ℤ}
 use lib.ListN.{replicate, take}
 use Rattle.refusal.specs.Numbers.{numberOf}
 use Rattle.text.specs.Bytes.{ascii, isSpace, isBlank, isPrintable, shown}
@@ -19,7 +17,6 @@ use Rattle.text.specs.Text.{filled}
 use Rattle.splitting.specs.Scan.{after, scanFrom, byteClass}
 use Rattle.splitting.specs.Split.{splitOf}
 use Rattle.splitting.specs.Strings.{settledOf, opened, unopened, stringOf}
-use Rattle.numbers.specs.declared.Size.{Size}
 use Rattle.numbers.specs.declared.Value.{Value}
 use Rattle.numbers.specs.declared.Value.the-variants.{Integer, Float, Logical, String as Str, Undefined, Invalid}
 use Rattle.value.specs.Values.{startsNumber, startOf, ofString, valueWith, valueOf}
@@ -103,15 +100,18 @@ pub record Exchange : Type 0 where
 abbrev pub exchange : String → List String → Answer → List String → Answer → Exchange
 exchange name old was new is = record { name = name; old = old; was = was; new = new; is = is }
 
+-- a header, and the same with K's new cards, which meet all conditions
+abbrev pub goodOld : List String
+goodOld = "X       = 'b&'" ∷ "K       = 'a&'" ∷ "COMMENT in between" ∷ "K       = 'a&'" ∷ "END" ∷ []
+
+abbrev pub goodNew : List String
+goodNew = "X       = 'b&'" ∷ newFirst ∷ "COMMENT in between" ∷ newSecond ∷ "END" ∷ []
+
 abbrev pub exchanges : List Exchange
 exchanges =
     -- All conditions hold, with commentary between: X stays, and K reads back.
-    exchange "X"
-    ("X       = 'b&'" ∷ "K       = 'a&'" ∷ "COMMENT in between" ∷ "K       = 'a&'" ∷ "END" ∷ []) (text (ascii "b&"))
-    ("X       = 'b&'" ∷ newFirst ∷ "COMMENT in between" ∷ newSecond ∷ "END" ∷ []) (text (ascii "b&"))
-    ∷ exchange "K"
-    ("X       = 'b&'" ∷ "K       = 'a&'" ∷ "COMMENT in between" ∷ "K       = 'a&'" ∷ "END" ∷ []) (text (ascii "a&"))
-    ("X       = 'b&'" ∷ newFirst ∷ "COMMENT in between" ∷ newSecond ∷ "END" ∷ []) (text newCode)
+    exchange "X" goodOld (text (ascii "b&")) goodNew (text (ascii "b&"))
+    ∷ exchange "K" goodOld (text (ascii "a&")) goodNew (text newCode)
     -- `Together` is broken. A value card between: K's CONTINUE card is joined to X, and K is cut.
     ∷ exchange "X"
     ("K       = 'a&'" ∷ "X       = 'b&'" ∷ "K       = 'a&'" ∷ "END" ∷ []) (text (ascii "b&"))
