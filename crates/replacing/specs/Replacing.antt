@@ -32,7 +32,8 @@ pub record Replaces (k g h : List ℕ) (new : List (List ℕ)) : Type 0 where
 
 -- between two places of K stand only cards of K and commentary: no value, HIERARCH, XTENSION or CONTINUE card of another name or of none
 pub record Together (k g : List ℕ) : Type 0 where
-  pub between : (p q r : ℕ) → p < q → q < r → isOf k g p ≡ true → isOf k g r ≡ true → isOf k g q ≡ false → roleNo g q ≡ neutral
+  pub between : (p q r : ℕ) → p < q → q < r → isOf k g p ≡ true → isOf k g r ≡ true
+      → isOf k g q ≡ false → roleNo g q ≡ neutral
 
 -- what is certain then: the new header is accepted, the same places belong to K, every other name is answered as before with the same
 -- lent buffers, and K is answered as it was written
@@ -41,7 +42,8 @@ pub record IsReplaced (k : List ℕ) (v : Value) (text : List ℕ) (c : Comment)
   pub places : (p : ℕ) → isOf k g p ≡ isOf k h p
   pub others : (name : List ℕ) → (k ≡ name → ⊥)
       → (lent-text lent-comment : List ℕ) → lookupOf g name lent-text lent-comment ≡ lookupOf h name lent-text lent-comment
-  pub back : (lent-text lent-comment : List ℕ) → lookupOf h k lent-text lent-comment ≡ given (some (heldFor v text c)) lent-text lent-comment
+  pub back : (lent-text lent-comment : List ℕ)
+      → lookupOf h k lent-text lent-comment ≡ given (some (heldFor v text c)) lent-text lent-comment
 
 -- Where written cards take the places of the name's old ones, which stand together, demand 3 holds for every other name and the name
 -- reads back.
