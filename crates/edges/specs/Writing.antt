@@ -28,6 +28,7 @@ use Rattle.writing.specs.Pieces.{doubled, bytesFor, fitting, leftover, piecesFr
 use Rattle.writing.specs.Written.{nameFront, justified, writtenCards}
 use Rattle.writing.specs.Rules.{every, isNameByte, isName, isRemark, endsWell, isText, isSignificant, isWritable}
 use Rattle.writing.specs.Block.{flat, WriteOutcome, putCards, writeOf}
+use Rattle.edges.specs.Edges.{spacesTo}
 
 -- ---- what is asked, and what is left
 
@@ -79,18 +80,18 @@ refuses n name v text c room =
 
 -- a card by its text from byte 0 on
 abbrev pub cardOn : String → List ℕ
-cardOn t = filled (code " ") 80 (ascii t)
+cardOn t = spacesTo 80 (ascii t)
 
 -- n times x
 abbrev pub exes : ℕ → List ℕ
 exes n = replicate n (code "x")
 
 abbrev pub cardMade : String → List ℕ → String → List ℕ
-cardMade front middle end = filled (code " ") 80 (ascii front ++ middle ++ ascii end)
+cardMade front middle end = spacesTo 80 (ascii front ++ middle ++ ascii end)
 
 -- a finite decimal
-abbrev pub decimal : Bool → ℤ → Value
-decimal minus power = Float minus (Finite power)
+abbrev pub finite : Bool → ℤ → Value
+finite minus power = Float minus (Finite power)
 
 -- ---- the table
 
@@ -111,27 +112,27 @@ numberRows =
     writes "A-SEVEN8" (Integer (negsuc 6)) [] none (cardOn "A-SEVEN8=                   -7" ∷ [])
     ∷ writes "N" (Integer (pos 0)) [] none (cardOn "N       =                    0" ∷ [])
     -- decimals: plain, zero, minus zero, the least and the largest power
-    ∷ writes "D" (decimal false (pos 2)) (ascii "15") none (cardOn "D       =                 15E2" ∷ [])
-    ∷ writes "D" (decimal true (negsuc 0)) (ascii "15") none (cardOn "D       =               -15E-1" ∷ [])
-    ∷ writes "D" (decimal false (pos 0)) [] none (cardOn "D       =                  0E0" ∷ [])
-    ∷ writes "D" (decimal true (pos 0)) [] none (cardOn "D       =                 -0E0" ∷ [])
-    ∷ writes "D" (decimal false (negsuc 99998)) (ascii "1") none (cardOn "D       =             1E-99999" ∷ [])
-    ∷ refuses 20 "D" (decimal false (negsuc 99999)) (ascii "1") none 80
-    ∷ refuses 20 "D" (decimal false (pos 100000)) (ascii "1") none 80
+    ∷ writes "D" (finite false (pos 2)) (ascii "15") none (cardOn "D       =                 15E2" ∷ [])
+    ∷ writes "D" (finite true (negsuc 0)) (ascii "15") none (cardOn "D       =               -15E-1" ∷ [])
+    ∷ writes "D" (finite false (pos 0)) [] none (cardOn "D       =                  0E0" ∷ [])
+    ∷ writes "D" (finite true (pos 0)) [] none (cardOn "D       =                 -0E0" ∷ [])
+    ∷ writes "D" (finite false (negsuc 99998)) (ascii "1") none (cardOn "D       =             1E-99999" ∷ [])
+    ∷ refuses 20 "D" (finite false (negsuc 99999)) (ascii "1") none 80
+    ∷ refuses 20 "D" (finite false (pos 100000)) (ascii "1") none 80
     -- of 20 bytes and of 21
-    ∷ writes "D" (decimal false (pos 2)) (ascii "123456789012345678") (some []) (cardOn "D       = 123456789012345678E2 /" ∷ [])
-    ∷ writes "D" (decimal false (pos 2)) (ascii "1234567890123456789") (some []) (cardOn "D       = 1234567890123456789E2 /" ∷ [])
+    ∷ writes "D" (finite false (pos 2)) (ascii "123456789012345678") (some []) (cardOn "D       = 123456789012345678E2 /" ∷ [])
+    ∷ writes "D" (finite false (pos 2)) (ascii "1234567890123456789") (some []) (cardOn "D       = 1234567890123456789E2 /" ∷ [])
     -- of 70 bytes, which end at byte 79, and of 71
-    ∷ writes "D" (decimal false (pos 2)) (replicate 68 (code "7")) none (cardMade "D       = " (replicate 68 (code "7")) "E2" ∷ [])
-    ∷ refuses 20 "D" (decimal false (pos 2)) (replicate 69 (code "7")) none 80
+    ∷ writes "D" (finite false (pos 2)) (replicate 68 (code "7")) none (cardMade "D       = " (replicate 68 (code "7")) "E2" ∷ [])
+    ∷ refuses 20 "D" (finite false (pos 2)) (replicate 69 (code "7")) none 80
     -- of 68 bytes with an empty comment, and of 69
-    ∷ writes "D" (decimal false (pos 2)) (replicate 66 (code "7")) (some []) (cardMade "D       = " (replicate 66 (code "7")) "E2 /" ∷ [])
-    ∷ refuses 20 "D" (decimal false (pos 2)) (replicate 67 (code "7")) (some []) 80
+    ∷ writes "D" (finite false (pos 2)) (replicate 66 (code "7")) (some []) (cardMade "D       = " (replicate 66 (code "7")) "E2 /" ∷ [])
+    ∷ refuses 20 "D" (finite false (pos 2)) (replicate 67 (code "7")) (some []) 80
     -- records outside their form
-    ∷ refuses 20 "D" (decimal false (pos 0)) (ascii "10") none 80
-    ∷ refuses 20 "D" (decimal false (pos 0)) (ascii "01") none 80
-    ∷ refuses 20 "D" (decimal false (pos 0)) (ascii "1.5") none 80
-    ∷ refuses 20 "D" (decimal false (pos 1)) [] none 80
+    ∷ refuses 20 "D" (finite false (pos 0)) (ascii "10") none 80
+    ∷ refuses 20 "D" (finite false (pos 0)) (ascii "01") none 80
+    ∷ refuses 20 "D" (finite false (pos 0)) (ascii "1.5") none 80
+    ∷ refuses 20 "D" (finite false (pos 1)) [] none 80
     ∷ refuses 20 "D" (Float false Infinite) [] none 80
     ∷ refuses 20 "D" (Float true Nan) [] none 80
     ∷ refuses 20 "D" Undefined [] none 80

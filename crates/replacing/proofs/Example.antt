@@ -30,7 +30,7 @@ use Rattle.writing.specs.Rules.{every, isNameByte, isName, endsWell, isText, is
 use Rattle.demands.specs.Demands.{isOf}
 use Rattle.rereading.specs.ReadsBack.{MayWrite}
 use Rattle.replacing.specs.Replacing.{chosen, marksOf, Replaces, Together, IsReplaced}
-use Rattle.replacing.specs.Conditions.{headerBytes, newCode, goodOld, goodNew}
+use Rattle.replacing.specs.Conditions.{paddedHeader, newCode, goodOld, goodNew}
 use Rattle.replacing.proofs.Replaced.{replacing}
 
 -- the name
@@ -39,10 +39,10 @@ k = ascii "K"
 
 -- the header before and after
 abbrev g : List ℕ
-g = headerBytes goodOld
+g = paddedHeader goodOld
 
 abbrev h : List ℕ
-h = headerBytes goodNew
+h = paddedHeader goodNew
 
 -- K's places in both
 abbrev marks : List Bool

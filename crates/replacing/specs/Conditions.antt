@@ -35,12 +35,12 @@ use Rattle.writing.specs.Written.{nameFront, writtenCards}
 -- ---- headers and answers
 
 -- a card by its text from byte 0 on, and a header by the texts of its cards
-abbrev pub cardBytes : String → List ℕ
-cardBytes t = filled (code " ") 80 (ascii t)
+abbrev pub paddedCard : String → List ℕ
+paddedCard t = filled (code " ") 80 (ascii t)
 
-abbrev pub headerBytes : List String → List ℕ
-headerBytes [] = []
-headerBytes (t ∷ ts) = cardBytes t ++ headerBytes ts
+abbrev pub paddedHeader : List String → List ℕ
+paddedHeader [] = []
+paddedHeader (t ∷ ts) = paddedCard t ++ paddedHeader ts
 
 -- a string's text, a refusal's number, or another value
 pub data Answer : Type 0 where
@@ -48,25 +48,25 @@ pub data Answer : Type 0 where
   refusal : ℕ → Answer
   other : Answer
 
-abbrev pub byValue : Value → List ℕ → Answer
-byValue (Integer z) t = other
-byValue (Float minus size) t = other
-byValue (Logical b) t = other
-byValue Str t = text t
-byValue Undefined t = other
-byValue Invalid t = other
+abbrev pub valueAnswer : Value → List ℕ → Answer
+valueAnswer (Integer z) t = other
+valueAnswer (Float minus size) t = other
+valueAnswer (Logical b) t = other
+valueAnswer Str t = text t
+valueAnswer Undefined t = other
+valueAnswer Invalid t = other
 
-abbrev pub byLookup : LookupAnswer → List ℕ → Answer
-byLookup (L.Found v) t = byValue v t
-byLookup (L.Header stop) t = refusal (numberOf (stop .fault .why))
-byLookup (L.Refused fault) t = refusal (numberOf (fault .why))
+abbrev pub lookupAnswer : LookupAnswer → List ℕ → Answer
+lookupAnswer (L.Found v) t = valueAnswer v t
+lookupAnswer (L.Header stop) t = refusal (numberOf (stop .fault .why))
+lookupAnswer (L.Refused fault) t = refusal (numberOf (fault .why))
 
-abbrev pub ofLookup : LookupOutcome → Answer
-ofLookup o = byLookup (o .answer .answer) (take (o .answer .text) (o .text))
+abbrev pub answerOf : LookupOutcome → Answer
+answerOf o = lookupAnswer (o .answer .answer) (take (o .answer .text) (o .text))
 
 -- what the lookup answers a name
 abbrev pub asked : String → List String → Answer
-asked name h = ofLookup (lookupOf (headerBytes h) (ascii name) (replicate 80 0) (replicate 80 0))
+asked name h = answerOf (lookupOf (paddedHeader h) (ascii name) (replicate 80 0) (replicate 80 0))
 
 -- ---- the string and its two cards
 
@@ -79,7 +79,7 @@ newFirst = "K       = '123456789012345678901234567890123456789012345678901234567
 abbrev pub newSecond : String
 newSecond = "CONTINUE  '89'"
 
-pub new-cards : writtenCards Str (ascii "K") newCode none ≡ cardBytes newFirst ∷ cardBytes newSecond ∷ []
+pub new-cards : writtenCards Str (ascii "K") newCode none ≡ paddedCard newFirst ∷ paddedCard newSecond ∷ []
 unfolding filled doubled bytesFor fitting leftover piecesFrom nameFront
 new-cards = refl
 

@@ -18,7 +18,7 @@ use Rattle.writing.specs.Rules.{isName, isWritable}
 use Rattle.writing.specs.Block.{flat, WriteOutcome, notWritten, putCards, writeOf}
 use Rattle.writing.specs.declared.WriteAnswer.{WriteAnswer}
 use Rattle.writing.specs.declared.WriteAnswer.the-variants.{Cards, Refused}
-use Rattle.rereading.specs.ReadsBack.{Holds, BlockHolds}
+use Rattle.rereading.specs.ReadsBack.{AtFront, BlockHolds}
 use Rattle.rereading.proofs.Lists.{All, no-more, also}
 use Rattle.rereading.proofs.Lengths.{IsWhole, written-whole}
 use Rattle.refusal.specs.declared.Refusal.the-variants as R
@@ -78,7 +78,7 @@ block-holds name v text c block n e =
   where
     holds : isName name ≡ true → isWritable v text c ≡ true
         → leb (length (flat (writtenCards v name text c))) (length block) ≡ true → length (writtenCards v name text c) ≡ n
-        → Holds name v text c block (writeOf name v text c block .block) n
+        → AtFront name v text c block (writeOf name v text c block .block) n
     holds named allowed enough count =
         let cs = writtenCards v name text c in
         let w : All IsWhole cs = written-whole name named text c v allowed in

@@ -50,7 +50,7 @@ FewCards =
     → (1 ≤ length (writtenCards v name text c)) × (length (writtenCards v name text c) ≤ mostCards)
 
 -- where n cards are answered, they are those of what may be written; they stand at the front of the block, and what follows stays
-pub record Holds (name : List ℕ) (v : Value) (text : List ℕ) (c : Comment) (old new : List ℕ) (n : ℕ) : Type 0 where
+pub record AtFront (name : List ℕ) (v : Value) (text : List ℕ) (c : Comment) (old new : List ℕ) (n : ℕ) : Type 0 where
   pub may : MayWrite name v text c
   pub front : cardsIn n new ≡ writtenCards v name text c
   pub rest : drop (n * size) new ≡ drop (n * size) old
@@ -59,7 +59,7 @@ pub record Holds (name : List ℕ) (v : Value) (text : List ℕ) (c : Comment) (
 abbrev pub BlockHolds : Type 0
 BlockHolds =
     (name : List ℕ) (v : Value) (text : List ℕ) (c : Comment) (block : List ℕ) (n : ℕ)
-    → writeOf name v text c block .answer ≡ Cards n → Holds name v text c block (writeOf name v text c block .block) n
+    → writeOf name v text c block .answer ≡ Cards n → AtFront name v text c block (writeOf name v text c block .block) n
 
 -- ---- in a header
 
