@@ -2,7 +2,7 @@
 use Prim.Native.Nat.{ℕ}
 use mathlib.Core.Path.{_≡_, refl}
 use mathlib.Core.Bool.{Bool}
-use borrow.Author.Tests.{eq-eqb, ne-eqb}
+use borrow.Author.Tests.{ne-eqb}
 use lib.IntN.{ℤ}
 use Rattle.abi_value.specs.Telling.{valueTold}
 use Rattle.numbers.specs.declared.Size.the-variants.{Finite, Infinite, Nan}

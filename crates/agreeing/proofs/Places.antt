@@ -3,22 +3,16 @@ use Prim.Native.Nat.{ℕ, suc, _+_, _<_}
 use native.Mathlib.Nat.{zero-add}
 use native.Mathlib.Omega.{arith}
 use mathlib.Core.Path.{_≡_, refl, sym, ap, ap₂, _∙_}
-use mathlib.Core.Bool.{Bool, true, false, cond, _&&_, true≢false}
+use mathlib.Core.Bool.{Bool, true, false, cond, true≢false}
 use mathlib.Core.List.{List, [], _∷_, _++_}
-use borrow.Author.Tests.{eq-eqb}
 use lib.ListN.{length, getD, set, List·getD-append}
 use lib.Seq.{getD-set-same, getD-set-other, getD-at}
 use Rattle.text.specs.declared.Place.{Place}
 use Rattle.text.specs.declared.Place.the-variants.{At, Nowhere}
 use Rattle.text.specs.Same.{same}
+use Rattle.text.proofs.Comparing.{same-self, same-eq}
 use Rattle.roles.specs.Roles.{Role, neutral}
-use Rattle.joining.proofs.Names.{same-eq}
 use Rattle.listing.specs.Listing.{free, Table, nameOf, placeIn, putAgain, putNew}
-
-pub same-self : (s : List ℕ) → same s s ≡ true
-unfolding same
-same-self [] = refl
-same-self (a ∷ s) = ap₂ _&&_ (eq-eqb a a refl) (same-self s)
 
 -- the last entry at a place
 abbrev pub lastAt : Place → List ℕ → Place

@@ -11,13 +11,14 @@ use lib.Seq.{getD-at}
 use Rattle.text.specs.declared.Place.{Place}
 use Rattle.text.specs.declared.Place.the-variants.{At, Nowhere}
 use Rattle.text.specs.Same.{same}
+use Rattle.text.proofs.Comparing.{same-self}
 use Rattle.roles.specs.Roles.{Comment, Held, Role, entry, more, neutral, last}
 use Rattle.roles.proofs.Cards.{role-first}
 use Rattle.finding.specs.Finding.{lastFrom}
 use Rattle.entries.proofs.Looking.{drop-next}
 use Rattle.listing.specs.Listing.{free, Table, nameOf, putAgain, putNew, put, listFrom}
 use Rattle.agreeing.specs.Firsts.{isAmong, firstsFrom}
-use Rattle.agreeing.proofs.Places.{same-self, isPlace, orPlace, ifNamed, nameNo, placeOfName, lastInTable, place-put}
+use Rattle.agreeing.proofs.Places.{isPlace, orPlace, ifNamed, nameNo, placeOfName, lastInTable, place-put}
 use Rattle.agreeing.proofs.Places.{last-known, last-new}
 
 -- END stands at card k, and no card before it is END or refused

@@ -7,14 +7,13 @@ use lib.ListN.{length, take, drop, getD, replicate}
 use lib.Seq.{take-append-seam}
 use Rattle.text.specs.Same.{same}
 use Rattle.text.specs.Text.{filled}
+use Rattle.text.proofs.Comparing.{same-self, same-eq}
 use Rattle.roles.specs.Roles.{Role, entry, more, neutral, last, refused}
 use Rattle.joining.specs.Lookup.{isOpen, joined}
 use Rattle.joining.specs.Belonging.{Entry, Open, idle, held, Effect, gives, nothing, stops, leaves, effects, bears}
-use Rattle.joining.proofs.Names.{same-eq}
 use Rattle.entries.proofs.Looking.{drop-next}
 use Rattle.listing.specs.Listing.{nameOf}
 use Rattle.agreeing.specs.Firsts.{isAmong, firstsFrom}
-use Rattle.agreeing.proofs.Places.{same-self}
 use Rattle.demands.proofs.Ending.{toEnd, Twin, done, both, even}
 
 -- the front of an array that was filled up

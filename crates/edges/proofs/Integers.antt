@@ -1,9 +1,8 @@
 -- The largest and the least integer as they are written: their digits are told in 20 turns, and the rest computes.
 use Prim.Native.Nat.{ℕ}
-use Prim.Native.Char.{code}
 use native.Mathlib.Omega.{arith}
-use mathlib.Core.Path.{_≡_, refl, ap, _∙_}
-use mathlib.Core.Bool.{Bool, true, false, cond, _&&_}
+use mathlib.Core.Path.{ap}
+use mathlib.Core.Bool.{Bool, true, cond, _&&_}
 use mathlib.Core.List.{List, [], _∷_, _++_}
 use mathlib.Core.Option.{none}
 use lib.IntN.{pos, negsuc}
@@ -11,7 +10,7 @@ use Rattle.refusal.specs.declared.Refusal.the-variants as R
 use Rattle.text.specs.Bytes.{ascii, isDigit}
 use Rattle.text.specs.Same.{same}
 use Rattle.text.specs.Text.{filled}
-use Rattle.numerals.specs.Numerals.{digitsBefore, decimalDigits, minusOf}
+use Rattle.numerals.specs.Numerals.{digitsBefore, minusOf}
 use Rattle.numerals.proofs.Decimals.{digits-told}
 use Rattle.card.specs.Keywords.{classOf}
 use Rattle.writing.specs.Written.{nameFront, justified, plainCards}

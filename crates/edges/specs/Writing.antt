@@ -15,7 +15,6 @@ use Rattle.text.specs.Trim.{trimStart, consTrimmed, trimEnd, trim}
 use Rattle.text.specs.Same.{same}
 use Rattle.text.specs.Ends.{endsWith}
 use Rattle.text.specs.Text.{filled}
-use Rattle.numbers.specs.declared.Size.{Size}
 use Rattle.numbers.specs.declared.Size.the-variants.{Finite, Infinite, Nan}
 use Rattle.numbers.specs.declared.Value.{Value}
 use Rattle.numbers.specs.declared.Value.the-variants.{Integer, Float, Logical, String as Str, Undefined, Invalid}
@@ -27,7 +26,7 @@ use Rattle.writing.specs.declared.WriteAnswer.the-variants as W
 use Rattle.writing.specs.Pieces.{doubled, bytesFor, fitting, leftover, piecesFrom}
 use Rattle.writing.specs.Written.{nameFront, justified, writtenCards}
 use Rattle.writing.specs.Rules.{every, isNameByte, isName, isRemark, endsWell, isText, isSignificant, isWritable}
-use Rattle.writing.specs.Block.{flat, WriteOutcome, putCards, writeOf}
+use Rattle.writing.specs.Block.{flat, putCards, writeOf}
 use Rattle.edges.specs.Edges.{spacesTo}
 
 -- ---- what is asked, and what is left

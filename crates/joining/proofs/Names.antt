@@ -1,28 +1,14 @@
 -- Names, and what a name is answered when another name's cards are left out.
 use Prim.Native.Nat.{ℕ}
-use mathlib.Core.Path.{_≡_, refl, sym, ap₂, _∙_}
-use mathlib.Core.Bool.{Bool, true, false, cond, _&&_}
+use mathlib.Core.Path.{_≡_, refl, sym, _∙_}
+use mathlib.Core.Bool.{Bool, true, false, cond}
 use mathlib.Core.List.{List, [], _∷_}
 use mathlib.Core.Option.{Option, none, some}
-use lib.Dec.{eqb}
-use borrow.Author.Tests.{eqb-true}
-use Rattle.laws.proofs.Truths.{false≢true}
 use Rattle.text.specs.Same.{same}
+use Rattle.text.proofs.Comparing.{same-eq}
 use Rattle.roles.specs.Roles.{Held}
 use Rattle.joining.specs.Lookup.{orElse, ifSame}
 use Rattle.joining.specs.Belonging.{Effect, gives, nothing, stops, bears}
-
-pub same-eq : (s t : List ℕ) → same s t ≡ true → s ≡ t
-unfolding same
-same-eq [] [] e = refl
-same-eq [] (b ∷ t) e = absurd (false≢true e)
-same-eq (a ∷ s) [] e = absurd (false≢true e)
-same-eq (a ∷ s) (b ∷ t) e = go (eqb a b) refl e (same-eq s t)
-  where
-    go : (u : Bool) → eqb a b ≡ u → (u && same s t) ≡ true → (same s t ≡ true → s ≡ t)
-        → _≡_ {A = List ℕ} (a ∷ s) (b ∷ t)
-    go true d r h = ap₂ _∷_ (eqb-true a b d) (h r)
-    go false d r h = absurd (false≢true r)
 
 -- ---- what the effects of a header's cards answer a name: the last that bears it
 abbrev pub valueFor : List ℕ → Effect → Option Held

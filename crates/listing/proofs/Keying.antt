@@ -4,12 +4,11 @@ use native.Mathlib.Omega.{arith}
 use mathlib.Core.Path.{_≡_, refl, sym, ap, ap₂, _∙_}
 use mathlib.Core.Bool.{Bool, true, false}
 use mathlib.Core.List.{List, [], _∷_, _++_}
-use borrow.Author.Tests.{eq-eqb}
 use lib.ListN.{length, take, drop, getD, set, length-drop, take-append-drop, drop-of-length-le}
 use lib.Seq.{sets, drop-drop}
 use Rattle.text.specs.Same.{same}
 use Rattle.text.proofs.Trimming.{at-next}
-use Rattle.joining.proofs.Names.{same-eq}
+use Rattle.text.proofs.Comparing.{same-self, same-eq}
 use Rattle.listing.specs.Keys.{bytesOfWord, wordsOfKey, wordOf, firstWords, keyOf}
 use Rattle.listing.proofs.Lows.{Low, low-first, low-take, low-drop}
 
@@ -92,11 +91,6 @@ length-words (suc n) s = ap suc (length-words n (drop 9 s))
 
 pub length-key : (s : List ℕ) → length (keyOf s) ≡ wordsOfKey
 length-key s = length-words 9 s
-
-pub same-self : (s : List ℕ) → same s s ≡ true
-unfolding same
-same-self [] = refl
-same-self (a ∷ s) = rw (eq-eqb a a refl) (same-self s)
 
 pub same-key : (s t : List ℕ) → length s ≤ 80 → length t ≤ 80 → Low s → Low t → same (keyOf s) (keyOf t) ≡ same s t
 same-key s t h k p q = go (same (keyOf s) (keyOf t)) refl (same s t) refl

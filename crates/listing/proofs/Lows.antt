@@ -18,6 +18,7 @@ use Rattle.text.specs.Same.{same}
 use Rattle.text.specs.Place.{placeOf}
 use Rattle.text.specs.Text.{textOf}
 use Rattle.text.proofs.Texts.{bytes-text}
+use Rattle.text.proofs.Comparing.{same-eq}
 use Rattle.value.specs.declared.ValueAnswer.{ValueAnswer}
 use Rattle.value.specs.declared.ValueAnswer.the-variants.{Read as Read-value, Refused as Refused-value}
 use Rattle.value.specs.declared.ValueRead.{ValueRead}
@@ -28,7 +29,6 @@ use Rattle.card.specs.Keywords.{firstHigh, hasHigh, keywordOf, classOf, onto, n
 use Rattle.card.specs.Cards.{cardRefused, ofAnswer, named, byEquals, hierarchOf, byClass, unplacedOf}
 use Rattle.roles.specs.Roles.{Held, Role, entry, more, neutral, last, refused, roleRead, roleOf}
 use Rattle.roles.proofs.Placing.{entry-unplaced}
-use Rattle.joining.proofs.Names.{same-eq}
 use Rattle.listing.proofs.Keyed.{entry-keyword}
 
 -- no byte of a text is high

@@ -11,10 +11,9 @@ use lib.ListN.{length, take, drop, getD, set, replicate, length-take, length-dro
 use lib.Seq.{sets, sets-eq, length-sets, drop-set-add, take-set-le, drop-at, take-at, length-take-le}
 use Rattle.text.specs.declared.Place.the-variants.{At, Nowhere}
 use Rattle.text.specs.Same.{same}
-use Rattle.joining.proofs.Names.{same-eq}
+use Rattle.text.proofs.Comparing.{same-self, same-eq}
 use Rattle.listing.specs.Listing.{places}
 use Rattle.listing.specs.Keys.{wordsOfKey, isBefore, rowAt, rowIn, keyPlace, Numbered, Ordered, Parted, Slid}
-use Rattle.listing.proofs.Keying.{same-self}
 use Rattle.listing.proofs.Ordering.{before-self, before-total}
 
 -- ---- a key stored behind others

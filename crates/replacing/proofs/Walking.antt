@@ -5,6 +5,7 @@ use mathlib.Core.Bool.{true, false, true≢false}
 use mathlib.Core.List.{List, [], _∷_, _++_}
 use mathlib.Core.Option.{none}
 use Rattle.text.specs.Same.{same}
+use Rattle.text.proofs.Comparing.{same-self}
 use Rattle.roles.specs.Roles.{Comment, Held, Role, entry, more, neutral, last, refused}
 use Rattle.joining.specs.Lookup.{lookup}
 use Rattle.joining.specs.Belonging.{Entry, Open, ended, idle, held, Effect, gives, nothing, does, leaves, effects, bears}
@@ -12,7 +13,6 @@ use Rattle.joining.proofs.Names.{others, answer, answer-gone}
 use Rattle.joining.proofs.Answers.{by-effects}
 use Rattle.joining.proofs.Owning.{Own, free, own}
 use Rattle.finding.specs.Finding.{headerFrom}
-use Rattle.listing.proofs.Keying.{same-self}
 use Rattle.demands.proofs.Ending.{belongs-after}
 use Rattle.rereading.specs.ReadsBack.{spoken, goesOn}
 use Rattle.rereading.proofs.Headers.{lookup-spoken}

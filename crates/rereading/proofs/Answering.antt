@@ -8,6 +8,7 @@ use mathlib.Core.Option.{none, some}
 use lib.ListN.{length}
 use Rattle.text.specs.Bytes.{ascii, isSpace}
 use Rattle.text.specs.Ends.{endsWith}
+use Rattle.text.proofs.Comparing.{same-self}
 use Rattle.numbers.specs.declared.Value.{Value}
 use Rattle.numbers.specs.declared.Value.the-variants.{String}
 use Rattle.roles.specs.Roles.{Comment, Words, Held, Role, entry, roleOf}
@@ -15,7 +16,6 @@ use Rattle.joining.specs.Words.{endsOpen, opens}
 use Rattle.joining.specs.Lookup.{joinOn, isOpen, whole, lookup}
 use Rattle.joining.specs.Belonging.{Open, ended}
 use Rattle.joining.proofs.Answers.{joinOn-shut}
-use Rattle.listing.proofs.Keying.{same-self}
 use Rattle.writing.specs.Pieces.{Piece, piecesOf}
 use Rattle.writing.specs.Written.{writtenCards, heldFor}
 use Rattle.writing.specs.Rules.{isName, isWritable}

@@ -13,6 +13,7 @@ use Rattle.text.specs.Bytes.{ascii, isDigit, isZero}
 use Rattle.text.specs.Trim.{trimStart, trimEnd, trim, leading}
 use Rattle.text.specs.Same.{same}
 use Rattle.text.proofs.Trimming.{shorter}
+use Rattle.text.proofs.Comparing.{same-eq}
 use Rattle.numbers.specs.declared.Number.{Number}
 use Rattle.numbers.specs.declared.Size.the-variants.{Finite}
 use Rattle.numbers.specs.Signs.{isNegative, unsigned}
@@ -23,7 +24,6 @@ use Rattle.numbers.specs.Decimals.{fractionOf, afterFraction, isMark, maxExpone
 use Rattle.numbers.specs.Decimals.{finiteOf, lowered, isWord, decimalOf}
 use Rattle.numbers.specs.Numbers.{readNumber}
 use Rattle.numerals.specs.Numerals.{digitsBefore, decimalDigits, minusOf, signedDigits}
-use Rattle.joining.proofs.Names.{same-eq}
 use Rattle.writing.specs.Written.{decimalText}
 use Rattle.writing.specs.Rules.{every, isNameByte, isSignificant, isPower}
 use Rattle.rereading.proofs.Endings.{every-first, every-rest, every-append, every-weaker}

@@ -6,10 +6,10 @@ use mathlib.Core.Bool.{true, false}
 use mathlib.Core.List.{List, [], _∷_, _++_}
 use lib.ListN.{length, drop, getD}
 use Rattle.text.specs.Same.{same}
+use Rattle.text.proofs.Comparing.{same-self}
 use Rattle.roles.specs.Roles.{Held, Role, entry}
 use Rattle.joining.specs.Lookup.{isOpen}
 use Rattle.joining.specs.Belonging.{Entry, Open, ended, idle, held, Effect, gives, nothing, does, leaves, effects, bears}
-use Rattle.listing.proofs.Keying.{same-self}
 
 -- what roles do where q stands open: each gives an entry of the name, and nothing is open behind them
 pub data Owns (name : List ℕ) : Open → List Role → Type 0 where

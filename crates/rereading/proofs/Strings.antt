@@ -14,9 +14,9 @@ use Rattle.laws.proofs.Truths.{and-both}
 use Rattle.text.specs.Bytes.{ascii, isSpace, isPrintable}
 use Rattle.text.specs.Same.{same}
 use Rattle.text.specs.Ends.{endsWith}
+use Rattle.text.proofs.Comparing.{same-eq}
 use Rattle.roles.specs.Roles.{Comment}
 use Rattle.joining.specs.Words.{endsOpen}
-use Rattle.joining.proofs.Names.{same-eq}
 use Rattle.writing.specs.Pieces.{doubled, textRoom, lastPiece, piecesFrom, piecesOf}
 use Rattle.writing.specs.Rules.{every, isComment, isShort, textLimit, remarkLimit, endsWell, isText}
 use Rattle.rereading.proofs.Lists.{All, no-more, also}

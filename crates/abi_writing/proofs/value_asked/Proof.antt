@@ -1,5 +1,5 @@
 -- `abi_writing::value_asked` meets its contract, kind by kind.
-use mathlib.Core.Path.{_≡_, refl, ap, _∙_}
+use mathlib.Core.Path.{ap, _∙_}
 use lib.IntN.{ℤ}
 use mir.Facts.{toZ-ofZ}
 use Rattle.numbers.specs.declared.Size.the-variants.{Finite}

@@ -1,6 +1,6 @@
 -- `abi_writing::write_into` meets its contract: by the answer that an arm knows.
 use Prim.Native.Nat.{ℕ}
-use mathlib.Core.Path.{_≡_, sym, ap, _∙_}
+use mathlib.Core.Path.{_≡_, ap, _∙_}
 use mathlib.Core.Bool.{Bool}
 use mathlib.Core.List.{List}
 use Rattle.numbers.specs.declared.Value.{Value}
