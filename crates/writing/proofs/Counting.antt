@@ -8,13 +8,13 @@ use mathlib.Core.List.{List, [], _∷_, _++_, append-assoc, append-nil}
 use mathlib.Core.Option.{none}
 use borrow.Author.Tests.{le-leb, lt-leb, leb-true}
 use lib.Dec.{leb}
-use lib.ListN.{length, length-append}
+use lib.ListN.{length, drop, length-append, length-drop}
 use Rattle.text.specs.Bytes.{ascii}
 use Rattle.roles.specs.Roles.{Comment}
 use Rattle.writing.specs.Pieces.{doubled, quoted, tailOf, fitting, leftover, Piece, pieceText, openRoom}
 use Rattle.writing.specs.Pieces.{fits, lastPiece, openPiece, piecesFrom, piecesOf}
 use Rattle.writing.specs.Passes.{inQuotes, closedBy}
-use Rattle.writing.proofs.Cutting.{doubled-next, fitting-bytes, leftover-less}
+use Rattle.writing.proofs.Cutting.{doubled-next, fitting-bytes, fitting-within, fitting-some, drop-next, leftover-less}
 
 -- ---- a piece as it is put
 
@@ -50,6 +50,18 @@ open-fits s =
     omega (arith, ap length (open-text s), length-append (doubled t) (ascii "&'"), fitting-bytes openRoom s)
 
 -- ---- the pieces
+
+-- the open piece from place i on: it takes a character, and the others stand behind it
+pub record Opened (c : Comment) (s : List ℕ) (i : ℕ) : Type 0 where
+  pub some : 1 ≤ length (fitting openRoom (drop i s))
+  pub within : i + length (fitting openRoom (drop i s)) ≤ length s
+  pub pieces : piecesOf (drop i s) c ≡ openPiece (drop i s) ∷ piecesOf (drop (i + length (fitting openRoom (drop i s))) s) c
+
+-- n cards up to the one that begins at place i
+pub record Counted (c : Comment) (s : List ℕ) (i n : ℕ) : Type 0 where
+  pub within : i ≤ length s
+  pub few : n ≤ i + 1
+  pub count : n + length (piecesOf (drop i s) c) ≡ 1 + length (piecesOf s c)
 
 module _ (c : Comment) (short : length (tailOf c) ≤ 67) where
   -- the rest fits where it has room
@@ -118,3 +130,23 @@ module _ (c : Comment) (short : length (tailOf c) ≤ 67) where
       go : (u : Bool) → fits (lastPiece s c) ≡ u → u ≡ false
       go true e = absurd (omega (arith, ap length (pieces-last s e)))
       go false e = refl
+
+  pub opened : (s : List ℕ) (i : ℕ) → i ≤ length s → fits (lastPiece (drop i s) c) ≡ false → Opened c s i
+  opened s i h e =
+      let rest = drop i s in
+      let empty : length rest ≡ 0 → ⊥ = λ n. true≢false (sym (none-fits rest (omega (arith, n))) ∙ e) in
+      record {
+        some = fitting-some openRoom rest (omega arith) empty;
+        within = omega (arith, fitting-within openRoom rest, length-drop i s);
+        pieces = pieces-open rest e
+            ∙ sym (ap (λ (l : List ℕ). openPiece rest ∷ piecesOf l c) (drop-next openRoom s i));
+      }
+
+  pub counts : (s : List ℕ) → Counted c s 0 1
+  counts s = record { within = omega arith; few = omega arith; count = refl }
+
+  pub counts-on : {s : List ℕ} {i n : ℕ} → Counted c s i n → Opened c s i → Counted c s (i + length (fitting openRoom (drop i s))) (n + 1)
+  counts-on k o = record { within = o .within; few = omega arith; count = omega (arith, ap length (o .pieces), k .count) }
+
+  pub counted : {s : List ℕ} {i n : ℕ} → Counted c s i n → fits (lastPiece (drop i s) c) ≡ true → n ≡ length (piecesOf s c)
+  counted {s} {i} k e = omega (arith, ap length (pieces-last (drop i s) e), k .count)

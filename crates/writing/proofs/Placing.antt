@@ -6,17 +6,17 @@ use native.Mathlib.Numerals.{add-one}
 use native.Mathlib.Omega.{arith}
 use mathlib.Core.Path.{_≡_, refl, sym, ap, ap₂, _∙_}
 use mathlib.Core.Bool.{Bool, true, false, true≢false}
-use mathlib.Core.List.{List, [], _∷_, _++_}
+use mathlib.Core.List.{List, [], _∷_, _++_, append-assoc}
 use lib.ListN.{length, set, replicate, length-append, length-replicate, length-set}
 use lib.Seq.{sets, length-sets}
 use Rattle.laws.proofs.Truths.{false≢true}
 use Rattle.text.specs.Bytes.{ascii}
 use Rattle.text.specs.Text.{filled}
 use Rattle.text.proofs.Laying.{sets-append}
-use Rattle.roles.specs.Roles.{commentOf}
-use Rattle.writing.specs.Pieces.{tailOf}
+use Rattle.roles.specs.Roles.{Comment, commentOf}
+use Rattle.writing.specs.Pieces.{doubled, tailOf}
 use Rattle.writing.specs.Written.{nameFront}
-use Rattle.writing.specs.Passes.{spaces, spaced}
+use Rattle.writing.specs.Passes.{spaces, spaced, closedBy, bodyOf}
 
 -- a list stored behind another, which ends at a place
 pub sets-then : (d : List ℕ) (at : ℕ) {d₁ d₂ : List ℕ} {k : ℕ} (a b : List ℕ) → d₁ ≡ sets d at a → k ≡ at + length a → d₂ ≡ sets d₁ k b
@@ -83,3 +83,24 @@ same-sets d at a e = ap length e ∙ length-sets d at a
 
 pub same-set-twice : (d : List ℕ) (i j x y : ℕ) → length (set (set d i x) j y) ≡ length d
 same-set-twice d i j x y = simp length-set
+
+-- a quote, characters, what closes them, a comment and spaces
+pub piece-put : (d : List ℕ) (at : ℕ) (t close : List ℕ) (c : Comment) {d₁ d₂ d₃ : List ℕ} {end : ℕ}
+    → d₁ ≡ sets (set d at (code "'")) (at + 1) (doubled t) → end ≡ at + 1 + length (doubled t) → d₂ ≡ sets d₁ end close
+    → d₃ ≡ sets d₂ (end + length close) (spaced (at + 70 - (end + length close)) (tailOf c))
+    → d₃ ≡ sets d at (bodyOf (closedBy close t c))
+unfolding filled
+piece-put d at t close c {d₁} {d₂} {d₃} {end} e place f g =
+    let quote : List ℕ = code "'" ∷ [] in
+    let w = doubled t in
+    let k = at + 70 - (end + length close) in
+    let first : d₁ ≡ sets d at (quote ++ w) = sets-then d at quote w refl refl e in
+    let second : d₂ ≡ sets d at ((quote ++ w) ++ close) = sets-then d at (quote ++ w) close first (omega arith) f in
+    let there : end + length close ≡ at + length ((quote ++ w) ++ close) = omega (arith, length-append (quote ++ w) close) in
+    let long : length (code "'" ∷ (w ++ (close ++ tailOf c))) ≡ 1 + length w + length close + length (tailOf c) =
+    omega (arith, length-append w (close ++ tailOf c), length-append close (tailOf c)) in
+    let room : k - length (tailOf c) ≡ 70 - length (code "'" ∷ (w ++ (close ++ tailOf c))) = omega (arith, long) in
+    let regroup : ((quote ++ w) ++ close) ++ (tailOf c ++ spaces (k - length (tailOf c)))
+    ≡ (quote ++ (w ++ (close ++ tailOf c))) ++ spaces (k - length (tailOf c)) = simp append-assoc in
+    sets-then d at ((quote ++ w) ++ close) (spaced k (tailOf c)) second there g
+    ∙ ap (sets d at) (regroup ∙ ap (λ (n : ℕ). (quote ++ (w ++ (close ++ tailOf c))) ++ spaces n) room)

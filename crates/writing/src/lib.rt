@@ -8,8 +8,8 @@ ghost use lib.ListN.{length, getD, take};
 ghost use lib.Seq.{sets};
 ghost use Rattle.text.specs.Text.{size, textOf, bytesOf};
 ghost use Rattle.roles.specs.Roles.{commentOf};
-ghost use Rattle.writing.specs.Pieces.{doubled, tailOf, bytesFor, fitting, textRoom, piecesOf};
-ghost use Rattle.writing.specs.Written.{nameFront, truthText, decimalText, plainCards, stringCards, writtenCards};
+ghost use Rattle.writing.specs.Pieces.{doubled, tailOf, bytesFor, fitting, pieceText, textRoom, openRoom, fits, lastPiece, openPiece, piecesOf};
+ghost use Rattle.writing.specs.Written.{nameFront, continueFront, truthText, decimalText, plainCards, stringCards, writtenCards};
 ghost use Rattle.writing.specs.Rules.{every, isNameByte, isOther, isName, isRemark, isComment, isShort, endsWell, isText};
 ghost use Rattle.writing.specs.Rules.{isSignificant, isPower, fitsCard, isValue, remarkLimit};
 ghost use Rattle.writing.specs.Block.{writeOf};
@@ -395,6 +395,28 @@ fn put_piece(
     put.taken
 }
 
+// The open card of a string from byte 10 on, and the front of the card behind it. Answers how many characters it took.
+fn put_open(s: &[u8], block: &mut [u8], at: usize) -> usize
+    requires { ⌜ at + 80 ≤ length (now block) ⌝ }
+    ensures { λ r. ⌜ r ≡ length (fitting openRoom (now (s .entry))) ⌝ }
+    ensures { λ _. ⌜ now (block .exit)
+        ≡ sets (now (block .entry)) at (bodyOf (pieceText (openPiece (now (s .entry)))) ++ continueFront) ⌝ }
+{
+    let taken = put_piece(s, OPEN_ROOM, b"&'", false, b"", block, at);
+    text::put_at(b"CONTINUE  ", block, at + TEXT_ROOM);
+    taken
+}
+
+// The last card of a string from byte 10 on.
+fn put_last(s: &[u8], commented: bool, comment: &[u8], block: &mut [u8], at: usize)
+    requires { ⌜ (fits (lastPiece (now s) (commentOf commented (now comment))) ≡ true) × (at + 70 ≤ length (now block)) ⌝ }
+    ensures { λ _. ⌜ now (block .exit)
+        ≡ sets (now (block .entry)) at (bodyOf (pieceText (lastPiece (now (s .entry)) (commentOf commented (now (comment .entry)))))) ⌝ }
+{
+    let room = QUOTED_ROOM - tail_length(commented, comment);
+    put_piece(s, room, b"'", commented, comment, block, at);
+}
+
 // The n cards of a string from byte 10 of the first one on.
 fn put_pieces(s: &[u8], n: usize, commented: bool, comment: &[u8], block: &mut [u8])
     requires { ⌜ (length (tailOf (commentOf commented (now comment))) ≤ 67)
@@ -402,23 +424,13 @@ fn put_pieces(s: &[u8], n: usize, commented: bool, comment: &[u8], block: &mut [
     ensures { λ _. ⌜ now (block .exit)
         ≡ sets (now (block .entry)) 10 (bodiesOf (piecesOf (now (s .entry)) (commentOf commented (now (comment .entry))))) ⌝ }
 {
-    let room = QUOTED_ROOM - tail_length(commented, comment);
     let mut i = 0;
     let mut at = FRONT;
     let mut left = n;
     while 1 < left {
-        i += put_piece(text::rest_of(s, i), OPEN_ROOM, b"&'", false, b"", block, at);
-        text::put_at(b"CONTINUE  ", block, at + TEXT_ROOM);
+        i += put_open(text::rest_of(s, i), block, at);
         at += CARD;
         left -= 1;
     }
-    put_piece(
-        text::rest_of(s, i),
-        room,
-        b"'",
-        commented,
-        comment,
-        block,
-        at,
-    );
+    put_last(text::rest_of(s, i), commented, comment, block, at);
 }
