@@ -44,7 +44,7 @@ open-text s =
     ∙ ap (λ (l : List ℕ). code "'" ∷ (l ++ ascii "'")) (doubled-open t)
     ∙ ap (λ (l : List ℕ). code "'" ∷ l) (append-assoc (doubled t) (ascii "&") (ascii "'"))
 
-open-fits : (s : List ℕ) → length (pieceText (openPiece s)) ≤ 70
+pub open-fits : (s : List ℕ) → length (pieceText (openPiece s)) ≤ 70
 open-fits s =
     let t = fitting openRoom s in
     omega (arith, ap length (open-text s), length-append (doubled t) (ascii "&'"), fitting-bytes openRoom s)
@@ -71,12 +71,12 @@ module _ (c : Comment) (short : length (tailOf c) ≤ 67) where
   pub rest-over : (s : List ℕ) → 68 - length (tailOf c) < length (doubled s) → fits (lastPiece s c) ≡ false
   rest-over s h = lt-leb (length (pieceText (lastPiece s c))) 70 (omega (arith, last-length s c))
 
-  none-fits : (s : List ℕ) → length s ≤ 0 → fits (lastPiece s c) ≡ true
+  pub none-fits : (s : List ℕ) → length s ≤ 0 → fits (lastPiece s c) ≡ true
   unfolding doubled
   none-fits [] h = rest-fits [] (omega arith)
   none-fits (b ∷ s) h = absurd (omega arith)
 
-  rest-less : (s : List ℕ) → length (leftover openRoom s) ≤ length s - 1
+  pub rest-less : (s : List ℕ) → length (leftover openRoom s) ≤ length s - 1
   unfolding leftover
   rest-less [] = omega arith
   rest-less (b ∷ s) = omega (arith, leftover-less openRoom (b ∷ s) (omega arith) (λ h. omega (arith, h)))

@@ -3,3 +3,4 @@ pub mod Testing
 pub mod Cutting
 pub mod Placing
 pub mod Counting
+pub mod Bodies

@@ -4,9 +4,11 @@ use Prim.Native.Char.{code}
 use mathlib.Core.Bool.{Bool, cond, _&&_}
 use mathlib.Core.List.{List, [], _∷_, _++_, map}
 use lib.Dec.{eqb, leb}
+use lib.IntN.{ℤ}
 use lib.ListN.{replicate}
-use Rattle.text.specs.Bytes.{isPrintable, isDigit}
+use Rattle.text.specs.Bytes.{ascii, isPrintable, isDigit}
 use Rattle.text.specs.Text.{filled}
+use Rattle.numerals.specs.Numerals.{powerText}
 use Rattle.roles.specs.Roles.{Comment}
 use Rattle.refusal.specs.declared.Refusal.the-variants.{UnwritableValue}
 use Rattle.writing.specs.declared.Allowed.{Allowed}
@@ -51,6 +53,11 @@ bodyOf t = spaced textRoom t
 abbrev pub bodiesOf : List Piece → List ℕ
 bodiesOf [] = []
 bodiesOf (p ∷ ps) = bodyOf (pieceText p) ++ flat (map (λ (q : Piece). cardFrom continueFront (pieceText q)) ps)
+
+-- what stands behind the digits of a decimal
+abbrev pub scaleOf : List ℕ → ℤ → List ℕ
+scaleOf [] power = ascii "0E0"
+scaleOf (b ∷ d) power = powerText (code "E") power
 
 -- an answer with the block that it leaves
 abbrev pub writeOutcome : WriteAnswer → List ℕ → WriteOutcome

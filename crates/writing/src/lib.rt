@@ -3,17 +3,22 @@ ghost use mathlib.Core.Path.{_≡_};
 ghost use mathlib.Core.Bool.{true, _&&_};
 ghost use mathlib.Core.List.{_∷_, _++_};
 ghost use Prim.Native.Nat.{_+_, _-_, _*_, _≤_};
-ghost use lib.Dec.{ltb};
+ghost use lib.Dec.{leb, ltb};
 ghost use lib.ListN.{length, getD, take};
 ghost use lib.Seq.{sets};
 ghost use Rattle.text.specs.Text.{size, textOf, bytesOf};
+ghost use Rattle.refusal.specs.Numbers.{faultOf};
+ghost use Rattle.numbers.specs.declared.Size.the-variants.{Finite};
+ghost use Rattle.numbers.specs.declared.Value.the-variants.{Float};
+ghost use Rattle.numerals.specs.Numerals.{minusOf};
 ghost use Rattle.roles.specs.Roles.{commentOf};
+ghost use Rattle.writing.specs.declared.WriteAnswer.the-variants.{Refused};
 ghost use Rattle.writing.specs.Pieces.{doubled, tailOf, bytesFor, fitting, pieceText, textRoom, openRoom, fits, lastPiece, openPiece, piecesOf};
-ghost use Rattle.writing.specs.Written.{nameFront, continueFront, truthText, decimalText, plainCards, stringCards, writtenCards};
+ghost use Rattle.writing.specs.Written.{nameFront, continueFront, truthText, decimalText, numberRoom, plainText, plainCards, stringCards, writtenCards};
 ghost use Rattle.writing.specs.Rules.{every, isNameByte, isOther, isName, isRemark, isComment, isShort, endsWell, isText};
 ghost use Rattle.writing.specs.Rules.{isSignificant, isPower, fitsCard, isValue, remarkLimit};
 ghost use Rattle.writing.specs.Block.{writeOf};
-ghost use Rattle.writing.specs.Passes.{allowedOf, isCapital, spaces, spaced, inQuotes, closedBy, bodyOf, bodiesOf, writeOutcome, putWhere};
+ghost use Rattle.writing.specs.Passes.{allowedOf, isCapital, spaces, spaced, inQuotes, closedBy, bodyOf, bodiesOf, scaleOf, writeOutcome, putWhere};
 use card::Class;
 use numbers::Size;
 use numbers::Value;
@@ -68,6 +73,55 @@ const TEXT_LIMIT: usize = 2000;
 const REMARK_LIMIT: usize = 65;
 
 const MAX_POWER: i64 = 99_999;
+
+// Writes the cards of a name and its value at the front of a lent block, with a comment where `commented` says so. A decimal's digits
+// or a string's text stands in `text`. What follows the cards in the block stays; a refusal leaves all of it.
+pub fn write(
+    name: &[u8],
+    value: Value,
+    text: &[u8],
+    commented: bool,
+    comment: &[u8],
+    block: &mut [u8],
+) -> WriteAnswer
+    ensures { λ r. ⌜ r ≡ writeOf (now (name .entry)) value (now (text .entry))
+        (commentOf commented (now (comment .entry))) (now (block .entry)) .answer ⌝ }
+    ensures { λ _. ⌜ now (block .exit) ≡ writeOf (now (name .entry)) value (now (text .entry))
+        (commentOf commented (now (comment .entry))) (now (block .entry)) .block ⌝ }
+{
+    if !is_name(name) {
+        return refused(Refusal::UnwritableName);
+    }
+    if !is_comment(commented, comment) {
+        return refused(Refusal::UnwritableValue);
+    }
+    match value {
+        Value::Integer(z) => write_plain(
+            name,
+            numerals::integer_text(z),
+            commented,
+            comment,
+            block,
+        ),
+        Value::Float { minus, size } => match size {
+            Size::Finite(power) => write_decimal(
+                name,
+                minus,
+                text,
+                power,
+                commented,
+                comment,
+                block,
+            ),
+            Size::Infinite => refused(Refusal::UnwritableValue),
+            Size::Nan => refused(Refusal::UnwritableValue),
+        },
+        Value::Logical(t) => write_plain(name, truth_text(t), commented, comment, block),
+        Value::String => write_string(name, text, commented, comment, block),
+        Value::Undefined => refused(Refusal::UnwritableValue),
+        Value::Invalid => refused(Refusal::UnwritableValue),
+    }
+}
 
 // ---- what may be written
 
@@ -433,4 +487,175 @@ fn put_pieces(s: &[u8], n: usize, commented: bool, comment: &[u8], block: &mut [
         left -= 1;
     }
     put_last(text::rest_of(s, i), commented, comment, block, at);
+}
+
+// ---- logicals and numbers
+
+// T or F.
+fn truth_text(t: bool) -> Text
+    ensures { λ r. ⌜ r ≡ textOf (truthText t) ⌝ }
+{
+    if t {
+        return text::text_of(b"T");
+    }
+    text::text_of(b"F")
+}
+
+// The sign and the digits of a decimal.
+fn signed_text(minus: bool, digits: &[u8]) -> Text
+    ensures { λ r. ⌜ r ≡ textOf (take size (minusOf minus ++ now (digits .entry))) ⌝ }
+{
+    if minus {
+        return text::joined_text(b"-", digits);
+    }
+    text::text_of(digits)
+}
+
+// What stands behind the digits of a decimal. Zero, which has no digits, is 0E0.
+fn scale_text(digits: &[u8], power: i64) -> Text
+    ensures { λ r. ⌜ r ≡ textOf (scaleOf (now (digits .entry)) power) ⌝ }
+{
+    if digits.len() == 0 {
+        return text::text_of(b"0E0");
+    }
+    numerals::power_text(b'E', power)
+}
+
+// A decimal, or its first 80 bytes.
+fn decimal_text(minus: bool, digits: &[u8], power: i64) -> Text
+    requires { ⌜ length (now digits) ≤ 70 ⌝ }
+    ensures { λ r. ⌜ r ≡ textOf (take size (decimalText minus (now (digits .entry)) power)) ⌝ }
+{
+    let front = signed_text(minus, digits);
+    let own = front.bytes;
+    let behind = scale_text(digits, power);
+    let bytes = behind.bytes;
+    text::joined_text(
+        text::first_of(&own, front.len),
+        text::first_of(&bytes, behind.len),
+    )
+}
+
+// How many spaces stand before a logical or number of n bytes.
+fn margin(n: usize) -> usize
+    ensures { λ r. ⌜ r ≡ numberRoom - n ⌝ }
+{
+    if n < NUMBER_ROOM { NUMBER_ROOM - n } else { 0 }
+}
+
+// A logical or number and its comment from byte 10 on.
+fn put_number(t: &[u8], commented: bool, comment: &[u8], block: &mut [u8])
+    requires { ⌜ (fitsCard (now t) (commentOf commented (now comment)) ≡ true) × (80 ≤ length (now block)) ⌝ }
+    ensures { λ _. ⌜ now (block .exit)
+        ≡ sets (now (block .entry)) 10 (bodyOf (plainText (now (t .entry)) (commentOf commented (now (comment .entry))))) ⌝ }
+{
+    let start = FRONT + margin(t.len());
+    put_spaces(block, FRONT, start);
+    text::put_at(t, block, start);
+    put_tail(commented, comment, block, start + t.len(), CARD);
+}
+
+// ---- cards in a lent block
+
+fn refused(why: Refusal) -> WriteAnswer
+    ensures { λ r. ⌜ r ≡ Refused (faultOf why) ⌝ }
+{
+    WriteAnswer::Refused(refusal::fault_of(why))
+}
+
+// Whether a logical or number of n bytes and its comment fit a card.
+fn fits_card(n: usize, commented: bool, comment: &[u8]) -> bool
+    requires { ⌜ (n ≤ 80) × (length (tailOf (commentOf commented (now comment))) ≤ 72) ⌝ }
+    ensures { λ r. ⌜ r ≡ leb (numberRoom - n + n + length (tailOf (commentOf commented (now (comment .entry))))) textRoom ⌝ }
+{
+    margin(n) + n + tail_length(commented, comment) <= TEXT_ROOM
+}
+
+// The card of a logical or number.
+fn write_plain(
+    name: &[u8],
+    t: Text,
+    commented: bool,
+    comment: &[u8],
+    block: &mut [u8],
+) -> WriteAnswer
+    requires { ⌜ (length (now name) ≤ 8) × (length (tailOf (commentOf commented (now comment))) ≤ 72) ⌝ }
+    ensures { λ r. ⌜ writeOutcome r (now (block .exit)) ≡ putWhere
+        (fitsCard (bytesOf t) (commentOf commented (now (comment .entry))))
+        (plainCards (now (name .entry)) (bytesOf t) (commentOf commented (now (comment .entry)))) (now (block .entry)) ⌝ }
+{
+    let bytes = t.bytes;
+    let own = text::first_of(&bytes, t.len);
+    if !fits_card(own.len(), commented, comment) {
+        return refused(Refusal::UnwritableValue);
+    }
+    if block.len() < CARD {
+        return refused(Refusal::BlockShort);
+    }
+    put_name(name, block);
+    put_number(own, commented, comment, block);
+    WriteAnswer::Cards(1)
+}
+
+// The card of a finite decimal. Digits that are longer than a card are not looked at.
+fn write_decimal(
+    name: &[u8],
+    minus: bool,
+    digits: &[u8],
+    power: i64,
+    commented: bool,
+    comment: &[u8],
+    block: &mut [u8],
+) -> WriteAnswer
+    requires { ⌜ (length (now name) ≤ 8) × (length (tailOf (commentOf commented (now comment))) ≤ 72) ⌝ }
+    ensures { λ r. ⌜ writeOutcome r (now (block .exit)) ≡ putWhere
+        (isValue (Float minus (Finite power)) (now (digits .entry)) (commentOf commented (now (comment .entry))))
+        (plainCards (now (name .entry)) (decimalText minus (now (digits .entry)) power) (commentOf commented (now (comment .entry))))
+        (now (block .entry)) ⌝ }
+{
+    if TEXT_ROOM < digits.len() {
+        return refused(Refusal::UnwritableValue);
+    }
+    if !is_significant(digits) {
+        return refused(Refusal::UnwritableValue);
+    }
+    if !is_power(digits, power) {
+        return refused(Refusal::UnwritableValue);
+    }
+    write_plain(
+        name,
+        decimal_text(minus, digits, power),
+        commented,
+        comment,
+        block,
+    )
+}
+
+// The cards of a string.
+fn write_string(
+    name: &[u8],
+    text: &[u8],
+    commented: bool,
+    comment: &[u8],
+    block: &mut [u8],
+) -> WriteAnswer
+    requires { ⌜ length (now name) ≤ 8 ⌝ }
+    ensures { λ r. ⌜ writeOutcome r (now (block .exit)) ≡ putWhere
+        (isText (now (text .entry)) && isShort remarkLimit (commentOf commented (now (comment .entry))))
+        (stringCards (now (name .entry)) (piecesOf (now (text .entry)) (commentOf commented (now (comment .entry)))))
+        (now (block .entry)) ⌝ }
+{
+    if !is_short(REMARK_LIMIT, commented, comment) {
+        return refused(Refusal::UnwritableValue);
+    }
+    if !is_text(text) {
+        return refused(Refusal::UnwritableValue);
+    }
+    let n = count_pieces(text, commented, comment);
+    if block.len() / CARD < n {
+        return refused(Refusal::BlockShort);
+    }
+    put_name(name, block);
+    put_pieces(text, n, commented, comment, block);
+    WriteAnswer::Cards(n)
 }

@@ -1,42 +1,51 @@
+-- `writing::put_open` meets its contract: the piece fills its card, and the next front stands behind it.
+use Prim.Native.Nat.{ℕ, _+_, _≤_}
+use native.Mathlib.Omega.{arith}
+use mathlib.Core.Path.{_≡_, refl, sym, ap, _∙_}
+use mathlib.Core.List.{List}
+use lib.ListN.{length}
+use lib.Seq.{sets}
+use Rattle.writing.specs.Pieces.{pieceText, openPiece}
+use Rattle.writing.specs.Written.{continueFront}
+use Rattle.writing.specs.Passes.{bodyOf}
+use Rattle.writing.proofs.Counting.{open-text, open-fits}
+use Rattle.writing.proofs.Placing.{sets-then}
+use Rattle.writing.proofs.Bodies.{body-length}
 use borrow.Author.Needs.{needs}
 use Rattle.writing.proofs.put_open.Statement.{statement}
 use Rattle.writing.proofs.put_open.Tie as tie
-use Rattle.writing.proofs.put_open.Reads as reads
-use Rattle.writing.proofs.put_open.Lts as lts
-use Rattle.text.proofs.put_at.Reads as put-at-reads
-use Rattle.writing.proofs.put_piece.Reads as put-piece-reads
 
--- src/lib.rt:405:41
 slice-aggregate-put-piece : tie.Need-slice-aggregate-put-piece
 slice-aggregate-put-piece c = search needs
 
--- src/lib.rt:405:55
 slice-aggregate-put-piece-2 : tie.Need-slice-aggregate-put-piece-2
 slice-aggregate-put-piece-2 c = search needs
 
--- src/lib.rt:405:9
 put-piece-requires : tie.Need-put-piece-requires
 put-piece-requires c κs = search needs
 
--- src/lib.rt:406:18
 slice-aggregate-put-at : tie.Need-slice-aggregate-put-at
 slice-aggregate-put-at c = search needs
 
--- src/lib.rt:406:40
 add-put-at : tie.Need-add-put-at
 add-put-at c = search needs
 
--- src/lib.rt:406:5
 put-at-requires : tie.Need-put-at-requires
 put-at-requires c κs = search needs
 
--- src/lib.rt:399:1
 same-length : tie.Need-same-length
 same-length c = search needs
 
--- src/lib.rt:399:1
 returns : tie.Need-returns
-returns c = ?
+returns c =
+    let put = c .before .before in
+    let piece = put .before .before .before .before .before in
+    let a = piece .before .before .before .before .before .before .args in
+    let t = pieceText (openPiece (a .s .now)) in
+    let d = a .block .now in
+    let body = piece .put-piece .ensures .1 ∙ ap (λ (l : List ℕ). sets d (a .at) (bodyOf l)) (sym (open-text (a .s .now))) in
+    let there : a .at + 70 ≡ a .at + length (bodyOf t) = omega (arith, body-length t (open-fits (a .s .now))) in
+    (piece .put-piece .ensures .0, sets-then d (a .at) (bodyOf t) continueFront body there (put .put-at .ensures))
 
 pub put-open-spec : {M : Type 1} → statement M
 put-open-spec =
