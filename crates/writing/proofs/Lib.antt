@@ -4,3 +4,5 @@ pub mod Cutting
 pub mod Placing
 pub mod Counting
 pub mod Bodies
+pub mod Outcomes
+pub mod Plain

@@ -95,32 +95,7 @@ pub fn write(
     if !is_comment(commented, comment) {
         return refused(Refusal::UnwritableValue);
     }
-    match value {
-        Value::Integer(z) => write_plain(
-            name,
-            numerals::integer_text(z),
-            commented,
-            comment,
-            block,
-        ),
-        Value::Float { minus, size } => match size {
-            Size::Finite(power) => write_decimal(
-                name,
-                minus,
-                text,
-                power,
-                commented,
-                comment,
-                block,
-            ),
-            Size::Infinite => refused(Refusal::UnwritableValue),
-            Size::Nan => refused(Refusal::UnwritableValue),
-        },
-        Value::Logical(t) => write_plain(name, truth_text(t), commented, comment, block),
-        Value::String => write_string(name, text, commented, comment, block),
-        Value::Undefined => refused(Refusal::UnwritableValue),
-        Value::Invalid => refused(Refusal::UnwritableValue),
-    }
+    write_value(name, value, text, commented, comment, block)
 }
 
 // ---- what may be written
@@ -658,4 +633,47 @@ fn write_string(
     put_name(name, block);
     put_pieces(text, n, commented, comment, block);
     WriteAnswer::Cards(n)
+}
+
+// The cards of a value of any kind.
+fn write_value(
+    name: &[u8],
+    value: Value,
+    text: &[u8],
+    commented: bool,
+    comment: &[u8],
+    block: &mut [u8],
+) -> WriteAnswer
+    requires { ⌜ (length (now name) ≤ 8) × (length (tailOf (commentOf commented (now comment))) ≤ 72) ⌝ }
+    ensures { λ r. ⌜ writeOutcome r (now (block .exit)) ≡ putWhere
+        (isValue value (now (text .entry)) (commentOf commented (now (comment .entry))))
+        (writtenCards value (now (name .entry)) (now (text .entry)) (commentOf commented (now (comment .entry))))
+        (now (block .entry)) ⌝ }
+{
+    match value {
+        Value::Integer(z) => write_plain(
+            name,
+            numerals::integer_text(z),
+            commented,
+            comment,
+            block,
+        ),
+        Value::Float { minus, size } => match size {
+            Size::Finite(power) => write_decimal(
+                name,
+                minus,
+                text,
+                power,
+                commented,
+                comment,
+                block,
+            ),
+            Size::Infinite => refused(Refusal::UnwritableValue),
+            Size::Nan => refused(Refusal::UnwritableValue),
+        },
+        Value::Logical(t) => write_plain(name, truth_text(t), commented, comment, block),
+        Value::String => write_string(name, text, commented, comment, block),
+        Value::Undefined => refused(Refusal::UnwritableValue),
+        Value::Invalid => refused(Refusal::UnwritableValue),
+    }
 }

@@ -1,30 +1,36 @@
+use mathlib.Core.Path.{_≡_, refl, sym, ap, _∙_}
+use lib.IntN.{ℤ}
+use mir.Facts.{toZ-ofZ}
+use Rattle.text.specs.Text.{textOf}
+use Rattle.numerals.specs.Numerals.{powerText}
+use Rattle.writing.proofs.Plain.{scale-none, scale-some}
 use borrow.Author.Needs.{needs}
 use Rattle.writing.proofs.scale_text.Statement.{statement}
 use Rattle.writing.proofs.scale_text.Tie as tie
-use Rattle.writing.proofs.scale_text.Reads as reads
-use Rattle.writing.proofs.scale_text.Lts as lts
-use Rattle.numerals.proofs.power_text.Reads as power-text-reads
-use Rattle.text.proofs.text_of.Reads as text-of-reads
 
--- src/lib.rt:519:30
 slice-aggregate-text-of : tie.Need-slice-aggregate-text-of
 slice-aggregate-text-of c = search needs
 
--- src/lib.rt:519:9
 text-of-requires : tie.Need-text-of-requires
 text-of-requires c κs = search needs
 
--- src/lib.rt:519:9
 returns : tie.Need-returns
-returns c = ?
+returns c =
+    let none = c .before .before in
+    let a = none .before .before .args in
+    c .text-of .ensures ∙ ap textOf (scale-none (a .digits .now) (a .power) (none .if1 .taken))
 
--- src/lib.rt:521:5
 power-text-requires : tie.Need-power-text-requires
 power-text-requires c κs = search needs
 
--- src/lib.rt:515:1
 returns-2 : tie.Need-returns-2
-returns-2 c = ?
+returns-2 c =
+    let some = c .before in
+    let start = some .before .before in
+    let a = start .args in
+    c .power-text .ensures
+    ∙ ap (λ (z : ℤ). textOf (powerText 69 z)) (toZ-ofZ (start .fits .power))
+    ∙ ap textOf (scale-some (a .digits .now) (a .power) (some .if1 .left))
 
 pub scale-text-spec : {M : Type 1} → statement M
 scale-text-spec =

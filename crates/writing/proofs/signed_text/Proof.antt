@@ -1,30 +1,33 @@
+use mathlib.Core.Path.{_≡_, refl, sym, ap, _∙_}
+use mathlib.Core.Bool.{Bool}
+use mathlib.Core.List.{_++_}
+use lib.ListN.{take}
+use Rattle.text.specs.Text.{size, textOf}
+use Rattle.numerals.specs.Numerals.{minusOf}
 use borrow.Author.Needs.{needs}
 use Rattle.writing.proofs.signed_text.Statement.{statement}
 use Rattle.writing.proofs.signed_text.Tie as tie
-use Rattle.writing.proofs.signed_text.Reads as reads
-use Rattle.writing.proofs.signed_text.Lts as lts
-use Rattle.text.proofs.joined_text.Reads as joined-text-reads
-use Rattle.text.proofs.text_of.Reads as text-of-reads
 
--- src/lib.rt:509:34
 slice-aggregate-joined-text : tie.Need-slice-aggregate-joined-text
 slice-aggregate-joined-text c = search needs
 
--- src/lib.rt:509:9
 joined-text-requires : tie.Need-joined-text-requires
 joined-text-requires c κs = search needs
 
--- src/lib.rt:509:9
 returns : tie.Need-returns
-returns c = ?
+returns c =
+    let known = c .before .before in
+    let d = known .before .before .args .digits .now in
+    c .joined-text .ensures ∙ sym (ap (λ (m : Bool). textOf (take size (minusOf m ++ d))) (known .if1 .taken))
 
--- src/lib.rt:511:5
 text-of-requires : tie.Need-text-of-requires
 text-of-requires c κs = search needs
 
--- src/lib.rt:505:1
 returns-2 : tie.Need-returns-2
-returns-2 c = ?
+returns-2 c =
+    let known = c .before in
+    let d = known .before .before .args .digits .now in
+    c .text-of .ensures ∙ sym (ap (λ (m : Bool). textOf (take size (minusOf m ++ d))) (known .if1 .left))
 
 pub signed-text-spec : {M : Type 1} → statement M
 signed-text-spec =
