@@ -1,4 +1,4 @@
--- Writing into a lent block: what is answered, and what the block then holds (SPECIFICATION 15.4).
+-- Writing into a lent block: what is answered, and what the block then holds (SPECIFICATION 16.4).
 use Prim.Native.Nat.{ℕ}
 use mathlib.Core.Bool.{cond}
 use mathlib.Core.List.{List, [], _∷_, _++_}

@@ -1,4 +1,4 @@
--- What public promises cite: cards as they are written (SPECIFICATION 15).
+-- What public promises cite: cards as they are written (SPECIFICATION 16).
 pub mod Pieces
 pub mod Written
 pub mod Rules

@@ -1,4 +1,4 @@
--- A string as it is written: within quotes, in pieces that fit a card (SPECIFICATION 15.2; the standard, 4.2.1.1 and 4.2.1.2).
+-- A string as it is written: within quotes, in pieces that fit a card (SPECIFICATION 16.2; the standard, 4.2.1.1 and 4.2.1.2).
 use Prim.Native.Nat.{ℕ, zero, suc, _-_}
 use Prim.Native.Char.{code}
 use mathlib.Core.Bool.{Bool, cond}

@@ -1,4 +1,4 @@
--- What may be written (SPECIFICATION 15.3: refusals 19 and 20).
+-- What may be written (SPECIFICATION 16.3: refusals 19 and 20).
 use Prim.Native.Nat.{ℕ, suc}
 use Prim.Native.Char.{code}
 use mathlib.Core.Bool.{Bool, true, false, not, _&&_, _||_}

@@ -1,4 +1,4 @@
--- The cards that hold a name and its value (SPECIFICATION 15.1 and 15.2; the standard, 4.1 and 4.2).
+-- The cards that hold a name and its value (SPECIFICATION 16.1 and 15.2; the standard, 4.1 and 4.2).
 use Prim.Native.Nat.{ℕ, _-_}
 use Prim.Native.Char.{code}
 use mathlib.Core.Bool.{Bool, true, false, cond}
