@@ -181,8 +181,8 @@ fn a_kit_is_replaced_by_one_that_is_nearly_the_same() {
         // And back again: the same bytes.
         assert_eq!(changed.replaced("KIT", &old.as_str().into(), Some(" ring")).as_deref(), Ok(&bytes[..]));
     }
-    // A quote takes two bytes, so the same text with quotes takes a card more.
-    let quotes = Value::from(old.replace('.', "'"));
+    // A quote takes two bytes, so a text of the same length with quotes takes a card more.
+    let quotes = Value::from(old.replace("A2", "''"));
     let told = header.replaced("KIT", &quotes, Some(" ring"));
     assert_eq!(told, Err(NotReplaced::OtherCount { old: 3, new: 4 }));
 }
