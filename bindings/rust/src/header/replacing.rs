@@ -123,7 +123,7 @@ pub(super) fn answers(bytes: &[u8], name: &[u8], value: &Value, comment: Option<
 }
 
 impl Header {
-    /// The header's bytes, up to END and with it, with another value of a name: the cards that [`write`] gives stand in the places of
+    /// The header's bytes, up to END and with it, with another value of a name: the cards that [`write()`] gives stand in the places of
     /// the name's old ones.
     ///
     /// ```
