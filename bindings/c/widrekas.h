@@ -258,6 +258,8 @@ uint8_t widrekas_lookup(const uint8_t *header, size_t header_length, const uint8
  * CONTINUE cards of a string; the last has the comment, directly behind the slash. In an accepted header where these cards stand in order
  * before END, with at most commentary between them, and no later card bears the name, widrekas_lookup answers the same kind, the same
  * comment, and what the kind has of flag, number, digits and text.
+ * In a header the cards may take the places of all cards of the name, equally many and in their order: its entries, and the CONTINUE
+ * cards joined to them. If between these places stands commentary alone, every other name is answered as before.
  * 19: the name is not 1 to 8 bytes of A to Z, 0 to 9, hyphen and underscore, or is COMMENT, HISTORY, END, CONTINUE, XTENSION or HIERARCH.
  * 20: the comment or a string has a byte outside 32..126 or a space at its end; a string of one space is accepted. A string has more than
  * 2,000 bytes, ends in &, or stands beside a comment of more than 65. A logical or number with its comment passes byte 79. A decimal's
