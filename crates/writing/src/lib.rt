@@ -475,8 +475,7 @@ fn put_open(s: &[u8], block: &mut [u8], at: usize) -> usize
 fn put_last(s: &[u8], commented: bool, comment: &[u8], block: &mut [u8], at: usize)
     requires { ⌜ (fits (lastPiece (now s) (commentOf commented (now comment))) ≡ true) × (at + 70 ≤ length (now block)) ⌝ }
     ensures { λ _. ⌜ now (block .exit)
-        ≡ sets (now (block .entry)) at (bodyOf (pieceText (lastPiece (now (s .entry)) (commentOf commented (now (comment .entry)))))) ⌝
-        }
+        ≡ sets (now (block .entry)) at (bodyOf (pieceText (lastPiece (now (s .entry)) (commentOf commented (now (comment .entry)))))) ⌝ }
 {
     let room = QUOTED_ROOM - tail_length(commented, comment);
     put_piece(s, room, b"'", commented, comment, block, at);
