@@ -7,7 +7,7 @@ use mathlib.Core.Bool.{Bool, true, false, not, cond, true≢false}
 use mathlib.Core.List.{List, [], _∷_, _++_}
 use borrow.Author.Tests.{le-leb, lt-leb, leb-true, lt-ltb, le-ltb, ltb-true, ltb-false, eq-eqb, ne-eqb}
 use lib.Dec.{eqb, leb, ltb}
-use lib.ListN.{length, set, take, drop, getD, drop-of-length-le, length-append, length-drop}
+use lib.ListN.{length, take, drop, getD, drop-of-length-le, length-append, length-drop}
 use lib.Seq.{sets, drop-drop, take-nil}
 use Rattle.laws.proofs.Truths.{and-both}
 use Rattle.text.proofs.Trimming.{at-next}

@@ -1,13 +1,13 @@
 -- Parts of a card stored one behind another.
 use Prim.Native.Char.{code}
-use Prim.Native.Nat.{ℕ, zero, suc, _+_, _-_, _<_, _≤_}
+use Prim.Native.Nat.{ℕ, suc, _+_, _-_, _<_, _≤_}
 use native.Mathlib.Nat.{zero-add}
 use native.Mathlib.Numerals.{add-one}
 use native.Mathlib.Omega.{arith}
 use mathlib.Core.Path.{_≡_, refl, sym, ap, ap₂, _∙_}
 use mathlib.Core.Bool.{Bool, true, false, true≢false}
 use mathlib.Core.List.{List, [], _∷_, _++_, append-assoc}
-use lib.ListN.{length, set, replicate, length-append, length-replicate, length-set}
+use lib.ListN.{length, set, length-append, length-replicate, length-set}
 use lib.Seq.{sets}
 use Rattle.laws.proofs.Truths.{false≢true}
 use Rattle.text.specs.Bytes.{ascii}

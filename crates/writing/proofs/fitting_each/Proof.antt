@@ -1,8 +1,7 @@
 -- `writing::fitting_each` meets its contract: those before i fit, and those that fit behind them are to come.
-use Prim.Native.Nat.{ℕ, _+_, _-_, _<_, _≤_}
+use Prim.Native.Nat.{_+_, _-_, _<_, _≤_}
 use native.Mathlib.Omega.{arith}
-use mathlib.Core.Path.{_≡_, refl, sym, ap, _∙_}
-use mathlib.Core.List.{List}
+use mathlib.Core.Path.{_≡_, ap}
 use lib.ListN.{length, drop, getD}
 use borrow.Author.Tests.{leb-true, leb-false}
 use Rattle.writing.specs.Pieces.{bytesFor, fitting}

@@ -1,8 +1,6 @@
 -- `writing::fitting_length` meets its contract: without a quote each character takes a byte.
-use Prim.Native.Nat.{ℕ, _+_}
 use mathlib.Core.Path.{_≡_, sym, ap, _∙_}
 use mathlib.Core.Bool.{true}
-use mathlib.Core.List.{List}
 use lib.ListN.{length, take}
 use borrow.Author.Tests.{not-false}
 use Rattle.writing.specs.Rules.{every}

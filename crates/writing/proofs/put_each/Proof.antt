@@ -1,11 +1,9 @@
 -- `writing::put_each` meets its contract: the characters before i are put, those that fit behind them are to come.
 use Prim.Native.Nat.{ℕ, _+_, _-_, _<_, _≤_}
 use native.Mathlib.Omega.{arith}
-use mathlib.Core.Path.{_≡_, refl, sym, ap, subst, _∙_}
-use mathlib.Core.List.{[]}
-use lib.ListN.{length, drop, getD}
+use lib.ListN.{length, getD}
 use borrow.Author.Tests.{leb-true, leb-false}
-use Rattle.writing.specs.Pieces.{bytesFor, fitting}
+use Rattle.writing.specs.Pieces.{bytesFor}
 use Rattle.writing.proofs.Cutting.{Filling, fills, fills-on, filled-count, filled-place, filled-bytes, fit-stop, fit-end}
 use borrow.Author.Needs.{needs}
 use Rattle.writing.proofs.put_each.Statement.{statement}

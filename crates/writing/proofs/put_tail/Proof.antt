@@ -1,7 +1,7 @@
 -- `writing::put_tail` meets its contract: each part is stored behind the one before it.
 use Prim.Native.Nat.{ℕ, _+_, _-_, _≤_}
 use native.Mathlib.Omega.{arith}
-use mathlib.Core.Path.{_≡_, refl, sym, ap, _∙_}
+use mathlib.Core.Path.{_≡_, sym, ap, _∙_}
 use mathlib.Core.List.{List, []}
 use lib.ListN.{length, set, length-set}
 use lib.Seq.{sets}
