@@ -25,6 +25,7 @@ ghost use Rattle.writing.specs.Passes.{bodyOf, bodiesOf, scaleOf, writeO
 use card::Class;
 use numbers::Size;
 use numbers::Value;
+use numerals::integer_text;
 use refusal::Fault;
 use refusal::Refusal;
 use text::Cut;
@@ -475,7 +476,8 @@ fn put_open(s: &[u8], block: &mut [u8], at: usize) -> usize
 fn put_last(s: &[u8], commented: bool, comment: &[u8], block: &mut [u8], at: usize)
     requires { ⌜ (fits (lastPiece (now s) (commentOf commented (now comment))) ≡ true) × (at + 70 ≤ length (now block)) ⌝ }
     ensures { λ _. ⌜ now (block .exit)
-        ≡ sets (now (block .entry)) at (bodyOf (pieceText (lastPiece (now (s .entry)) (commentOf commented (now (comment .entry)))))) ⌝ }
+        ≡ sets (now (block .entry)) at
+        (bodyOf (pieceText (lastPiece (now (s .entry)) (commentOf commented (now (comment .entry)))))) ⌝ }
 {
     let room = QUOTED_ROOM - tail_length(commented, comment);
     put_piece(s, room, b"'", commented, comment, block, at);
@@ -686,13 +688,7 @@ fn write_value(
         (now (block .entry)) ⌝ }
 {
     match value {
-        Value::Integer(z) => write_plain(
-            name,
-            numerals::integer_text(z),
-            commented,
-            comment,
-            block,
-        ),
+        Value::Integer(z) => write_plain(name, integer_text(z), commented, comment, block),
         Value::Float { minus, size } => match size {
             Size::Finite(power) => write_decimal(
                 name,
