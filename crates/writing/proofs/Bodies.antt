@@ -1,5 +1,4 @@
 -- The cards of a string from byte 10 of the first one on, stored one behind another.
-use Prim.Native.Char.{code}
 use Prim.Native.Nat.{ℕ, zero, suc, _+_, _-_, _*_, _<_, _≤_}
 use native.Mathlib.Omega.{arith}
 use mathlib.Core.Path.{_≡_, refl, sym, ap, ap₂, subst, _∙_}
@@ -18,7 +17,7 @@ use Rattle.writing.specs.Written.{cardFrom, nameFront, continueFront, st
 use Rattle.writing.specs.Block.{flat}
 use Rattle.writing.specs.Passes.{spaces, spaced, bodyOf, bodiesOf}
 use Rattle.writing.proofs.Placing.{spaced-length}
-use Rattle.writing.proofs.Counting.{Opened, open-fits, none-fits, rest-less, one-fits, pieces-last, pieces-some}
+use Rattle.writing.proofs.Counting.{Opened, open-fits, none-fits, rest-less, one-fits, pieces-last}
 
 -- ---- cards
 

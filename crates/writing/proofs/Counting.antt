@@ -1,17 +1,16 @@
 -- The pieces of a string, one after another: each but the last is open, and each fits a card.
 use Prim.Native.Char.{code}
-use Prim.Native.Nat.{ℕ, zero, suc, _+_, _-_, _*_, _<_, _≤_}
+use Prim.Native.Nat.{ℕ, zero, suc, _+_, _-_, _<_, _≤_}
 use native.Mathlib.Omega.{arith}
 use mathlib.Core.Path.{_≡_, refl, sym, ap, _∙_}
 use mathlib.Core.Bool.{Bool, true, false, cond, true≢false}
-use mathlib.Core.List.{List, [], _∷_, _++_, append-assoc, append-nil}
+use mathlib.Core.List.{List, [], _∷_, _++_, append-assoc}
 use mathlib.Core.Option.{none}
-use borrow.Author.Tests.{le-leb, lt-leb, leb-true}
-use lib.Dec.{leb}
+use borrow.Author.Tests.{le-leb, lt-leb}
 use lib.ListN.{length, drop, length-append, length-drop}
 use Rattle.text.specs.Bytes.{ascii}
 use Rattle.roles.specs.Roles.{Comment}
-use Rattle.writing.specs.Pieces.{doubled, quoted, tailOf, fitting, leftover, Piece, pieceText, openRoom}
+use Rattle.writing.specs.Pieces.{doubled, tailOf, fitting, leftover, Piece, pieceText, openRoom}
 use Rattle.writing.specs.Pieces.{fits, lastPiece, openPiece, piecesFrom, piecesOf}
 use Rattle.writing.specs.Passes.{inQuotes, closedBy}
 use Rattle.writing.proofs.Cutting.{doubled-next, fitting-bytes, fitting-within, fitting-some, drop-next, leftover-less}

@@ -16,7 +16,7 @@ use Rattle.writing.specs.declared.WriteAnswer.the-variants.{Cards, Refus
 use Rattle.writing.specs.Pieces.{textRoom}
 use Rattle.writing.specs.Written.{writtenCards}
 use Rattle.writing.specs.Rules.{isName, isShort, isComment, isValue, isWritable}
-use Rattle.writing.specs.Block.{flat, WriteOutcome, putCards, notWritten, writeOf}
+use Rattle.writing.specs.Block.{flat, putCards, notWritten, writeOf}
 use Rattle.writing.specs.Passes.{writeOutcome, putWhere}
 use Rattle.writing.proofs.Plain.{comment-over}
 

@@ -2,14 +2,14 @@
 use Prim.Native.Char.{code}
 use Prim.Native.Nat.{ℕ, suc, _+_, _-_, _^_, _<_, _≤_}
 use native.Mathlib.Omega.{arith}
-use mathlib.Core.Path.{_≡_, refl, sym, ap, ap₂, _∙_}
+use mathlib.Core.Path.{_≡_, refl, sym, ap, _∙_}
 use mathlib.Core.Bool.{Bool, true, false, true≢false, _&&_}
 use mathlib.Core.List.{List, [], _∷_, _++_, append-assoc, append-nil}
 use mathlib.Core.Option.{none, some}
 use borrow.Author.Tests.{leb-true, leb-false, le-leb, lt-leb, lt-ltb, ltb-true, ltb-false}
-use lib.Dec.{leb, ltb}
+use lib.Dec.{ltb}
 use lib.IntN.{ℤ, pos, negsuc}
-use lib.ListN.{length, take, replicate, length-append, length-replicate, length-take}
+use lib.ListN.{length, take, length-append, length-replicate, length-take}
 use lib.Seq.{sets, take-all}
 use Rattle.laws.proofs.Truths.{and-false}
 use mir.Syntax.{w64}
@@ -19,12 +19,12 @@ use Rattle.text.specs.Text.{size, filled}
 use Rattle.numbers.specs.declared.Size.the-variants.{Finite, Infinite, Nan}
 use Rattle.numbers.specs.declared.Value.{Value}
 use Rattle.numbers.specs.declared.Value.the-variants.{Integer, Float, Logical, String, Undefined, Invalid}
-use Rattle.numerals.specs.Numerals.{minusOf, signedDigits, finiteText, powerText}
+use Rattle.numerals.specs.Numerals.{minusOf, signedDigits, powerText}
 use Rattle.roles.specs.Roles.{Comment}
 use Rattle.writing.specs.Pieces.{tailOf}
 use Rattle.writing.specs.Written.{nameFront, justified, plainText, plainCards, truthText, decimalText}
 use Rattle.writing.specs.Rules.{fitsCard, isShort, isText, isLong, isSignificant, isPower, isValue}
-use Rattle.writing.specs.Block.{flat, WriteOutcome}
+use Rattle.writing.specs.Block.{flat}
 use Rattle.writing.specs.Passes.{spaces, spaced, bodyOf, scaleOf, putWhere}
 use Rattle.writing.proofs.Placing.{sets-then}
 use Rattle.writing.proofs.Bodies.{name-card, front-length, body-length}

@@ -1,9 +1,6 @@
 -- `writing::is_comment` meets its contract: the length first.
-use mathlib.Core.Path.{_≡_, refl, sym, ap, _∙_}
-use mathlib.Core.Bool.{Bool, true, false, _&&_}
+use mathlib.Core.Path.{sym, _∙_}
 use borrow.Author.Tests.{not-true, not-false}
-use Rattle.roles.specs.Roles.{Comment, commentOf}
-use Rattle.writing.specs.Pieces.{textRoom}
 use Rattle.writing.proofs.Testing.{comment-some}
 use borrow.Author.Needs.{needs}
 use Rattle.writing.proofs.is_comment.Statement.{statement}

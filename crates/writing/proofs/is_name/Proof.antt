@@ -1,7 +1,6 @@
 -- `writing::is_name` meets its contract, test by test.
-use mathlib.Core.Path.{_≡_, sym, ap, _∙_}
+use mathlib.Core.Path.{sym, ap, _∙_}
 use borrow.Author.Tests.{not-true, not-false}
-use Rattle.card.specs.declared.Class.{Class}
 use Rattle.writing.specs.Rules.{isOther}
 use Rattle.writing.proofs.Testing.{name-long, name-odd, name-class}
 use borrow.Author.Needs.{needs}

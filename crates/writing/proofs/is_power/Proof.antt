@@ -1,5 +1,4 @@
 -- `writing::is_power` meets its contract, test by test.
-use mathlib.Core.Path.{_≡_, sym, ap, _∙_}
 use mir.Facts.{toZ-ofZ}
 use Rattle.writing.proofs.Testing.{power-none, power-below, power-from}
 use borrow.Author.Needs.{needs}

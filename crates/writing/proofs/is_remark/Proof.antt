@@ -1,6 +1,6 @@
 -- `writing::is_remark` meets its contract: the bytes first, then the last of them.
 use Prim.Native.Nat.{ℕ}
-use mathlib.Core.Path.{_≡_, sym, ap, _∙_}
+use mathlib.Core.Path.{sym, ap, _∙_}
 use mathlib.Core.Bool.{not}
 use lib.Dec.{eqb}
 use borrow.Author.Tests.{not-true, not-false}

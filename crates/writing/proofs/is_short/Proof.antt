@@ -1,4 +1,3 @@
-use mathlib.Core.Path.{_≡_}
 use borrow.Author.Needs.{needs}
 use Rattle.writing.proofs.is_short.Statement.{statement}
 use Rattle.writing.proofs.is_short.Tie as tie

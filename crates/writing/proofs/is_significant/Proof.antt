@@ -1,6 +1,6 @@
 -- `writing::is_significant` meets its contract: the digits first, then the zeros at their ends.
 use Prim.Native.Nat.{ℕ}
-use mathlib.Core.Path.{_≡_, sym, ap, _∙_}
+use mathlib.Core.Path.{sym, ap, _∙_}
 use mathlib.Core.List.{List}
 use borrow.Author.Tests.{not-true, not-false}
 use Rattle.text.specs.Same.{same}

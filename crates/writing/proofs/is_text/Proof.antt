@@ -1,5 +1,5 @@
 -- `writing::is_text` meets its contract: the length first.
-use mathlib.Core.Path.{_≡_, sym, ap, _∙_}
+use mathlib.Core.Path.{sym, _∙_}
 use borrow.Author.Tests.{not-true, not-false}
 use Rattle.writing.proofs.Testing.{text-long, text-odd, text-end}
 use borrow.Author.Needs.{needs}

@@ -1,12 +1,10 @@
 -- `writing::put_byte` meets its contract: a quote is stored twice.
-use Prim.Native.Nat.{ℕ, _+_, _≤_, _<_}
+use Prim.Native.Nat.{ℕ, _+_}
 use native.Mathlib.Omega.{arith}
 use native.Mathlib.Numerals.{add-one}
-use mathlib.Core.Path.{_≡_, sym, ap, _∙_}
-use mathlib.Core.List.{List}
-use lib.ListN.{length, set, length-set}
+use mathlib.Core.Path.{sym, ap, _∙_}
+use lib.ListN.{set, length-set}
 use lib.Seq.{sets}
-use Rattle.writing.specs.Pieces.{bytesFor}
 use Rattle.writing.proofs.Cutting.{quote-twice, other-once, quote-bytes, other-bytes, bytes-some}
 use borrow.Author.Needs.{needs}
 use Rattle.writing.proofs.put_byte.Statement.{statement}

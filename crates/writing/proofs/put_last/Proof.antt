@@ -1,14 +1,14 @@
 -- `writing::put_last` meets its contract: the rest has room, so all of it is taken.
 use Prim.Native.Nat.{ℕ, _+_, _-_, _≤_}
 use native.Mathlib.Omega.{arith}
-use mathlib.Core.Path.{_≡_, refl, sym, ap, _∙_}
+use mathlib.Core.Path.{sym, ap, _∙_}
 use mathlib.Core.List.{List}
 use lib.ListN.{length}
 use lib.Seq.{sets}
 use borrow.Author.Tests.{leb-true}
-use Rattle.roles.specs.Roles.{Comment, commentOf}
+use Rattle.roles.specs.Roles.{commentOf}
 use Rattle.text.specs.Bytes.{ascii}
-use Rattle.writing.specs.Pieces.{doubled, tailOf, fitting, pieceText, lastPiece}
+use Rattle.writing.specs.Pieces.{doubled, tailOf, pieceText, lastPiece}
 use Rattle.writing.specs.Passes.{bodyOf, closedBy}
 use Rattle.writing.proofs.Cutting.{fits-whole}
 use Rattle.writing.proofs.Counting.{last-text, last-length}

@@ -1,6 +1,5 @@
 -- `writing::put_name` meets its contract: each part is stored behind the one before it.
-use mathlib.Core.Path.{_≡_, sym, ap, _∙_}
-use lib.ListN.{length, length-set}
+use lib.ListN.{length-set}
 use Rattle.writing.proofs.Placing.{name-put}
 use borrow.Author.Needs.{needs}
 use Rattle.writing.proofs.put_name.Statement.{statement}

@@ -1,11 +1,10 @@
 -- `writing::put_number` meets its contract: each part is stored behind the one before it.
-use Prim.Native.Nat.{ℕ, _+_, _-_, _≤_}
+use Prim.Native.Nat.{ℕ, _+_}
 use native.Mathlib.Omega.{arith}
-use mathlib.Core.Path.{_≡_, refl, sym, ap, _∙_}
+use mathlib.Core.Path.{ap}
 use lib.ListN.{length}
 use borrow.Author.Tests.{leb-true}
-use Rattle.roles.specs.Roles.{Comment, commentOf}
-use Rattle.writing.specs.Pieces.{tailOf}
+use Rattle.roles.specs.Roles.{commentOf}
 use Rattle.writing.specs.Written.{plainText}
 use Rattle.writing.proofs.Plain.{plain-length, number-put}
 use borrow.Author.Needs.{needs}

@@ -1,14 +1,12 @@
 -- `writing::put_piece` meets its contract: each part is stored behind the one before it.
-use Prim.Native.Nat.{ℕ, _+_, _-_, _≤_}
+use Prim.Native.Nat.{_+_, _≤_}
 use native.Mathlib.Omega.{arith}
-use mathlib.Core.Path.{_≡_, refl, sym, ap, _∙_}
-use mathlib.Core.List.{List}
+use mathlib.Core.Path.{_≡_}
 use lib.ListN.{length, set, length-set}
-use lib.Seq.{sets}
 use Rattle.roles.specs.Roles.{commentOf}
-use Rattle.writing.specs.Pieces.{doubled, tailOf, fitting}
+use Rattle.writing.specs.Pieces.{tailOf, fitting}
 use Rattle.writing.proofs.Cutting.{fitting-bytes}
-use Rattle.writing.proofs.Placing.{piece-put, same-sets}
+use Rattle.writing.proofs.Placing.{piece-put}
 use borrow.Author.Needs.{needs}
 use Rattle.writing.proofs.put_piece.Statement.{statement}
 use Rattle.writing.proofs.put_piece.Tie as tie

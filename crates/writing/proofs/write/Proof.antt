@@ -1,17 +1,12 @@
 -- `writing::write` meets its contract: the name, then the comment, then the value.
-use Prim.Native.Nat.{ℕ, _+_, _-_, _*_, _/_, _<_, _≤_}
-use native.Mathlib.Omega.{arith}
-use mathlib.Core.Path.{_≡_, refl, sym, ap, ap₂, _∙_}
-use mathlib.Core.Bool.{Bool, true, false, _&&_}
-use mathlib.Core.List.{List, _++_}
-use lib.ListN.{length}
+use mathlib.Core.Path.{_≡_, sym, ap, _∙_}
+use mathlib.Core.Bool.{true, _&&_}
 use borrow.Author.Tests.{not-true, not-false}
 use Rattle.laws.proofs.Truths.{and-both}
 use Rattle.roles.specs.Roles.{Comment, commentOf}
 use Rattle.writing.specs.Pieces.{textRoom}
 use Rattle.writing.specs.Rules.{isShort, isComment, isName}
 use Rattle.writing.specs.Block.{WriteOutcome}
-use Rattle.writing.specs.Passes.{writeOutcome}
 use Rattle.writing.proofs.Testing.{name-length}
 use Rattle.writing.proofs.Plain.{short-tail}
 use Rattle.writing.proofs.Outcomes.{name-refused, value-refused, value-put}

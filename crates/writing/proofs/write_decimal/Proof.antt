@@ -1,11 +1,10 @@
 -- `writing::write_decimal` meets its contract, case by case.
-use Prim.Native.Nat.{ℕ, _+_, _-_, _*_, _/_, _<_, _≤_}
-use native.Mathlib.Omega.{arith}
-use mathlib.Core.Path.{_≡_, refl, sym, ap, ap₂, _∙_}
+use Prim.Native.Nat.{ℕ}
+use mathlib.Core.Path.{_≡_, sym, ap, _∙_}
 use mathlib.Core.Bool.{Bool, true, false, _&&_}
-use mathlib.Core.List.{List, _++_}
+use mathlib.Core.List.{List}
 use lib.IntN.{ℤ}
-use lib.ListN.{length, take}
+use lib.ListN.{take}
 use mir.Facts.{toZ-ofZ}
 use borrow.Author.Tests.{not-true, not-false}
 use Rattle.laws.proofs.Truths.{and-false}
@@ -13,10 +12,9 @@ use Rattle.text.specs.Text.{size, textOf}
 use Rattle.text.proofs.Texts.{text-bytes}
 use Rattle.numbers.specs.declared.Size.the-variants.{Finite}
 use Rattle.numbers.specs.declared.Value.the-variants.{Float}
-use Rattle.roles.specs.Roles.{Comment, commentOf}
+use Rattle.roles.specs.Roles.{commentOf}
 use Rattle.writing.specs.Written.{decimalText, plainCards}
 use Rattle.writing.specs.Rules.{isSignificant, isPower, fitsCard, isValue}
-use Rattle.writing.specs.Block.{WriteOutcome}
 use Rattle.writing.specs.Passes.{putWhere}
 use Rattle.writing.proofs.Plain.{decimal-over, first-tell}
 use Rattle.writing.proofs.Outcomes.{put-refused}

@@ -1,9 +1,8 @@
 -- `writing::write_value` meets its contract, kind by kind.
-use Prim.Native.Nat.{ℕ, _+_, _-_, _*_, _/_, _<_, _≤_}
-use native.Mathlib.Omega.{arith}
-use mathlib.Core.Path.{_≡_, refl, sym, ap, ap₂, _∙_}
-use mathlib.Core.Bool.{Bool, true, false, _&&_}
-use mathlib.Core.List.{List, _++_}
+use Prim.Native.Nat.{ℕ}
+use mathlib.Core.Path.{_≡_, refl, sym, ap, _∙_}
+use mathlib.Core.Bool.{Bool, false, _&&_}
+use mathlib.Core.List.{List}
 use lib.IntN.{ℤ}
 use mir.Facts.{toZ-ofZ}
 use mir.Syntax.{w64}
@@ -17,11 +16,11 @@ use Rattle.numbers.specs.declared.Value.the-variants.{Integer, Float, Logical, 
 use Rattle.numerals.specs.Numerals.{signedDigits}
 use Rattle.refusal.specs.declared.Refusal.the-variants.{UnwritableValue}
 use Rattle.refusal.specs.Numbers.{faultOf}
-use Rattle.roles.specs.Roles.{Comment, commentOf}
+use Rattle.roles.specs.Roles.{commentOf}
 use Rattle.writing.specs.declared.WriteAnswer.{WriteAnswer}
 use Rattle.writing.specs.declared.WriteAnswer.the-variants.{Refused}
 use Rattle.writing.specs.Written.{truthText, plainCards, writtenCards}
-use Rattle.writing.specs.Rules.{isLong, fitsCard, isValue}
+use Rattle.writing.specs.Rules.{fitsCard, isValue}
 use Rattle.writing.specs.Block.{WriteOutcome}
 use Rattle.writing.specs.Passes.{writeOutcome, putWhere}
 use Rattle.writing.proofs.Plain.{is-long}
