@@ -3,3 +3,5 @@ pub mod Pieces
 pub mod Written
 pub mod Rules
 pub mod Block
+-- What private contracts cite alone.
+pub mod Passes

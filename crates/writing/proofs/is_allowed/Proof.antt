@@ -1,0 +1,44 @@
+use borrow.Author.Needs.{needs}
+use Rattle.writing.proofs.is_allowed.Statement.{statement}
+use Rattle.writing.proofs.is_allowed.Tie as tie
+
+enum-told : tie.Need-enum-told
+enum-told c = search needs
+
+is-name-byte-requires : tie.Need-is-name-byte-requires
+is-name-byte-requires c κs = search needs
+
+enum-told-2 : tie.Need-enum-told-2
+enum-told-2 c = search needs
+
+is-printable-requires : tie.Need-is-printable-requires
+is-printable-requires c κs = search needs
+
+enum-told-3 : tie.Need-enum-told-3
+enum-told-3 c = search needs
+
+is-digit-requires : tie.Need-is-digit-requires
+is-digit-requires c κs = search needs
+
+returns : tie.Need-returns
+returns c = rw (c .before .enum-told .given .1) (c .is-name-byte .ensures)
+
+returns-2 : tie.Need-returns-2
+returns-2 c = rw (c .before .enum-told2 .given .1) (c .is-printable .ensures)
+
+returns-3 : tie.Need-returns-3
+returns-3 c = rw (c .before .enum-told3 .given .1) (c .is-digit .ensures)
+
+pub is-allowed-spec : {M : Type 1} → statement M
+is-allowed-spec =
+    tie.close
+    (tie.spec
+    enum-told
+    is-name-byte-requires
+    enum-told-2
+    is-printable-requires
+    enum-told-3
+    is-digit-requires
+    returns
+    returns-2
+    returns-3)
