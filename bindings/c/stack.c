@@ -19,10 +19,10 @@ static size_t deep;
 
 /* What the calls are lent. */
 static uint8_t header[WIDREKAS_LONGEST], text[WIDREKAS_ROOM], comment[WIDREKAS_ROOM], digits[WIDREKAS_DIGITS];
-static uint8_t record[WIDREKAS_RECORD], name[WIDREKAS_LONGEST_NAME], tile[20000];
+static uint8_t record[WIDREKAS_RECORD], name[WIDREKAS_LONGEST_NAME], tile[20000], block[WIDREKAS_BLOCK];
 static size_t out[WIDREKAS_NUMBERS], first[WIDREKAS_PLACES], last[WIDREKAS_PLACES];
 static int32_t pixels[1000], last_pixel;
-static size_t length, card, count, column, bits, bit, done;
+static size_t length, card, count, column, bits, bit, done, kind, remark, room;
 static int64_t number;
 static volatile size_t answer;
 
@@ -51,6 +51,7 @@ CALL(entry, widrekas_entry(header, length, card, text, sizeof text, comment, siz
                            WIDREKAS_NUMBERS, &number, &column))
 CALL(lookup, widrekas_lookup(header, length, (const uint8_t *)"KIT", 3, text, sizeof text, comment, sizeof comment, digits,
                              sizeof digits, out, WIDREKAS_NUMBERS, &number, &column))
+CALL(write, widrekas_write((const uint8_t *)"KIT", 3, kind, 1, number, text, length, 1, comment, remark, block, room, &count))
 CALL(open, widrekas_open(tile, length, 1000, 32, bits, &bit, &done, &last_pixel))
 CALL(step, widrekas_step(tile, length, 1000, 32, bits, &bit, &done, &last_pixel, pixels, 1000, &count))
 CALL(decode, widrekas_decode(tile, length, 1000, 32, bits, pixels, 1000, &count))
@@ -70,6 +71,8 @@ static struct function of_headers[] = {
     {"widrekas_list", call_list, 80 * KIB, 0},      {"widrekas_name", call_name, 4 * KIB, 0},
     {"widrekas_entry", call_entry, 64 * KIB, 0},    {"widrekas_lookup", call_lookup, 64 * KIB, 0},
 };
+
+static struct function of_values[] = {{"widrekas_write", call_write, 4 * KIB, 0}};
 
 static struct function of_tiles[] = {
     {"widrekas_open", call_open, 4 * KIB, 0},
@@ -155,6 +158,24 @@ static void at_random(void)
     MEASURE(of_headers);
 }
 
+/* Values of every kind, with comments: strings of 2,000 bytes, of which any number are quotes, and digits up to where they fit a card. */
+static void values(void)
+{
+    static const int64_t numbers[] = {0, -1, 99999, -99999, INT64_MAX, INT64_MIN};
+    for (int round = 0; round < 400; round++) {
+        kind = 1 + below(8);
+        number = numbers[below(6)];
+        length = kind == WIDREKAS_STRING ? 2001 - below(round % 2 == 0 ? 3 : 2002) : below(72);
+        remark = below(67);
+        room = round % 4 == 0 ? below(sizeof block) : sizeof block;
+        memset(comment, 'c', remark);
+        for (size_t i = 0, quotes = below(4); i < length; i++) {
+            text[i] = (uint8_t)(kind != WIDREKAS_STRING ? '1' + below(9) : below(3) < quotes ? '\'' : 'x');
+        }
+        MEASURE(of_values);
+    }
+}
+
 static void tiles(void)
 {
     for (bits = 8; bits <= 32; bits *= 2) {
@@ -196,6 +217,9 @@ int main(void)
     bits = 8;
     warm(of_headers, sizeof of_headers / sizeof of_headers[0]);
     warm(of_tiles, sizeof of_tiles / sizeof of_tiles[0]);
+    kind = WIDREKAS_LOGICAL;
+    room = sizeof block;
+    warm(of_values, sizeof of_values / sizeof of_values[0]);
     joined(3);
     joined(36);
     joined(108);
@@ -204,8 +228,10 @@ int main(void)
     for (int round = 0; round < 1000; round++) {
         at_random();
     }
+    values();
     tiles();
     int within = told(of_headers, sizeof of_headers / sizeof of_headers[0]);
+    within &= told(of_values, sizeof of_values / sizeof of_values[0]);
     within &= told(of_tiles, sizeof of_tiles / sizeof of_tiles[0]);
     free(area);
     return within ? 0 : 1;

@@ -746,6 +746,373 @@ static void test_columns(void)
     free(header);
 }
 
+/* ---- cards written */
+
+#define X10 "xxxxxxxxxx"
+#define X60 X10 X10 X10 X10 X10 X10
+#define X65 X60 "xxxxx"
+#define X67 X60 "xxxxxxx"
+#define C10 "cccccccccc"
+#define C48 C10 C10 C10 C10 "cccccccc"
+#define C65 C10 C10 C10 C10 C10 C10 "ccccc"
+#define Q10 "''''''''''"
+#define D10 "1234567891"
+
+/* What is to be written. */
+struct wanted {
+    const char *name;
+    size_t kind, flag;
+    int64_t number;
+    const char *text;
+    const char *comment; /* or none */
+};
+
+static struct wanted truth(size_t flag, const char *comment)
+{
+    return (struct wanted){"KIT", WIDREKAS_LOGICAL, flag, 0, "", comment};
+}
+
+static struct wanted integer(int64_t number, const char *comment)
+{
+    return (struct wanted){"KIT", WIDREKAS_INTEGER, 0, number, "", comment};
+}
+
+static struct wanted decimal(size_t minus, const char *digits, int64_t power, const char *comment)
+{
+    return (struct wanted){"KIT", WIDREKAS_FINITE, minus, power, digits, comment};
+}
+
+static struct wanted string(const char *text, const char *comment)
+{
+    return (struct wanted){"KIT", WIDREKAS_STRING, 0, 0, text, comment};
+}
+
+/* A slice of its own for the bytes of a text. */
+static uint8_t *slice(const char *text, size_t length)
+{
+    uint8_t *bytes = lent(length);
+    memcpy(bytes, text, length);
+    return bytes;
+}
+
+/* Writes into room bytes between two guards, and checks that nothing else is touched. The caller frees the block. */
+static uint8_t write_into(const struct wanted *w, size_t room, uint8_t **block, size_t *count)
+{
+    enum { GUARD = 16 };
+    size_t name_length = strlen(w->name), text_length = strlen(w->text), comment_length = w->comment != NULL ? strlen(w->comment) : 0;
+    uint8_t *name = slice(w->name, name_length);
+    uint8_t *text = slice(w->text, text_length);
+    uint8_t *comment = slice(w->comment != NULL ? w->comment : "", comment_length);
+    uint8_t *memory = lent(GUARD + room + GUARD);
+    *count = 4321;
+    uint8_t answer = widrekas_write(name, name_length, w->kind, w->flag, w->number, text, text_length, w->comment != NULL, comment,
+                                    comment_length, memory + GUARD, room, count);
+    size_t written = answer == 0 ? *count * WIDREKAS_CARD : 0;
+    CHECK(answer == 0 || (19 <= answer && answer <= 21));
+    CHECK(answer == 0 ? 1 <= *count && written <= room && written <= WIDREKAS_BLOCK : *count == 4321);
+    CHECK(untouched(memory, GUARD) && untouched(memory + GUARD + written, room - written + GUARD));
+    CHECK(memcmp(name, w->name, name_length) == 0 && memcmp(text, w->text, text_length) == 0);
+    *block = slice((const char *)memory + GUARD, written);
+    free(memory);
+    free(comment);
+    free(text);
+    free(name);
+    return answer;
+}
+
+/* Written cards in a header, with commentary between them, are read back as they were asked for. */
+static void reads_back(const struct wanted *w, const uint8_t *block, size_t count)
+{
+    static const char *const between[] = {"COMMENT between", "HISTORY between", "", "        between", "KIT     =5"};
+    size_t many = 0, length = (2 * count + 4) * WIDREKAS_CARD;
+    uint8_t *header = lent(length);
+    memset(header, ' ', length);
+    memcpy(header + many++ * WIDREKAS_CARD, "KIT     = 'before&'", 19);
+    for (size_t i = 0; i < count; i++) {
+        const char *front = between[i % 5];
+        memcpy(header + many++ * WIDREKAS_CARD, block + i * WIDREKAS_CARD, WIDREKAS_CARD);
+        memcpy(header + many++ * WIDREKAS_CARD, front, strlen(front));
+    }
+    memcpy(header + many++ * WIDREKAS_CARD, "CONTINUE  'not its own'", 23);
+    memcpy(header + many++ * WIDREKAS_CARD, "OTHER   = 5", 11);
+    memcpy(header + many++ * WIDREKAS_CARD, "END", 3);
+    CHECK(many * WIDREKAS_CARD == length);
+    struct asked a = {header, length, w->name, 0, NULL, NULL, NULL, NULL, 0, KEPT};
+    int is_string = w->kind == WIDREKAS_STRING, is_decimal = w->kind == WIDREKAS_FINITE;
+    size_t flag = w->kind == WIDREKAS_LOGICAL || is_decimal ? w->flag != 0 : 0;
+    int64_t number = w->kind == WIDREKAS_INTEGER || is_decimal ? w->number : 0;
+    is_entry(a, w->kind, flag, number, is_decimal ? w->text : "", is_string ? w->text : "", w->comment);
+    free(header);
+}
+
+/* Cards as they are written, each padded with spaces: into a block that they fill, into larger ones, and into one that is a byte short. */
+static void is_written(struct wanted w, const char *const *fronts, size_t many)
+{
+    static const size_t spare[] = {0, 1, 79, 80, 4711};
+    uint8_t *expected = cards(fronts, many), *block;
+    size_t length = many * WIDREKAS_CARD, count;
+    for (size_t i = 0; i < sizeof spare / sizeof spare[0]; i++) {
+        CHECK(write_into(&w, length + spare[i], &block, &count) == 0 && count == many);
+        CHECK(memcmp(block, expected, length) == 0);
+        free(block);
+    }
+    CHECK(write_into(&w, WIDREKAS_BLOCK, &block, &count) == 0 && count == many);
+    free(block);
+    CHECK(write_into(&w, length - 1, &block, &count) == WIDREKAS_BLOCK_SHORT);
+    free(block);
+    CHECK(write_into(&w, 0, &block, &count) == WIDREKAS_BLOCK_SHORT);
+    free(block);
+    reads_back(&w, expected, many);
+    free(expected);
+}
+
+static void is_one(struct wanted w, const char *front)
+{
+    is_written(w, &front, 1);
+}
+
+static void is_two(struct wanted w, const char *front, const char *behind)
+{
+    const char *const fronts[] = {front, behind};
+    is_written(w, fronts, 2);
+}
+
+/* What is not written, with any block. */
+static void is_not_written(struct wanted w, int refusal)
+{
+    static const size_t rooms[] = {0, 1, 79, 80, 81, WIDREKAS_BLOCK, 3 * WIDREKAS_BLOCK};
+    for (size_t i = 0; i < sizeof rooms / sizeof rooms[0]; i++) {
+        uint8_t *block;
+        size_t count;
+        CHECK(write_into(&w, rooms[i], &block, &count) == refusal);
+        free(block);
+    }
+}
+
+static void test_written_numbers(void)
+{
+    is_one(truth(1, NULL), "KIT     =                    T");
+    is_one(truth(0, NULL), "KIT     =                    F");
+    is_one(truth(2, NULL), "KIT     =                    T");
+    is_one(truth((size_t)-1, NULL), "KIT     =                    T");
+    is_one(truth(1, "ring"), "KIT     =                    T /ring");
+    is_one(truth(1, ""), "KIT     =                    T /");
+    is_one(truth(0, " / ring"), "KIT     =                    F / / ring");
+    is_one(truth(1, "[mm] it's 100 %&~"), "KIT     =                    T /[mm] it's 100 %&~");
+    is_one(truth(1, C48), "KIT     =                    T /" C48);
+    is_one(integer(0, NULL), "KIT     =                    0");
+    is_one(integer(-7, NULL), "KIT     =                   -7");
+    is_one(integer(-10, "c"), "KIT     =                  -10 /c");
+    is_one(integer(1234567890, NULL), "KIT     =           1234567890");
+    is_one(integer(INT64_MAX, NULL), "KIT     =  9223372036854775807");
+    is_one(integer(INT64_MIN, NULL), "KIT     = -9223372036854775808");
+    is_one(integer(INT64_MIN, C48), "KIT     = -9223372036854775808 /" C48);
+    is_one(decimal(1, "15", -1, NULL), "KIT     =               -15E-1");
+    is_one(decimal(0, "15", 2, "[s]"), "KIT     =                 15E2 /[s]");
+    is_one(decimal(9, "5", 0, NULL), "KIT     =                 -5E0");
+    is_one(decimal(0, "", 0, NULL), "KIT     =                  0E0");
+    is_one(decimal(1, "", 0, NULL), "KIT     =                 -0E0");
+    is_one(decimal(0, "1", 99999, NULL), "KIT     =              1E99999");
+    is_one(decimal(1, "102", -99999, NULL), "KIT     =          -102E-99999");
+    is_one(decimal(0, "9223372036854775808", 0, ""), "KIT     = 9223372036854775808E0 /");
+    /* 19, 20 and 21 bytes: the last passes the field, and starts where it starts. */
+    is_one(decimal(0, D10 "234567", -1, "c"), "KIT     =  " D10 "234567E-1 /c");
+    is_one(decimal(0, D10 "2345678", -1, "c"), "KIT     = " D10 "2345678E-1 /c");
+    is_one(decimal(1, D10 "2345678", -1, "c"), "KIT     = -" D10 "2345678E-1 /c");
+    is_one(decimal(0, "1234567890123456789", 2, NULL), "KIT     = 1234567890123456789E2");
+    /* 70 bytes without a comment, 68 with an empty one. */
+    is_one(decimal(0, D10 D10 D10 D10 D10 D10 "23456789", 0, NULL), "KIT     = " D10 D10 D10 D10 D10 D10 "23456789E0");
+    is_one(decimal(0, D10 D10 D10 D10 D10 D10 "234567", 0, ""), "KIT     = " D10 D10 D10 D10 D10 D10 "234567E0 /");
+    is_one(decimal(1, "1234567890123456789", 2, C10 C10 C10 C10 "cccccc"), "KIT     = -1234567890123456789E2 /" C10 C10 C10 C10 "cccccc");
+
+    is_not_written(truth(1, C48 "c"), WIDREKAS_UNWRITABLE_VALUE);
+    is_not_written(integer(-7, C48 "c"), WIDREKAS_UNWRITABLE_VALUE);
+    is_not_written(integer(INT64_MIN, C48 "c"), WIDREKAS_UNWRITABLE_VALUE);
+    is_not_written(decimal(0, D10 D10 D10 D10 D10 D10 "23456789", 0, ""), WIDREKAS_UNWRITABLE_VALUE);
+    is_not_written(decimal(0, D10 D10 D10 D10 D10 D10 "23456789", 10, NULL), WIDREKAS_UNWRITABLE_VALUE);
+    is_not_written(decimal(0, D10 D10 D10 D10 D10 D10 "234567891", 0, NULL), WIDREKAS_UNWRITABLE_VALUE);
+    is_not_written(decimal(0, D10 D10 D10 D10 D10 D10 D10 D10 D10 D10, 0, NULL), WIDREKAS_UNWRITABLE_VALUE);
+    is_not_written(decimal(1, "1234567890123456789", 2, C10 C10 C10 C10 "ccccccc"), WIDREKAS_UNWRITABLE_VALUE);
+    static const char *const digits[] = {"0", "00", "10", "01", "010", "1.5", "-1", "+1", " 1", "1 ", "1E1", "a", "/", ":", "1\xb1"};
+    for (size_t i = 0; i < sizeof digits / sizeof digits[0]; i++) {
+        is_not_written(decimal(0, digits[i], 0, NULL), WIDREKAS_UNWRITABLE_VALUE);
+    }
+    static const int64_t powers[] = {100000, -100000, INT64_MAX, INT64_MIN};
+    for (size_t i = 0; i < sizeof powers / sizeof powers[0]; i++) {
+        is_not_written(decimal(0, "1", powers[i], NULL), WIDREKAS_UNWRITABLE_VALUE);
+        is_not_written(decimal(1, "", powers[i], NULL), WIDREKAS_UNWRITABLE_VALUE);
+    }
+    is_not_written(decimal(0, "", 1, NULL), WIDREKAS_UNWRITABLE_VALUE);
+    is_not_written(decimal(0, "", -1, NULL), WIDREKAS_UNWRITABLE_VALUE);
+    static const size_t kinds[] = {0, WIDREKAS_INFINITE, WIDREKAS_NAN, WIDREKAS_UNDEFINED, WIDREKAS_INVALID, 9, 257, (size_t)-1};
+    for (size_t i = 0; i < sizeof kinds / sizeof kinds[0]; i++) {
+        is_not_written((struct wanted){"KIT", kinds[i], 1, 1, "1", NULL}, WIDREKAS_UNWRITABLE_VALUE);
+        is_not_written((struct wanted){"KIT", kinds[i], 0, 0, "", "c"}, WIDREKAS_UNWRITABLE_VALUE);
+    }
+}
+
+static void test_written_strings(void)
+{
+    is_one(string("a", NULL), "KIT     = 'a'");
+    is_one(string("", NULL), "KIT     = ''");
+    is_one(string("", ""), "KIT     = '' /");
+    is_one(string(" ", NULL), "KIT     = ' '");
+    is_one(string("  a", "ring"), "KIT     = '  a' /ring");
+    is_one(string("O'RING", NULL), "KIT     = 'O''RING'");
+    is_one(string("'", "'"), "KIT     = '''' /'");
+    is_one(string("a/b & c", " d"), "KIT     = 'a/b & c' / d");
+    is_one(string("", C65), "KIT     = '' /" C65);
+    is_one(string("a", C65), "KIT     = 'a' /" C65);
+    /* The last card has 70 bytes for the quotes, the text and the comment. */
+    is_one(string(X67 "x", NULL), "KIT     = '" X67 "x'");
+    is_one(string(X65 "x", ""), "KIT     = '" X65 "x' /");
+    is_one(string(X60, "123456"), "KIT     = '" X60 "' /123456");
+    is_one(string(X65 "'y", NULL), "KIT     = '" X65 "''y'");
+    is_one(string(Q10 Q10 Q10 "''''", NULL), "KIT     = '" Q10 Q10 Q10 Q10 Q10 Q10 "'''''''''");
+    /* One byte more, and the first card takes as many characters as fit in 67 bytes. */
+    is_two(string(X67 "xy", NULL), "KIT     = '" X67 "&'", "CONTINUE  'xy'");
+    is_two(string(X67, ""), "KIT     = '" X67 "&'", "CONTINUE  '' /");
+    is_two(string(X60 "x", "123456"), "KIT     = '" X60 "x&'", "CONTINUE  '' /123456");
+    is_two(string("ab", C65), "KIT     = 'ab&'", "CONTINUE  '' /" C65);
+    is_two(string("'", C65), "KIT     = '''&'", "CONTINUE  '' /" C65);
+    /* A doubled quote is not cut, and stands whole where it fits. */
+    is_two(string(X65 "x'y", NULL), "KIT     = '" X65 "x&'", "CONTINUE  '''y'");
+    is_two(string(X65 "'yz", NULL), "KIT     = '" X65 "''&'", "CONTINUE  'yz'");
+    is_two(string(Q10 Q10 Q10 "'''''", NULL), "KIT     = '" Q10 Q10 Q10 Q10 Q10 Q10 "''''''&'", "CONTINUE  ''''''");
+    /* A & or a space before the cut or behind it belongs to the text. */
+    is_two(string(X65 "x&yz", NULL), "KIT     = '" X65 "x&&'", "CONTINUE  'yz'");
+    is_two(string(X65 "  yz", NULL), "KIT     = '" X65 "  &'", "CONTINUE  'yz'");
+    is_two(string(X67 "& z", NULL), "KIT     = '" X67 "&'", "CONTINUE  '& z'");
+    is_two(string(X67 "  z", "c"), "KIT     = '" X67 "&'", "CONTINUE  '  z' /c");
+    /* Only the last card has the comment. */
+    static const char *const three[] = {"KIT     = '" X67 "&'", "CONTINUE  '" X67 "&'", "CONTINUE  '" X10 "' /ring"};
+    is_written(string(X67 X67 X10, "ring"), three, 3);
+    static const char *const whole[] = {"KIT     = '" X67 "&'", "CONTINUE  '" X67 "&'", "CONTINUE  '' /" C65};
+    is_written(string(X67 X67, C65), whole, 3);
+
+    /* The longest: 2,000 quotes, 33 on each of 60 cards, 20 on the next, and the comment on the last. */
+    char text[2002];
+    const char *longest[62];
+    memset(text, '\'', 2000);
+    text[2000] = 0;
+    for (size_t i = 0; i < 60; i++) {
+        longest[i] = i == 0 ? "KIT     = '" Q10 Q10 Q10 Q10 Q10 Q10 "''''''&'" : "CONTINUE  '" Q10 Q10 Q10 Q10 Q10 Q10 "''''''&'";
+    }
+    longest[60] = "CONTINUE  '" Q10 Q10 Q10 Q10 "&'";
+    longest[61] = "CONTINUE  '' /" C65;
+    is_written(string(text, C65), longest, 62);
+    /* And of single bytes: 67 on each of 29 cards, 57 on the last. */
+    memset(text, 'x', 2001);
+    text[2001] = 0;
+    is_not_written(string(text, NULL), WIDREKAS_UNWRITABLE_VALUE);
+    text[2000] = 0;
+    const char *singles[30];
+    for (size_t i = 0; i < 29; i++) {
+        singles[i] = i == 0 ? "KIT     = '" X67 "&'" : "CONTINUE  '" X67 "&'";
+    }
+    singles[29] = "CONTINUE  '" X10 X10 X10 X10 X10 "xxxxxxx'";
+    is_written(string(text, NULL), singles, 30);
+
+    static const char *const ends[] = {"a ", "  ", "a  ", "' ", "& ", "&", "a&", "a&&", " &"};
+    for (size_t i = 0; i < sizeof ends / sizeof ends[0]; i++) {
+        is_not_written(string(ends[i], NULL), WIDREKAS_UNWRITABLE_VALUE);
+        is_not_written(string(ends[i], "c"), WIDREKAS_UNWRITABLE_VALUE);
+    }
+    is_not_written(string("", C65 "c"), WIDREKAS_UNWRITABLE_VALUE);
+    is_not_written(string("ab", C65 "c"), WIDREKAS_UNWRITABLE_VALUE);
+    is_not_written(string(X67 X67, C65 "c"), WIDREKAS_UNWRITABLE_VALUE);
+}
+
+/* Which bytes a name, a string and a comment may have: each byte but 0, which ends a C string, between two others and alone. */
+static void test_written_bytes(void)
+{
+    for (int byte = 1; byte <= 255; byte++) {
+        char within[4] = {'A', (char)byte, 'B', 0}, alone[2] = {(char)byte, 0};
+        uint8_t *block;
+        size_t count;
+        int in_name = ('A' <= byte && byte <= 'Z') || ('0' <= byte && byte <= '9') || byte == '-' || byte == '_';
+        int printable = 32 <= byte && byte <= 126;
+        struct wanted w[] = {truth(1, NULL),   truth(1, NULL),    string(within, NULL), string(alone, NULL),
+                             truth(1, within), integer(1, alone), string("a", within),  string("a", alone)};
+        w[0].name = within;
+        w[1].name = alone;
+        for (size_t i = 0; i < sizeof w / sizeof w[0]; i++) {
+            int may = i < 2 ? in_name : printable;
+            may = may && !(i == 3 && byte == '&') && !((i == 5 || i == 7) && byte == ' ');
+            int refusal = i < 2 ? WIDREKAS_UNWRITABLE_NAME : WIDREKAS_UNWRITABLE_VALUE;
+            CHECK(write_into(&w[i], WIDREKAS_BLOCK, &block, &count) == (may ? 0 : refusal));
+            if (may) {
+                reads_back(&w[i], block, count);
+            }
+            free(block);
+        }
+    }
+    uint8_t block[WIDREKAS_CARD];
+    const uint8_t *zero = (const uint8_t *)"A\0B";
+    size_t count = 9;
+    memset(block, 7, sizeof block);
+    CHECK(widrekas_write(zero, 3, WIDREKAS_LOGICAL, 1, 0, zero, 0, 0, zero, 0, block, sizeof block, &count) == 19);
+    CHECK(widrekas_write(zero, 1, WIDREKAS_STRING, 0, 0, zero, 3, 0, zero, 0, block, sizeof block, &count) == 20);
+    CHECK(widrekas_write(zero, 1, WIDREKAS_LOGICAL, 1, 0, zero, 0, 1, zero, 3, block, sizeof block, &count) == 20);
+    CHECK(widrekas_write(zero, 1, WIDREKAS_FINITE, 1, 0, zero + 1, 1, 0, zero, 0, block, sizeof block, &count) == 20);
+    CHECK(count == 9 && block[0] == 7 && block[79] == 7);
+}
+
+static void test_written_names(void)
+{
+    static const char *const names[] = {"A",  "Z9",       "0",      "-",        "_",       "KIT",     "NAXIS1",  "ABCDEFGH", "DATE-OBS", "END1",
+                                        "EN", "COMMENTS", "COMMEN", "HISTORYS", "CONTINU", "XTENSIO", "HIERARC", "SIMPLE",   "________"};
+    for (size_t i = 0; i < sizeof names / sizeof names[0]; i++) {
+        char front[WIDREKAS_CARD + 1];
+        CHECK(snprintf(front, sizeof front, "%-8s=                   12 /c", names[i]) == 33);
+        struct wanted w = integer(12, "c");
+        w.name = names[i];
+        is_one(w, front);
+        CHECK(snprintf(front, sizeof front, "%-8s= '" X67 "&'", names[i]) == WIDREKAS_CARD);
+        w = string(X67 X10, "c");
+        w.name = names[i];
+        is_two(w, front, "CONTINUE  '" X10 "' /c");
+    }
+    static const char *const none[] = {"",     "COMMENT", "HISTORY", "END", "CONTINUE", "XTENSION", "HIERARCH", "ABCDEFGHI", "kit",
+                                       "KIT ", " KIT",    "A B",     "A.B", "K\tT",     "K\x7f",    "K\xff",    "A=",        "ABCDEFGHIJKLMNOP"};
+    for (size_t i = 0; i < sizeof none / sizeof none[0]; i++) {
+        /* The name is tested first, then the value. */
+        struct wanted all[] = {truth(1, NULL), string("a", "c"), string("a&", NULL), truth(1, "c "), decimal(0, "0", 0, NULL)};
+        for (size_t k = 0; k < sizeof all / sizeof all[0]; k++) {
+            all[k].name = none[i];
+            is_not_written(all[k], WIDREKAS_UNWRITABLE_NAME);
+        }
+    }
+    is_not_written(truth(1, " "), WIDREKAS_UNWRITABLE_VALUE);
+    is_not_written(truth(1, "c "), WIDREKAS_UNWRITABLE_VALUE);
+    is_not_written(string("a", "c  "), WIDREKAS_UNWRITABLE_VALUE);
+}
+
+/* What a kind does not have is not looked at, nor is a comment that is not there. */
+static void test_written_beside(void)
+{
+    static const struct {
+        size_t kind;
+        const char *front;
+    } rows[] = {{WIDREKAS_INTEGER, "K       =                   42"}, {WIDREKAS_LOGICAL, "K       =                    T"}};
+    static const uint8_t odd[] = {0xff, ' ', '&', ' '};
+    const uint8_t *name = (const uint8_t *)"K";
+    uint8_t block[WIDREKAS_CARD + 1];
+    size_t count;
+    for (size_t i = 0; i < sizeof rows / sizeof rows[0]; i++) {
+        uint8_t *expected = cards(&rows[i].front, 1);
+        memset(block, 7, sizeof block);
+        CHECK(widrekas_write(name, 1, rows[i].kind, 77, 42, odd, 4, 0, odd, 4, block, sizeof block, &count) == 0);
+        CHECK(count == 1 && memcmp(block, expected, WIDREKAS_CARD) == 0 && block[WIDREKAS_CARD] == 7);
+        free(expected);
+    }
+    const char *front = "K       = 'K' /K";
+    uint8_t *expected = cards(&front, 1);
+    CHECK(widrekas_write(name, 1, WIDREKAS_STRING, 77, INT64_MIN, name, 1, (size_t)-1, name, 1, block, WIDREKAS_CARD, &count) == 0);
+    CHECK(count == 1 && memcmp(block, expected, WIDREKAS_CARD) == 0 && block[WIDREKAS_CARD] == 7);
+    free(expected);
+}
+
 /* ---- doubles and words */
 
 /* The same double to the bit; any nan is the same as another of its sign. */
@@ -855,7 +1222,7 @@ static void test_meanings(void)
     for (int answer = 0; answer <= 255; answer++) {
         const char *words = widrekas_meaning((uint8_t)answer);
         CHECK(strlen(words) > 0 && strlen(words) <= 80);
-        int known = (answer <= WIDREKAS_BAD_CURSOR && answer != 11) || answer >= WIDREKAS_NOTHING_LEFT;
+        int known = (answer <= WIDREKAS_BLOCK_SHORT && answer != 11) || answer >= WIDREKAS_NOTHING_LEFT;
         CHECK((strcmp(words, "no such answer") == 0) == !known);
         for (int other = 0; known && other < answer; other++) {
             CHECK(strcmp(words, widrekas_meaning((uint8_t)other)) != 0);
@@ -1038,6 +1405,118 @@ static void test_random(void)
     }
 }
 
+/* Bytes of which most may stand in a text. */
+static void some_bytes(char *text, size_t length, const char *usual)
+{
+    size_t many = strlen(usual);
+    for (size_t i = 0; i < length; i++) {
+        text[i] = below(200) == 0 ? (char)(1 + below(255)) : usual[below(many)];
+    }
+    text[length] = 0;
+}
+
+static int all_printable(const char *text)
+{
+    for (; *text != 0; text++) {
+        if (*text < 32 || *text > 126) {
+            return 0;
+        }
+    }
+    return 1;
+}
+
+static int may_have_name(const char *name)
+{
+    static const char *const special[] = {"COMMENT", "HISTORY", "END", "CONTINUE", "XTENSION", "HIERARCH"};
+    for (size_t i = 0; i < sizeof special / sizeof special[0]; i++) {
+        if (strcmp(name, special[i]) == 0) {
+            return 0;
+        }
+    }
+    size_t length = strlen(name);
+    return 1 <= length && length <= 8 && strspn(name, "ABCDEFGHIJKLMNOPQRSTUVWXYZ0123456789-_") == length;
+}
+
+static int may_be_string(const char *text, const char *comment)
+{
+    size_t length = strlen(text);
+    char last = length > 0 ? text[length - 1] : 'x';
+    return all_printable(text) && length <= 2000 && last != '&' && (last != ' ' || length == 1) && (comment == NULL || strlen(comment) <= 65);
+}
+
+static int may_be_decimal(const char *digits, int64_t power)
+{
+    size_t length = strlen(digits);
+    if (length == 0) {
+        return power == 0;
+    }
+    return strspn(digits, "0123456789") == length && digits[0] != '0' && digits[length - 1] != '0' && -99999 <= power && power <= 99999;
+}
+
+/* What the rules say of a call with enough room: 0, 19 or 20. */
+static int by_the_rules(const struct wanted *w)
+{
+    size_t comment = w->comment != NULL ? strlen(w->comment) : 0, bytes = 20;
+    char number[40];
+    if (!may_have_name(w->name)) {
+        return WIDREKAS_UNWRITABLE_NAME;
+    }
+    if (w->comment != NULL && (!all_printable(w->comment) || (comment > 0 && w->comment[comment - 1] == ' '))) {
+        return WIDREKAS_UNWRITABLE_VALUE;
+    }
+    switch (w->kind) {
+    case WIDREKAS_INTEGER:
+    case WIDREKAS_LOGICAL: break;
+    case WIDREKAS_STRING: return may_be_string(w->text, w->comment) ? 0 : WIDREKAS_UNWRITABLE_VALUE;
+    case WIDREKAS_FINITE:
+        if (may_be_decimal(w->text, w->number)) {
+            size_t digits = w->text[0] == 0 ? 1 : strlen(w->text);
+            size_t all = (w->flag != 0) + digits + (size_t)snprintf(number, sizeof number, "E%lld", (long long)w->number);
+            bytes = all < 20 ? 20 : all;
+            break;
+        }
+        return WIDREKAS_UNWRITABLE_VALUE;
+    default: return WIDREKAS_UNWRITABLE_VALUE;
+    }
+    return bytes + (w->comment != NULL ? 2 + comment : 0) <= 70 ? 0 : WIDREKAS_UNWRITABLE_VALUE;
+}
+
+static void test_random_writing(void)
+{
+    static const size_t lengths[] = {1, 3, 10, 70, 140, 700, 2005};
+    static const char *const texts[] = {"1", "123456789", "0123456789", "ab'", "x", "'", "A &'", "FKM-75 '&/"};
+    static char name[12], text[2010], comment[80];
+    int seen[22] = {0};
+    for (int round = 0; round < 20000; round++) {
+        some_bytes(name, below(round % 4 == 0 ? 11 : 9), below(8) == 0 ? "END" : "KIT0-_Z");
+        some_bytes(text, below(lengths[below(7)]), texts[below(8)]);
+        some_bytes(comment, below(round % 3 == 0 ? 75 : 30), "[mm] ring/'&");
+        struct wanted w = {name, WIDREKAS_STRING, below(3), (int64_t)below(300) - 150, text, below(3) == 0 ? NULL : comment};
+        w.kind = below(8) == 0 ? below(10) : 1 + below(6);
+        if (below(4) == 0) {
+            w.number = below(2) == 0 ? (int64_t)state : (int64_t)below(200100) - 100050;
+        }
+        uint8_t *block, *other;
+        size_t count, many;
+        int rule = by_the_rules(&w);
+        CHECK(write_into(&w, WIDREKAS_BLOCK, &block, &count) == rule);
+        seen[rule]++;
+        for (int i = 0; i < 2; i++) {
+            size_t room = i == 0 ? below(WIDREKAS_BLOCK) : below(4) * WIDREKAS_CARD + below(2) * below(WIDREKAS_CARD);
+            int is_short = rule == 0 && room < count * WIDREKAS_CARD;
+            CHECK(write_into(&w, room, &other, &many) == (is_short ? WIDREKAS_BLOCK_SHORT : rule));
+            CHECK(rule != 0 || is_short || (many == count && memcmp(block, other, count * WIDREKAS_CARD) == 0));
+            seen[WIDREKAS_BLOCK_SHORT] += is_short;
+            free(other);
+        }
+        if (rule == 0) {
+            reads_back(&w, block, count);
+        }
+        free(block);
+    }
+    CHECK(seen[0] > 2000 && seen[19] > 500 && seen[20] > 2000 && seen[21] > 500);
+}
+
 int main(void)
 {
     CHECK(widrekas_version() == 2);
@@ -1049,11 +1528,17 @@ int main(void)
     test_entries();
     test_met();
     test_columns();
+    test_written_numbers();
+    test_written_strings();
+    test_written_bytes();
+    test_written_names();
+    test_written_beside();
     test_doubles();
     test_meanings();
     test_decode();
     test_tile_refusals();
     test_random();
+    test_random_writing();
     printf("%d checks\n", checks);
     return 0;
 }

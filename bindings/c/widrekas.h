@@ -1,7 +1,7 @@
 /*
- * Widrekas: FITS header cards, joined strings, keyword lookup and Rice tiles. What is proved of the exported functions below stands in
- * the project's docs/PROMISES.md; the names and meanings here are not checked against it. The two functions at the end, which are
- * static inline, are not proved.
+ * Widrekas: FITS header cards read and written, joined strings, keyword lookup and Rice tiles. What is proved of the exported functions
+ * below stands in the project's docs/PROMISES.md; the names and meanings here are not checked against it. The two functions at the end,
+ * which are static inline, are not proved.
  *
  * Link with libwidrekas.a (pkg-config: widrekas). The library uses memcpy and memset, no heap, no files and no state of its own, so it
  * may be called from any number of threads.
@@ -52,6 +52,9 @@ extern "C" {
 /* Room that is enough for any joined text or comment: 81 bytes for each of 720 cards. */
 #define WIDREKAS_ROOM 58320
 
+/* A block that is enough for whatever is written: 62 cards. */
+#define WIDREKAS_BLOCK 4960
+
 /* The limits of a tile: its pixels, the pixels of a block, its bytes. */
 #define WIDREKAS_MOST_PIXELS 1048576
 #define WIDREKAS_MOST_BLOCK 65536
@@ -94,7 +97,10 @@ enum widrekas_refusal {
     WIDREKAS_PIXEL_COUNT = 15,         /* the pixel slice is not nx long */
     WIDREKAS_TILE_ENDS = 16,           /* the tile ends before the bits asked for */
     WIDREKAS_FS_ABOVE_TOP = 17,        /* an FS field is above its top */
-    WIDREKAS_BAD_CURSOR = 18           /* the cursor is outside its rules */
+    WIDREKAS_BAD_CURSOR = 18,          /* the cursor is outside its rules */
+    WIDREKAS_UNWRITABLE_NAME = 19,     /* the name is not 1 to 8 of A to Z, 0 to 9, - and _, or is a special keyword */
+    WIDREKAS_UNWRITABLE_VALUE = 20,    /* the value or its comment is outside the rules for written cards */
+    WIDREKAS_BLOCK_SHORT = 21          /* the lent block is shorter than the cards for it */
 };
 
 /* The kinds of values. A card without a value has 0. */
@@ -241,6 +247,30 @@ uint8_t widrekas_lookup(const uint8_t *header, size_t header_length, const uint8
                         size_t digits_length, size_t *out, size_t out_length, int64_t *number, size_t *column);
 
 /*
+ * Writes the cards of a name and its value at the front of block, 80 bytes each, one behind the other.
+ *
+ * The value has the form in which widrekas_lookup gives it back: kind is one of enum widrekas_kind; number is the integer or a decimal's
+ * power of ten; flag is a logical's truth or a decimal's minus; text is a string's text or a decimal's digits. What a kind does not have
+ * is not looked at. commented says whether there is a comment, which may be empty; without one, comment is not looked at. flag and
+ * commented are false where they are 0, and any other number is true.
+ *
+ * 0: *count is the number of cards, 1 to 62, and what follows them in block stays. The first card bears the name, the others are
+ * CONTINUE cards of a string; the last has the comment, directly behind the slash. In an accepted header where these cards stand in order
+ * before END, with at most commentary between them, and no later card bears the name, widrekas_lookup answers the same kind, flag, number,
+ * digits, text and comment.
+ * 19: the name is not 1 to 8 bytes of A to Z, 0 to 9, hyphen and underscore, or is COMMENT, HISTORY, END, CONTINUE, XTENSION or HIERARCH.
+ * 20: a comment or string with a byte outside 32..126, or with a space at its end, where the string is not one space alone; a string of
+ * more than 2,000 bytes, or that ends in &; beside a string a comment of more than 65 bytes; a logical or number that with its comment
+ * passes byte 79; digits with another byte than 0 to 9 or with a zero at either end, a power beyond 99,999 in size, or one other than 0
+ * without digits; any other kind than an integer, a finite decimal, a logical and a string.
+ * 21: block_length is less than 80 bytes for each card; WIDREKAS_BLOCK bytes are always enough.
+ * All three, in this order, leave block and *count as they were.
+ */
+uint8_t widrekas_write(const uint8_t *name, size_t name_length, size_t kind, size_t flag, int64_t number, const uint8_t *text,
+                       size_t text_length, size_t commented, const uint8_t *comment, size_t comment_length, uint8_t *block,
+                       size_t block_length, size_t *count);
+
+/*
  * Opens a Rice tile of nx pixels in blocks of nblock, with pixels of 8, 16 or 32 bits.
  *
  * 0: *bit, *done and *last are the cursor at the first block: the next bit of the tile, the pixels done, the last pixel.
@@ -294,6 +324,9 @@ static inline const char *widrekas_meaning(uint8_t answer)
     case 16: return "the tile ends before its last pixel";
     case 17: return "an FS field of the tile is above its top";
     case 18: return "the cursor does not fit the tile";
+    case 19: return "the name is not 1 to 8 of A to Z, 0 to 9, - and _, or is a special keyword";
+    case 20: return "the value or its comment is outside the rules for written cards";
+    case 21: return "the block is shorter than the cards for it";
     case WIDREKAS_NOTHING_LEFT: return "nothing is left to step over";
     case WIDREKAS_WRONG_LENGTH: return "a lent slice has another length than the one asked for";
     default: return "no such answer";

@@ -14,7 +14,7 @@ const STAMP: &str = "libwidrekas.sources";
 const VERSION: &str = "2";
 
 /// What the archive must have beside `widrekas_version`.
-const FUNCTIONS: [&str; 10] = [
+const FUNCTIONS: [&str; 11] = [
     "widrekas_card",
     "widrekas_unit",
     "widrekas_header",
@@ -22,6 +22,7 @@ const FUNCTIONS: [&str; 10] = [
     "widrekas_name",
     "widrekas_entry",
     "widrekas_lookup",
+    "widrekas_write",
     "widrekas_open",
     "widrekas_step",
     "widrekas_decode",

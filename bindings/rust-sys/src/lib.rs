@@ -28,6 +28,9 @@ pub const NUMBERS: usize = 7;
 /// The bytes of an entry's digits.
 pub const DIGITS: usize = 80;
 
+/// The bytes of a block that is enough for whatever is written: 62 cards.
+pub const BLOCK: usize = 62 * CARD;
+
 /// The answer to a step where nothing is left.
 pub const NOTHING_LEFT: u8 = 254;
 
@@ -98,6 +101,21 @@ pub mod raw {
             out_room: usize,
             number: *mut i64,
             column: *mut usize,
+        ) -> u8;
+        pub fn widrekas_write(
+            name: *const u8,
+            name_len: usize,
+            kind: usize,
+            flag: usize,
+            number: i64,
+            text: *const u8,
+            text_len: usize,
+            commented: usize,
+            comment: *const u8,
+            comment_len: usize,
+            block: *mut u8,
+            room: usize,
+            count: *mut usize,
         ) -> u8;
         pub fn widrekas_open(
             tile: *const u8,
@@ -238,6 +256,43 @@ pub fn lookup(header: &[u8], name: &[u8], text: &mut [u8], comment: &mut [u8], t
             NUMBERS,
             &mut told.number,
             &mut told.column,
+        )
+    }
+}
+
+/// A value that is to be written, as `lookup` gives it back.
+#[derive(Clone, Copy, Debug)]
+pub struct Asked<'a> {
+    /// The kind: 1 an integer, 2 a decimal, 5 a logical, 6 a string. Any other is refused by 20.
+    pub kind: usize,
+    /// A logical's truth, or a decimal's minus.
+    pub flag: bool,
+    /// The integer, or a decimal's power of ten.
+    pub number: i64,
+    /// A string's text, or a decimal's digits.
+    pub text: &'a [u8],
+}
+
+/// Writes the cards of a name and its value at the front of a block, and counts them.
+pub fn write(name: &[u8], value: Asked, comment: Option<&[u8]>, block: &mut [u8], count: &mut usize) -> u8 {
+    let Asked { kind, flag, number, text } = value;
+    let (commented, comment) = (comment.is_some(), comment.unwrap_or_default());
+    // SAFETY: four live slices with their lengths, three of them only read, and a live number; all that is written is lent alone.
+    unsafe {
+        raw::widrekas_write(
+            name.as_ptr(),
+            name.len(),
+            kind,
+            usize::from(flag),
+            number,
+            text.as_ptr(),
+            text.len(),
+            usize::from(commented),
+            comment.as_ptr(),
+            comment.len(),
+            block.as_mut_ptr(),
+            block.len(),
+            count,
         )
     }
 }

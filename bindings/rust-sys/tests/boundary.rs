@@ -1,6 +1,6 @@
 //! Every function of the boundary answers, and leaves what it says it leaves.
 
-use widrekas_sys::{self as boundary, Stepping, Told, CARD, NOTHING_LEFT, PLACES, RECORD, WRONG_LENGTH};
+use widrekas_sys::{self as boundary, Asked, Stepping, Told, BLOCK, CARD, NOTHING_LEFT, PLACES, RECORD, WRONG_LENGTH};
 
 /// No byte of a card: a column that is left as it was.
 const KEPT: usize = 1000;
@@ -110,6 +110,44 @@ fn where_the_end_stands_and_the_name_at_a_card() {
     assert_eq!(column, KEPT);
     assert_eq!(boundary::name(&header, 4, &mut name, &mut length, &mut column), 3);
     assert_eq!((&name, length, column), (b"A.B.", 3, 10));
+}
+
+#[test]
+fn cards_are_written_and_read_back() {
+    let string = Asked { kind: 6, flag: false, number: 0, text: b"FKM-75" };
+    let (mut block, mut count) = ([7; CARD + 1], 9);
+    assert_eq!((boundary::write(b"KIT", string, Some(b"ring"), &mut block, &mut count), count), (0, 1));
+    assert_eq!((&block[..CARD], block[CARD]), (&cards(&["KIT     = 'FKM-75' /ring"])[..], 7));
+    let decimal = Asked { kind: 2, flag: true, number: -1, text: b"15" };
+    assert_eq!((boundary::write(b"SIZE", decimal, None, &mut block, &mut count), count), (0, 1));
+    assert_eq!((&block[..CARD], block[CARD]), (&cards(&["SIZE    =               -15E-1"])[..], 7));
+    // 2,000 quotes with the longest comment fill the largest block.
+    let quotes = Asked { kind: 6, flag: false, number: 0, text: &[b'\''; 2000] };
+    let mut block = [7; BLOCK + 1];
+    assert_eq!((boundary::write(b"KIT", quotes, Some(&[b'c'; 65]), &mut block, &mut count), count), (0, 62));
+    assert_eq!(block[BLOCK], 7);
+    let header = [&block[..BLOCK], &cards(&["END"])].concat();
+    let (mut text, mut comment, mut told) = ([0; 2000], [0; 65], Told::default());
+    assert_eq!(boundary::lookup(&header, b"KIT", &mut text, &mut comment, &mut told), 0);
+    assert_eq!((text, comment, told.out), ([b'\''; 2000], [b'c'; 65], [0, 6, 0, 1, 2000, 65, 0]));
+}
+
+#[test]
+fn what_is_not_written_leaves_block_and_count() {
+    let truth = Asked { kind: 5, flag: true, number: 0, text: b"" };
+    let (mut block, mut count) = ([7; CARD], 9);
+    for (name, value, comment, room, answer) in [
+        (&b"kit"[..], truth, None, 0, 19),
+        (b"END", Asked { kind: 7, ..truth }, None, CARD, 19),
+        (b"KIT", Asked { kind: 7, ..truth }, None, 0, 20),
+        (b"KIT", Asked { kind: usize::MAX, ..truth }, None, CARD, 20),
+        (b"KIT", truth, Some(&b" "[..]), 0, 20),
+        (b"KIT", truth, Some(b""), CARD - 1, 21),
+    ] {
+        assert_eq!(boundary::write(name, value, comment, &mut block[..room], &mut count), answer);
+        assert_eq!((block, count), ([7; CARD], 9));
+    }
+    assert_eq!((boundary::write(b"KIT", truth, None, &mut block, &mut count), count), (0, 1));
 }
 
 #[test]
