@@ -19,24 +19,6 @@ use std::path::Path;
 use std::process::ExitCode;
 use widrekas_sys::{self as boundary, Told};
 
-extern "C" {
-    fn widrekas_write(
-        name: *const u8,
-        name_length: usize,
-        kind: usize,
-        flag: usize,
-        number: i64,
-        text: *const u8,
-        text_length: usize,
-        commented: usize,
-        comment: *const u8,
-        comment_length: usize,
-        block: *mut u8,
-        block_length: usize,
-        count: *mut usize,
-    ) -> u8;
-}
-
 /// The kinds as the boundary numbers them.
 const INTEGER: usize = 1;
 const FINITE: usize = 2;
@@ -71,14 +53,30 @@ const SPECIAL: [&str; 6] = ["COMMENT", "HISTORY", "END", "CONTINUE", "XTENSION",
 
 /// Names at the edges of the rules.
 const ODD_NAMES: [&str; 14] = [
-    "-", "_", "0", "--------", "________", "END1", "END-", "E", "COMMENT1", "HISTORY-", "CONTINU", "HIERARC", "XTENSIO",
-    "1E5",
+    "-", "_", "0", "--------", "________", "END1", "END-", "E", "COMMENT1", "HISTORY-", "CONTINU", "HIERARC",
+    "XTENSIO", "1E5",
 ];
 
 /// Strings that look like something else.
 const PHRASES: [&str; 18] = [
-    "a: 1", "AXIS.1: 2.5", "T", "F", "1", "1.5E3", "(1, 2)", "END", "CONTINUE", "= 1", "'", "''", "/", "' /", "'/", "&'",
-    " ", "  a",
+    "a: 1",
+    "AXIS.1: 2.5",
+    "T",
+    "F",
+    "1",
+    "1.5E3",
+    "(1, 2)",
+    "END",
+    "CONTINUE",
+    "= 1",
+    "'",
+    "''",
+    "/",
+    "' /",
+    "'/",
+    "&'",
+    " ",
+    "  a",
 ];
 
 #[derive(Clone)]
@@ -155,26 +153,9 @@ impl Asked {
             Value::Decimal(minus, digits, power) => (FINITE, *minus, *power, digits.as_bytes()),
             Value::Text(text) => (STRING, false, 0, text),
         };
-        let comment: &[u8] = self.comment.as_deref().unwrap_or_default();
         let (mut block, mut count) = (vec![BEFORE; MOST], 0);
-        // SAFETY: live slices with their lengths and a live number; what is written is lent alone.
-        let answer = unsafe {
-            widrekas_write(
-                self.name.as_ptr(),
-                self.name.len(),
-                kind,
-                usize::from(flag),
-                number,
-                text.as_ptr(),
-                text.len(),
-                usize::from(self.comment.is_some()),
-                comment.as_ptr(),
-                comment.len(),
-                block.as_mut_ptr(),
-                block.len(),
-                &mut count,
-            )
-        };
+        let value = boundary::Asked { kind, flag, number, text };
+        let answer = boundary::write(self.name.as_bytes(), value, self.comment.as_deref(), &mut block, &mut count);
         assert!(answer == 0, "refused {answer}: {}", self.line());
         let behind = block.split_off(count * CARD);
         assert!(behind.iter().all(|&byte| byte == BEFORE), "written behind its cards: {}", self.line());
@@ -304,7 +285,10 @@ impl Maker {
     /// So many digits, a zero at neither end.
     fn digits(&mut self, many: usize) -> String {
         let ends = [0, many - 1];
-        (0..many).map(|at| self.of(if ends.contains(&at) { b"123456789" } else { b"0123456789" })).map(char::from).collect()
+        (0..many)
+            .map(|at| self.of(if ends.contains(&at) { b"123456789" } else { b"0123456789" }))
+            .map(char::from)
+            .collect()
     }
 
     fn decimal(&mut self) -> Value {
