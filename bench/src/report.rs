@@ -196,7 +196,8 @@ fn worst_cases(text: &mut String, figures: &Figures) -> std::fmt::Result {
          the ordinary input, in time (of the medians) and in instructions. Every header has 720 cards, of which CFITSIO wants the first three.\n\
          Open strings: every card is `'&'`. One string: over 716 cards, each full. Refused cards: every one has a complex value. Names that\n\
          are slow to tell apart are made by `bench/slow_names.py`. One name is a string out of the bytes. Read on is `Header::read_on`, for fitsrs\n\
-         its file reader with undefined cards, for CFITSIO the list. Write is a string of 2,000 bytes. Tiles are rows of 4,096.\n"
+         its file reader with undefined cards, for CFITSIO the list. Write is a string of 2,000 bytes;\n\
+         CFITSIO's `fits_update_key_longstr` does not return on the quotes. Tiles are rows of 4,096.\n"
     )?;
     writeln!(
         text,
@@ -259,7 +260,8 @@ fn text(figures: &Figures) -> Result<String, std::fmt::Error> {
         format!("faster than fitsrs in {a} and than CFITSIO in {b} of {all} jobs")
     };
     writeln!(all, "Rice tiles: {}. Headers read whole: {}.", counts(&["rows", "large"]), counts(&["headers"]))?;
-    writeln!(all, "Lookups: {}.\n", counts(&["lookups"]))?;
+    let (fast, written) = faster(figures, &[writing::GROUP], "cfitsio");
+    writeln!(all, "Lookups: {}. Writing: faster than CFITSIO in {fast} of {written} jobs.\n", counts(&["lookups"]))?;
     aims(all, figures)?;
     tiles(all, figures)?;
     writeln!(

@@ -1,7 +1,6 @@
 //! One value, written as cards.
 
 use crate::cfitsio::{self, Opened};
-use crate::headers;
 use crate::job::{Job, Side, Spec};
 use crate::ours::{self, Lent};
 use std::ffi::CString;
@@ -33,6 +32,7 @@ enum Value {
 
 /// A value, and where each side puts it.
 struct Writing {
+    sides: &'static [Side],
     value: Value,
     comment: String,
     units: usize,
@@ -49,9 +49,10 @@ struct Writing {
 }
 
 impl Writing {
-    fn new(value: Value, comment: &str, units: usize) -> Self {
+    fn new(sides: &'static [Side], value: Value, comment: &str, units: usize) -> Self {
         let text = if let Value::Text(text) = &value { text.as_str() } else { "" };
         let mut writing = Writing {
+            sides,
             comment: comment.into(),
             units,
             block: vec![0; MOST],
@@ -64,8 +65,10 @@ impl Writing {
             lent: Lent::new(),
             value,
         };
-        writing.cfitsio();
-        writing.cards = writing.file.cards();
+        if sides.contains(&Side::Cfitsio) {
+            writing.cfitsio();
+            writing.cards = writing.file.cards();
+        }
         writing
     }
 
@@ -77,6 +80,15 @@ impl Writing {
         };
         let value = black_box(Asked { kind, flag: false, number, text });
         self.count = ours::write(NAME.as_bytes(), value, self.comment.as_bytes(), black_box(&mut self.block));
+    }
+
+    fn check_cfitsio(&mut self) {
+        let same = match &self.value {
+            Value::Integer(asked) => self.file.integer(&self.name) == *asked,
+            Value::Decimal => self.file.float(&self.name).to_bits() == DOUBLE.to_bits(),
+            Value::Text(asked) => self.file.string(&self.name) == asked.as_bytes(),
+        };
+        assert!(same && self.file.cards() == self.cards, "CFITSIO's is not what was asked");
     }
 
     fn cfitsio(&mut self) {
@@ -94,7 +106,7 @@ impl Job for Writing {
     }
 
     fn sides(&self) -> &'static [Side] {
-        &[Side::Ours, Side::Cfitsio]
+        self.sides
     }
 
     fn run(&mut self, side: Side) {
@@ -111,50 +123,55 @@ impl Job for Writing {
         header.extend(format!("{:80}", "END").bytes());
         assert!(self.lent.lookup(&header, NAME) == 0, "our reading of what was written");
         let (number, text, _) = self.lent.told();
-        let (ours, theirs) = match &self.value {
-            Value::Integer(asked) => (number == *asked, self.file.integer(&self.name) == *asked),
-            Value::Decimal => {
-                let same = self.lent.decimal() == (false, DIGITS) && number == POWER;
-                (same, self.file.float(&self.name).to_bits() == DOUBLE.to_bits())
-            }
-            Value::Text(asked) => (text == asked.as_bytes(), self.file.string(&self.name) == asked.as_bytes()),
+        let same = match &self.value {
+            Value::Integer(asked) => number == *asked,
+            Value::Decimal => self.lent.decimal() == (false, DIGITS) && number == POWER,
+            Value::Text(asked) => text == asked.as_bytes(),
         };
-        assert!(ours && self.lent.comment() == self.comment.as_bytes(), "ours is not what was asked");
-        assert!(theirs && self.file.cards() == self.cards, "CFITSIO's is not what was asked");
+        assert!(same && self.lent.comment() == self.comment.as_bytes(), "ours is not what was asked");
+        if self.sides.contains(&Side::Cfitsio) {
+            self.check_cfitsio();
+        }
         self.block.fill(b'?');
         self.count = 0;
     }
 }
 
-fn spec(group: &'static str, name: &str, unit: &'static str, value: Value, comment: &str) -> Spec {
-    let units = match &value {
-        Value::Text(text) if unit == "byte" => text.len(),
-        _ => 1,
+/// Ours, and CFITSIO.
+const BOTH: &[Side] = &[Side::Ours, Side::Cfitsio];
+
+fn spec(group: &'static str, name: &str, sides: &'static [Side], value: Value, comment: &str) -> Spec {
+    // What is slow is told by bytes.
+    let (unit, units) = match &value {
+        Value::Text(text) if group != GROUP => ("byte", text.len()),
+        _ => ("call", 1),
     };
     let comment = comment.to_string();
-    let make = move || -> Box<dyn Job> { Box::new(Writing::new(value.clone(), &comment, units)) };
+    let make = move || -> Box<dyn Job> { Box::new(Writing::new(sides, value.clone(), &comment, units)) };
     Spec { group, name: name.into(), unit, make: Box::new(make) }
 }
 
 /// Words, so many bytes of them.
 fn words(bytes: usize) -> Value {
-    Value::Text("FKM ring, cord 3.53, hardness 75 shore, kit 1;  ".bytes().cycle().take(bytes).map(char::from).collect())
+    Value::Text(
+        "FKM ring, cord 3.53, hardness 75 shore, kit 1;  ".bytes().cycle().take(bytes).map(char::from).collect(),
+    )
 }
 
 /// The jobs.
 pub fn specs() -> Vec<Spec> {
     vec![
-        spec(GROUP, "a string of 180 bytes, 3 cards", "call", words(180), "the kit"),
-        spec(GROUP, "an integer", "call", Value::Integer(-4711), "the depth"),
-        spec(GROUP, "a decimal of 15 digits", "call", Value::Decimal, "the depth"),
+        spec(GROUP, "a string of 180 bytes, 3 cards", BOTH, words(180), "the kit"),
+        spec(GROUP, "an integer", BOTH, Value::Integer(-4711), "the depth"),
+        spec(GROUP, "a decimal of 15 digits", BOTH, Value::Decimal, "the depth"),
     ]
 }
 
-/// The string that takes the most cards, beside an ordinary one.
+/// The string that takes the most cards, beside an ordinary one. On the quotes CFITSIO 4.2 does not return.
 pub fn slow(group: &'static str) -> Vec<Spec> {
     let quotes = Value::Text("'".repeat(2000));
     vec![
-        spec(group, "write: an ordinary string of 30 cards", "byte", words(2000), "the kit"),
-        spec(group, "write: quotes alone, a comment of 65 bytes, 62 cards", "byte", quotes, &"c".repeat(65)),
+        spec(group, "write: an ordinary string of 30 cards", BOTH, words(2000), "the kit"),
+        spec(group, "write: quotes alone, a comment of 65 bytes, 62 cards", &[Side::Ours], quotes, &"c".repeat(65)),
     ]
 }
