@@ -19,11 +19,11 @@
  *   every other answer leaves it as it was.
  *
  * Stack. What a call takes of its caller's stack, as measured, up to the next hundred bytes: widrekas_list 79,200, widrekas_lookup
- * 62,500, widrekas_entry 62,200, widrekas_header 3,300, widrekas_name 3,200, widrekas_card 3,100, widrekas_decode and widrekas_step
- * 1,000, the others 200. stack.c measures it on x86-64 Linux: each call runs in a thread whose stack was painted before, over strings
- * of up to 720 cards, 1,000 headers at random and tiles of each width. It holds the list below 80 KiB, lookup and entry below 64, and
- * the others below 4. valgrind's massif sees the same of a lookup and a list. The loader takes some 2 KiB more where it binds memcpy
- * at the first call.
+ * 62,600, widrekas_entry 62,200, widrekas_header 3,300, widrekas_name 3,200, widrekas_card 3,100, widrekas_decode and widrekas_step
+ * 1,000, widrekas_write 800, the others 200. stack.c measures it on x86-64 Linux: each call runs in a thread whose stack was painted
+ * before, over strings of up to 720 cards, 1,000 headers and 400 values at random and tiles of each width. It holds the list below
+ * 80 KiB, lookup and entry below 64, and the others below 4. valgrind's massif sees the same of a lookup and a list. The loader takes
+ * some 2 KiB more where it binds memcpy at the first call.
  */
 #ifndef WIDREKAS_H
 #define WIDREKAS_H
@@ -256,13 +256,15 @@ uint8_t widrekas_lookup(const uint8_t *header, size_t header_length, const uint8
  *
  * 0: *count is the number of cards, 1 to 62, and what follows them in block stays. The first card bears the name, the others are
  * CONTINUE cards of a string; the last has the comment, directly behind the slash. In an accepted header where these cards stand in order
- * before END, with at most commentary between them, and no later card bears the name, widrekas_lookup answers the same kind, flag, number,
- * digits, text and comment.
+ * before END, with at most commentary between them, and no later card bears the name, widrekas_lookup answers the same kind, the same
+ * comment, and what the kind has of flag, number, digits and text.
+ * In a header the cards may take the places of all cards of the name, equally many and in their order: its entries, and the CONTINUE
+ * cards joined to them. If between these places stands commentary alone, every other name is answered as before.
  * 19: the name is not 1 to 8 bytes of A to Z, 0 to 9, hyphen and underscore, or is COMMENT, HISTORY, END, CONTINUE, XTENSION or HIERARCH.
- * 20: a comment or string with a byte outside 32..126, or with a space at its end, where the string is not one space alone; a string of
- * more than 2,000 bytes, or that ends in &; beside a string a comment of more than 65 bytes; a logical or number that with its comment
- * passes byte 79; digits with another byte than 0 to 9 or with a zero at either end, a power beyond 99,999 in size, or one other than 0
- * without digits; any other kind than an integer, a finite decimal, a logical and a string.
+ * 20: the comment or a string has a byte outside 32..126 or a space at its end; a string of one space is accepted. A string has more than
+ * 2,000 bytes, ends in &, or stands beside a comment of more than 65. A logical or number with its comment passes byte 79. A decimal's
+ * digits have another byte than 0 to 9 or a zero at either end; its power is beyond 99,999 in size, or is not 0 where there are no digits.
+ * The kind is none of integer, finite, logical and string.
  * 21: block_length is less than 80 bytes for each card; WIDREKAS_BLOCK bytes are always enough.
  * All three, in this order, leave block and *count as they were.
  */

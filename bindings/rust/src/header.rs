@@ -10,8 +10,10 @@ use std::{fmt, slice};
 use widrekas_sys::{self as boundary, Told, CARD, PLACES};
 
 mod read_on;
+mod replacing;
 
 pub use read_on::ReadOn;
+pub use replacing::NotReplaced;
 
 /// The bytes of the longest header: 720 cards.
 pub const LONGEST: usize = PLACES * CARD;

@@ -1,9 +1,9 @@
-//! Refusals: why an input was not read, at which card, and at which byte of it.
+//! Refusals: why an input was not read or a value not written, at which card, and at which byte of it.
 
 use std::fmt;
 
-/// Why an input was not read: the refusals of the project's docs/REFUSALS.md, by their names and numbers. 11 is a gap: it would say
-/// that the name table is full, and no header can fill it.
+/// Why an input was not read or a value not written: the refusals of the project's docs/REFUSALS.md, by their names and numbers. 11 is
+/// a gap: it would say that the name table is full, and no header can fill it.
 #[derive(Clone, Copy, Debug, PartialEq, Eq, PartialOrd, Ord, Hash)]
 #[non_exhaustive]
 pub enum Reason {
@@ -41,11 +41,18 @@ pub enum Reason {
     FsAboveTop = 17,
     /// A cursor is outside its rules.
     BadCursor = 18,
+    /// A name that is to be written is not 1 to 8 of A to Z, 0 to 9, hyphen and underscore, or is one of COMMENT, HISTORY, END,
+    /// CONTINUE, XTENSION and HIERARCH.
+    UnwritableName = 19,
+    /// A value that is to be written, or its comment, is outside the rules for written cards: see [`write`](crate::write).
+    UnwritableValue = 20,
+    /// The lent block is shorter than the cards for it. This crate lends enough.
+    BlockShort = 21,
 }
 
 impl Reason {
     /// All of them, in the order of their numbers.
-    const ALL: [Reason; 17] = [
+    const ALL: [Reason; 20] = [
         Reason::HighByte,
         Reason::OddByte,
         Reason::StringNotClosed,
@@ -63,14 +70,17 @@ impl Reason {
         Reason::TileEnds,
         Reason::FsAboveTop,
         Reason::BadCursor,
+        Reason::UnwritableName,
+        Reason::UnwritableValue,
+        Reason::BlockShort,
     ];
 
-    /// The reason with a number, 1 to 18 without 11; none for any other.
+    /// The reason with a number, 1 to 21 without 11; none for any other.
     pub fn from_number(number: u8) -> Option<Reason> {
         Reason::ALL.into_iter().find(|reason| reason.number() == number)
     }
 
-    /// The number, 1 to 18 without 11.
+    /// The number, 1 to 21 without 11.
     pub fn number(self) -> u8 {
         self as u8
     }
@@ -95,6 +105,9 @@ impl Reason {
             Reason::TileEnds => "the tile ends before its last pixel",
             Reason::FsAboveTop => "an FS field of the tile is above its top",
             Reason::BadCursor => "the cursor does not fit the tile",
+            Reason::UnwritableName => "the name is not 1 to 8 of A to Z, 0 to 9, - and _, or is a special keyword",
+            Reason::UnwritableValue => "the value or its comment is outside the rules for written cards",
+            Reason::BlockShort => "the block is shorter than the cards for it",
         }
     }
 }
@@ -145,12 +158,12 @@ impl Refusal {
         Refusal { column: (self.reason <= Reason::ExtensionNotQuoted).then_some(column), ..self }
     }
 
-    /// Why the input was not read.
+    /// Why the input was not read, or the value not written.
     pub fn reason(&self) -> Reason {
         self.reason
     }
 
-    /// The reason's number, 1 to 18 without 11.
+    /// The reason's number, 1 to 21 without 11.
     pub fn number(&self) -> u8 {
         self.reason.number()
     }

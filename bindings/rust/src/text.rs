@@ -9,6 +9,9 @@ use std::ops::Deref;
 /// Every byte of an accepted card is below 128 ([`HighByte`](crate::Reason::HighByte)), so a text is ASCII and is a `str`. It gives
 /// one without a test: `&*text`, [`Text::as_str`], `String::from(text)`; and `entry.comment.as_deref()` is an `Option<&str>`.
 ///
+/// A program can make a text of any `str`: `Text::from("FKM-75")`. Such a text need not be ASCII, and [`write`](crate::write) says
+/// whether it can stand on cards.
+///
 /// In a string or a comment, the byte 127 stands for a character that FITS does not allow, and in a comment byte 10 for the seam
 /// between two cards. A name and an [invalid](crate::Value::Invalid) text may have any byte below 128, a line feed or ESC too:
 /// `{:?}` shows those escaped, `{}` as they stand.
@@ -69,6 +72,20 @@ impl AsRef<[u8]> for Text {
 impl Borrow<str> for Text {
     fn borrow(&self) -> &str {
         &self.0
+    }
+}
+
+/// The text of a `str`, whatever its characters are.
+impl From<&str> for Text {
+    fn from(text: &str) -> Text {
+        Text(text.to_owned())
+    }
+}
+
+/// The text of a `String`, taken over.
+impl From<String> for Text {
+    fn from(text: String) -> Text {
+        Text(text)
     }
 }
 

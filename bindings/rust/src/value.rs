@@ -3,8 +3,10 @@
 use crate::decimal::{Decimal, Size};
 use crate::text::Text;
 use std::fmt;
+use widrekas_sys::Asked;
 
-/// The value of a card, of one of six kinds.
+/// The value of a card, of one of six kinds. An `i64`, a `bool`, a `str`, a `String`, an `f64`, a [`Text`] and a [`Decimal`] can be made
+/// one by `into()`, for [`write`](crate::write).
 #[derive(Clone, Debug, PartialEq, Eq)]
 pub enum Value {
     /// FITS Standard 4.0, section 4.2.3: an integer that fits 64 signed bits.
@@ -33,6 +35,29 @@ impl Value {
             6 => Value::String(Text::new(text)),
             7 => Value::Undefined,
             _ => Value::Invalid(Text::new(text)),
+        }
+    }
+
+    /// The value by its kind's number, with what stands beside it.
+    pub(crate) fn asked(&self) -> Asked<'_> {
+        let (kind, flag, number, text): (_, _, _, &[u8]) = match self {
+            Value::Integer(number) => (1, false, *number, b""),
+            Value::Float(decimal) if decimal.is_infinite() => (3, decimal.is_negative(), 0, b""),
+            Value::Float(decimal) if decimal.is_nan() => (4, decimal.is_negative(), 0, b""),
+            Value::Float(decimal) => (2, decimal.is_negative(), decimal.power(), decimal.digits()),
+            Value::Logical(truth) => (5, *truth, 0, b""),
+            Value::String(text) => (6, false, 0, text.as_bytes()),
+            Value::Undefined => (7, false, 0, b""),
+            Value::Invalid(text) => (8, false, 0, text.as_bytes()),
+        };
+        Asked { kind, flag, number, text }
+    }
+
+    /// The text, taken over, of a string alone.
+    pub(crate) fn into_string(self) -> Option<String> {
+        match self {
+            Value::String(text) => Some(text.into()),
+            _ => None,
         }
     }
 
@@ -67,6 +92,49 @@ impl Value {
             Value::String(text) => Some(text),
             _ => None,
         }
+    }
+}
+
+impl From<i64> for Value {
+    fn from(number: i64) -> Value {
+        Value::Integer(number)
+    }
+}
+
+impl From<bool> for Value {
+    fn from(truth: bool) -> Value {
+        Value::Logical(truth)
+    }
+}
+
+/// The shortest decimal that reads back as the same float: [`Decimal::from`].
+impl From<f64> for Value {
+    fn from(float: f64) -> Value {
+        Value::Float(float.into())
+    }
+}
+
+impl From<Decimal> for Value {
+    fn from(decimal: Decimal) -> Value {
+        Value::Float(decimal)
+    }
+}
+
+impl From<&str> for Value {
+    fn from(text: &str) -> Value {
+        Value::String(text.into())
+    }
+}
+
+impl From<String> for Value {
+    fn from(text: String) -> Value {
+        Value::String(text.into())
+    }
+}
+
+impl From<Text> for Value {
+    fn from(text: Text) -> Value {
+        Value::String(text)
     }
 }
 

@@ -22,11 +22,11 @@ fn rows() -> Vec<(u8, String, String)> {
 
 #[test]
 fn reasons_have_the_numbers_names_and_words_of_the_page() {
-    let reasons: Vec<Reason> = (1..=18).filter_map(Reason::from_number).collect();
+    let reasons: Vec<Reason> = (1..=21).filter_map(Reason::from_number).collect();
     let row = |reason: &Reason| (reason.number(), format!("{reason:?}"), reason.meaning().to_string());
     assert_eq!(reasons.iter().map(row).collect::<Vec<_>>(), rows());
-    assert_eq!([0, 11, 19, 254, 255].map(Reason::from_number), [None; 5]);
-    assert_eq!(reasons.iter().map(|reason| reason.meaning()).collect::<HashSet<_>>().len(), 17);
+    assert_eq!([0, 11, 22, 254, 255].map(Reason::from_number), [None; 5]);
+    assert_eq!(reasons.iter().map(|reason| reason.meaning()).collect::<HashSet<_>>().len(), 20);
     for reason in reasons {
         assert!(!reason.meaning().is_empty() && reason.meaning().len() <= 80);
         assert_eq!(reason.to_string(), format!("refused {}: {}", reason.number(), reason.meaning()));

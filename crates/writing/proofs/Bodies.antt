@@ -45,7 +45,8 @@ continued-is : (p : Piece) → cardFrom continueFront (pieceText p) ≡ continue
 continued-is p = card-is continueFront (pieceText p) refl
 
 -- a body, and the front of the card behind it
-pub bodies-next : (p : Piece) (ps : List Piece) → 1 ≤ length ps → bodiesOf (p ∷ ps) ≡ (bodyOf (pieceText p) ++ continueFront) ++ bodiesOf ps
+pub bodies-next : (p : Piece) (ps : List Piece) → 1 ≤ length ps
+    → bodiesOf (p ∷ ps) ≡ (bodyOf (pieceText p) ++ continueFront) ++ bodiesOf ps
 unfolding flat
 bodies-next p [] h = absurd (omega arith)
 bodies-next p (q ∷ qs) h =
@@ -82,7 +83,8 @@ pieces-fit c short (suc k) s h =
     go true e later = fit-also (leb-true (length (pieceText (lastPiece s c))) 70 e) fit-none
     go false e later = fit-also (open-fits s) later
 
-others-length : {ps : List Piece} → Fit ps → length (flat (map (λ (q : Piece). cardFrom continueFront (pieceText q)) ps)) ≡ 80 * length ps
+others-length : {ps : List Piece} → Fit ps
+    → length (flat (map (λ (q : Piece). cardFrom continueFront (pieceText q)) ps)) ≡ 80 * length ps
 unfolding flat
 others-length fit-none = refl
 others-length (fit-also {p} {ps} h f) =
@@ -103,7 +105,8 @@ string-length name s c h short = go (piecesOf s c) (pieces-fit c short (length s
         let others = flat (map (λ (q : Piece). cardFrom continueFront (pieceText q)) ps) in
         let card = cardFrom (nameFront name) (pieceText p) in
         let parts = length-append (nameFront name) (bodyOf (pieceText p)) in
-        let long : length card ≡ 80 = ap length (name-card name (pieceText p) h) ∙ omega (arith, parts, front-length name h, body-length (pieceText p) few) in
+        let long : length card ≡ 80 =
+        ap length (name-card name (pieceText p) h) ∙ omega (arith, parts, front-length name h, body-length (pieceText p) few) in
         omega (arith, length-append card others, long, others-length f)
 
 -- ---- one body after another
@@ -116,11 +119,13 @@ pub record Going (s : List ℕ) (c : Comment) (block₀ block : List ℕ) (i at 
   pub long : length block ≡ length block₀
   pub stored : sets block at (bodiesOf (piecesOf (drop i s) c)) ≡ sets block₀ 10 (bodiesOf (piecesOf s c))
 
-pub goes : (s : List ℕ) (c : Comment) (block : List ℕ) {n : ℕ} → n ≡ length (piecesOf s c) → 80 * n ≤ length block → Going s c block block 0 10 n
+pub goes : (s : List ℕ) (c : Comment) (block : List ℕ) {n : ℕ} → n ≡ length (piecesOf s c) → 80 * n ≤ length block
+    → Going s c block block 0 10 n
 goes s c block e h = record { within = omega arith; count = e; room = omega arith; long = refl; stored = refl }
 
 module _ {s : List ℕ} {c : Comment} {block₀ block : List ℕ} {i at left : ℕ} (g : Going s c block₀ block i at left) where
-  pub goes-on : {next : List ℕ} {k : ℕ} → k ≡ length (fitting openRoom (drop i s)) → 1 < left → (o : Opened c s i) → length next ≡ length block
+  pub goes-on : {next : List ℕ} {k : ℕ} → k ≡ length (fitting openRoom (drop i s)) → 1 < left → (o : Opened c s i)
+      → length next ≡ length block
       → next ≡ sets block at (bodyOf (pieceText (openPiece (drop i s))) ++ continueFront)
       → Going s c block₀ next (i + k) (at + 80) (left - 1)
   goes-on {next} {k} taken more o same put =
@@ -128,7 +133,8 @@ module _ {s : List ℕ} {c : Comment} {block₀ block : List ℕ} {i at left : �
       let front = bodyOf (pieceText p) ++ continueFront in
       let later = piecesOf (drop (i + length (fitting openRoom (drop i s))) s) c in
       let count : left ≡ suc (length later) = g .count ∙ ap length (o .pieces) in
-      let eighty : length front ≡ 80 = omega (arith, length-append (bodyOf (pieceText p)) continueFront, body-length (pieceText p) (open-fits (drop i s))) in
+      let eighty : length front ≡ 80 =
+      omega (arith, length-append (bodyOf (pieceText p)) continueFront, body-length (pieceText p) (open-fits (drop i s))) in
       subst
       (λ (n : ℕ). Going s c block₀ next (i + n) (at + 80) (left - 1))
       (sym taken)
@@ -143,7 +149,8 @@ module _ {s : List ℕ} {c : Comment} {block₀ block : List ℕ} {i at left : �
             ∙ g .stored;
       })
 
-  pub went : length (tailOf c) ≤ 67 → {end : List ℕ} → left ≤ 1 → end ≡ sets block at (bodyOf (pieceText (lastPiece (drop i s) c)))
+  pub went : length (tailOf c) ≤ 67 → {end : List ℕ} → left ≤ 1
+      → end ≡ sets block at (bodyOf (pieceText (lastPiece (drop i s) c)))
       → end ≡ sets block₀ 10 (bodiesOf (piecesOf s c))
   unfolding flat
   went short few put =

@@ -105,7 +105,9 @@ module _ (c : Comment) (short : length (tailOf c) ≤ 67) where
   pieces-open [] e = absurd (true≢false (sym (none-fits [] (omega arith)) ∙ e))
   pieces-open (b ∷ s) e =
       let less = leftover-less openRoom (b ∷ s) (omega arith) (λ h. omega (arith, h)) in
-      rw e (ap (λ (l : List Piece). openPiece (b ∷ s) ∷ l) (alike (length s) (length (leftover openRoom (b ∷ s))) (leftover openRoom (b ∷ s)) (omega (arith, less)) (omega arith)))
+      let rest = leftover openRoom (b ∷ s) in
+      let enough = alike (length s) (length rest) rest (omega (arith, less)) (omega arith) in
+      rw e (ap (λ (l : List Piece). openPiece (b ∷ s) ∷ l) enough)
 
   -- there is a piece
   pub pieces-some : (s : List ℕ) → 1 ≤ length (piecesOf s c)
@@ -145,7 +147,8 @@ module _ (c : Comment) (short : length (tailOf c) ≤ 67) where
   pub counts : (s : List ℕ) → Counted c s 0 1
   counts s = record { within = omega arith; few = omega arith; count = refl }
 
-  pub counts-on : {s : List ℕ} {i n : ℕ} → Counted c s i n → Opened c s i → Counted c s (i + length (fitting openRoom (drop i s))) (n + 1)
+  pub counts-on : {s : List ℕ} {i n : ℕ} → Counted c s i n → Opened c s i
+      → Counted c s (i + length (fitting openRoom (drop i s))) (n + 1)
   counts-on k o = record { within = o .within; few = omega arith; count = omega (arith, ap length (o .pieces), k .count) }
 
   pub counted : {s : List ℕ} {i n : ℕ} → Counted c s i n → fits (lastPiece (drop i s) c) ≡ true → n ≡ length (piecesOf s c)

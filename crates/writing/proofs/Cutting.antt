@@ -53,7 +53,8 @@ pub doubled-next : (b : ℕ) (s : List ℕ) → doubled (b ∷ s) ≡ inQuotes b
 unfolding doubled inQuotes
 doubled-next b s = go (eqb b (code "'"))
   where
-    go : (u : Bool) → cond u (code "'" ∷ code "'" ∷ doubled s) (b ∷ doubled s) ≡ cond u (code "'" ∷ code "'" ∷ []) (b ∷ []) ++ doubled s
+    go : (u : Bool)
+        → cond u (code "'" ∷ code "'" ∷ doubled s) (b ∷ doubled s) ≡ cond u (code "'" ∷ code "'" ∷ []) (b ∷ []) ++ doubled s
     go true = refl
     go false = refl
 
@@ -154,7 +155,8 @@ unfolding fitting doubled
 cut-short n [] h = absurd (omega arith)
 cut-short n (b ∷ s) h = go (leb (bytesFor b) n) refl (cut-short (n - bytesFor b) s)
   where
-    go : (u : Bool) → leb (bytesFor b) n ≡ u → (n - bytesFor b < length (doubled s) → length (fitting (n - bytesFor b) s) < length s)
+    go : (u : Bool) → leb (bytesFor b) n ≡ u
+        → (n - bytesFor b < length (doubled s) → length (fitting (n - bytesFor b) s) < length s)
         → length (cond u (b ∷ fitting (n - bytesFor b) s) []) < suc (length s)
     go true e later = omega (arith, later (omega (arith, doubled-bytes b s, leb-true (bytesFor b) n e)))
     go false e later = omega arith
@@ -204,7 +206,8 @@ unfolding fitting
 fitting-within n [] = omega arith
 fitting-within n (b ∷ s) = go (leb (bytesFor b) n) (fitting-within (n - bytesFor b) s)
   where
-    go : (u : Bool) → length (fitting (n - bytesFor b) s) ≤ length s → length (cond u (b ∷ fitting (n - bytesFor b) s) []) ≤ suc (length s)
+    go : (u : Bool) → length (fitting (n - bytesFor b) s) ≤ length s
+        → length (cond u (b ∷ fitting (n - bytesFor b) s) []) ≤ suc (length s)
     go true later = omega arith
     go false later = omega arith
 
@@ -216,5 +219,6 @@ fitting-some n (b ∷ s) h some = rw (le-leb (bytesFor b) n (omega (arith, bytes
 
 pub leftover-less : (n : ℕ) (s : List ℕ) → 2 ≤ n → (length s ≡ 0 → ⊥) → length (leftover n s) < length s
 leftover-less n s h some =
-    let left : length (leftover n s) ≡ length s - length (fitting n s) = sym (ap length (drop-fitting n s)) ∙ length-drop (length (fitting n s)) s in
+    let left : length (leftover n s) ≡ length s - length (fitting n s) =
+    sym (ap length (drop-fitting n s)) ∙ length-drop (length (fitting n s)) s in
     omega (arith, left, fitting-some n s h some, fitting-within n s)

@@ -51,7 +51,8 @@ module _ (name : List ℕ) (v : Value) (text : List ℕ) (c : Comment) (block : 
   unfolding writeOf isWritable
   value-refused e f = rw (e, unwritable (isShort textRoom c) refl (isComment c) refl)
     where
-      unwritable : (t : Bool) → isShort textRoom c ≡ t → (u : Bool) → isComment c ≡ u → (isComment c && isValue v text c) ≡ false
+      unwritable : (t : Bool) → isShort textRoom c ≡ t → (u : Bool) → isComment c ≡ u
+          → (isComment c && isValue v text c) ≡ false
       unwritable t p false q = rw q
       unwritable false p true q = and-false (isComment c) (isValue v text c) (comment-over v text c p)
       unwritable true p true q = absurd (true≢false (sym (rw (p, q)) ∙ f))

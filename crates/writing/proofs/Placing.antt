@@ -19,7 +19,8 @@ use Rattle.writing.specs.Written.{nameFront}
 use Rattle.writing.specs.Passes.{spaces, spaced, closedBy, bodyOf}
 
 -- a list stored behind another, which ends at a place
-pub sets-then : (d : List ℕ) (at : ℕ) {d₁ d₂ : List ℕ} {k : ℕ} (a b : List ℕ) → d₁ ≡ sets d at a → k ≡ at + length a → d₂ ≡ sets d₁ k b
+pub sets-then : (d : List ℕ) (at : ℕ) {d₁ d₂ : List ℕ} {k : ℕ} (a b : List ℕ) → d₁ ≡ sets d at a → k ≡ at + length a
+    → d₂ ≡ sets d₁ k b
     → d₂ ≡ sets d at (a ++ b)
 sets-then d at a b e h f = f ∙ ap₂ (λ (l : List ℕ) (k : ℕ). sets l k b) e h ∙ sym (sets-append a b d at)
 
@@ -28,7 +29,8 @@ pub spaces-step : (d : List ℕ) (i end : ℕ) → i < end
     → sets (set d i (code " ")) (i + 1) (spaces (end - (i + 1))) ≡ sets d i (spaces (end - i))
 spaces-step d i end h =
     let room : end - i ≡ suc (end - (i + 1)) = omega arith in
-    ap (λ (k : ℕ). sets (set d i (code " ")) k (spaces (end - (i + 1)))) (add-one i) ∙ sym (ap (λ (k : ℕ). sets d i (spaces k)) room)
+    ap (λ (k : ℕ). sets (set d i (code " ")) k (spaces (end - (i + 1)))) (add-one i)
+    ∙ sym (ap (λ (k : ℕ). sets d i (spaces k)) room)
 
 pub spaces-end : (d : List ℕ) (i end : ℕ) → end ≤ i → d ≡ sets d i (spaces (end - i))
 spaces-end d i end h =
@@ -69,7 +71,8 @@ tail-put d from end c e f =
 
 -- a name in front of a value
 pub name-put : (d name : List ℕ) {d₁ d₂ : List ℕ} → length name ≤ 8 → d₁ ≡ sets d 0 name
-    → d₂ ≡ sets d₁ (length name) (spaces (8 - length name)) → set (set d₂ 8 (code "=")) 9 (code " ") ≡ sets d 0 (nameFront name)
+    → d₂ ≡ sets d₁ (length name) (spaces (8 - length name))
+    → set (set d₂ 8 (code "=")) 9 (code " ") ≡ sets d 0 (nameFront name)
 unfolding nameFront
 name-put d name h e f =
     let eight = sets-then d 0 name (spaces (8 - length name)) e (sym (zero-add (length name))) f

@@ -55,15 +55,18 @@ number-put d t c {d₁} {d₂} {d₃} {start} place e f g =
     ∙ ap (λ (j : ℕ). ((spaces m ++ t) ++ tailOf c) ++ spaces j) room)
 
 -- its card
-pub plain-flat : (name t : List ℕ) (c : Comment) → length name ≤ 8 → flat (plainCards name t c) ≡ nameFront name ++ bodyOf (plainText t c)
+pub plain-flat : (name t : List ℕ) (c : Comment) → length name ≤ 8
+    → flat (plainCards name t c) ≡ nameFront name ++ bodyOf (plainText t c)
 unfolding flat
 plain-flat name t c h = append-nil _ ∙ name-card name (plainText t c) h
 
-pub plain-bytes : (name t : List ℕ) (c : Comment) → length name ≤ 8 → fitsCard t c ≡ true → length (flat (plainCards name t c)) ≡ 80
+pub plain-bytes : (name t : List ℕ) (c : Comment) → length name ≤ 8 → fitsCard t c ≡ true
+    → length (flat (plainCards name t c)) ≡ 80
 plain-bytes name t c h e =
     let body = bodyOf (plainText t c) in
     ap length (plain-flat name t c h)
-    ∙ omega (arith, length-append (nameFront name) body, front-length name h, body-length (plainText t c) (leb-true (length (plainText t c)) 70 e))
+    ∙ omega
+    (arith, length-append (nameFront name) body, front-length name h, body-length (plainText t c) (leb-true (length (plainText t c)) 70 e))
 
 -- a number that is longer than a card does not fit
 pub long-over : (t : List ℕ) (c : Comment) → 70 < length t → fitsCard t c ≡ false
@@ -76,7 +79,8 @@ unfolding putWhere
 first-tell name t c block = go (ltb 80 (length t)) refl
   where
     go : (u : Bool) → ltb 80 (length t) ≡ u
-        → putWhere (fitsCard (take size t) c) (plainCards name (take size t) c) block ≡ putWhere (fitsCard t c) (plainCards name t c) block
+        → putWhere (fitsCard (take size t) c) (plainCards name (take size t) c) block ≡ putWhere (fitsCard t c) (plainCards name t c)
+        block
     go true e =
         let long = ltb-true 80 (length t) e in
         let cut : 70 < length (take size t) = omega (arith, length-take size t) in
@@ -91,7 +95,8 @@ pub decimal-is : (minus : Bool) (d : List ℕ) (power : ℤ) → decimalText min
 decimal-is minus [] power = sym (append-assoc (minusOf minus) [] (scaleOf [] power))
 decimal-is minus (b ∷ d) power = sym (append-assoc (minusOf minus) (b ∷ d) (scaleOf (b ∷ d) power))
 
-pub decimal-over : (minus : Bool) (d : List ℕ) (power : ℤ) (c : Comment) → 70 < length d → fitsCard (decimalText minus d power) c ≡ false
+pub decimal-over : (minus : Bool) (d : List ℕ) (power : ℤ) (c : Comment) → 70 < length d
+    → fitsCard (decimalText minus d power) c ≡ false
 decimal-over minus d power c h =
     let front = minusOf minus ++ d in
     let long = ap length (decimal-is minus d power) in

@@ -21,7 +21,8 @@ use mir.Syntax.{w64}
 use mir.Val.{ofZ, SFits}
 use Rattle.roles.specs.Roles.{commentOf}
 use Rattle.writing.specs.Pieces.{textRoom}
-use Rattle.writing.specs.Rules.{every, isNameByte, isOther, isName, isRemark, isComment, isShort, endsWell, isText, isSignificant, isPower}
+use Rattle.writing.specs.Rules.{every, isNameByte, isOther, isName, isRemark, isComment}
+use Rattle.writing.specs.Rules.{isShort, endsWell, isText, isSignificant, isPower}
 
 -- ---- every byte
 
@@ -138,7 +139,8 @@ module _ (d : List ℕ) (some : length d ≡ 0 → ⊥) where
   pub power-from : (z : ℤ) → ltZ z (negsuc 99998) ≡ false → leZ z (pos 99999) ≡ isPower d z
   power-from = go d some
     where
-      go : (d : List ℕ) → (length d ≡ 0 → ⊥) → (z : ℤ) → ltZ z (negsuc 99998) ≡ false → leZ z (pos 99999) ≡ isPower d z
+      go : (d : List ℕ) → (length d ≡ 0 → ⊥) → (z : ℤ) → ltZ z (negsuc 99998) ≡ false
+          → leZ z (pos 99999) ≡ isPower d z
       go [] h z e = absurd (h refl)
       go (b ∷ d) h (pos n) e = refl
       go (b ∷ d) h (negsuc n) e = sym (le-leb (suc n) 99999 (omega (arith, ltb-false 99998 n e)))

@@ -13,12 +13,15 @@ ghost use Rattle.numbers.specs.declared.Value.the-variants.{Float};
 ghost use Rattle.numerals.specs.Numerals.{minusOf};
 ghost use Rattle.roles.specs.Roles.{commentOf};
 ghost use Rattle.writing.specs.declared.WriteAnswer.the-variants.{Refused};
-ghost use Rattle.writing.specs.Pieces.{doubled, tailOf, bytesFor, fitting, pieceText, textRoom, openRoom, fits, lastPiece, openPiece, piecesOf};
-ghost use Rattle.writing.specs.Written.{nameFront, continueFront, truthText, decimalText, numberRoom, plainText, plainCards, stringCards, writtenCards};
+ghost use Rattle.writing.specs.Pieces.{doubled, tailOf, bytesFor, fitting, pieceText, textRoom};
+ghost use Rattle.writing.specs.Pieces.{openRoom, fits, lastPiece, openPiece, piecesOf};
+ghost use Rattle.writing.specs.Written.{nameFront, continueFront, truthText, decimalText, numberRoom};
+ghost use Rattle.writing.specs.Written.{plainText, plainCards, stringCards, writtenCards};
 ghost use Rattle.writing.specs.Rules.{every, isNameByte, isOther, isName, isRemark, isComment, isShort, endsWell, isText};
 ghost use Rattle.writing.specs.Rules.{isSignificant, isPower, fitsCard, isValue, remarkLimit};
 ghost use Rattle.writing.specs.Block.{writeOf};
-ghost use Rattle.writing.specs.Passes.{allowedOf, isCapital, spaces, spaced, inQuotes, closedBy, bodyOf, bodiesOf, scaleOf, writeOutcome, putWhere};
+ghost use Rattle.writing.specs.Passes.{allowedOf, isCapital, spaces, spaced, inQuotes, closedBy};
+ghost use Rattle.writing.specs.Passes.{bodyOf, bodiesOf, scaleOf, writeOutcome, putWhere};
 use card::Class;
 use numbers::Size;
 use numbers::Value;
@@ -440,7 +443,8 @@ fn put_open(s: &[u8], block: &mut [u8], at: usize) -> usize
 fn put_last(s: &[u8], commented: bool, comment: &[u8], block: &mut [u8], at: usize)
     requires { ⌜ (fits (lastPiece (now s) (commentOf commented (now comment))) ≡ true) × (at + 70 ≤ length (now block)) ⌝ }
     ensures { λ _. ⌜ now (block .exit)
-        ≡ sets (now (block .entry)) at (bodyOf (pieceText (lastPiece (now (s .entry)) (commentOf commented (now (comment .entry)))))) ⌝ }
+        ≡ sets (now (block .entry)) at (bodyOf (pieceText (lastPiece (now (s .entry)) (commentOf commented (now (comment .entry)))))) ⌝
+        }
 {
     let room = QUOTED_ROOM - tail_length(commented, comment);
     put_piece(s, room, b"'", commented, comment, block, at);

@@ -1,5 +1,6 @@
 //! The list and its entries, held to the boundary's own lookup and to its cards.
 
+use super::replacing::{answers, join, parts, Part};
 use super::*;
 use random::Random;
 
@@ -7,7 +8,7 @@ use random::Random;
 mod random;
 
 /// Cards that meet: equal names, open strings, blanks around keywords, names with full stops.
-const CARDS: [&[u8]; 22] = [
+const CARDS: [&[u8]; 26] = [
     b"KIT     = 'FKM-&'",
     b"KIT     = 'NBR &' / [mm] seal",
     b"  KIT   = 5 / [s] time",
@@ -15,6 +16,9 @@ const CARDS: [&[u8]; 22] = [
     b"CONTINUE  '75&' / ring",
     b"CONTINUE  ''",
     b"CONTINUE 'x' / y",
+    b"CONTINUE  ' '",
+    b"CONTINUE  ' &&'",
+    b"CONTINUE  unquoted &",
     b"COMMENT between",
     b"HISTORY before",
     b"",
@@ -30,6 +34,7 @@ const CARDS: [&[u8]; 22] = [
     b"SIZE    =1",
     b"\x0c\x01\x02     = -0.",
     b"A&      = 'O''RING&'",
+    b"HIERARCH KIT = ' & &&'",
 ];
 
 fn padded(front: &[u8]) -> [u8; CARD] {
@@ -148,4 +153,105 @@ fn bytes_at_random_give_a_reading_or_a_refusal() {
             }
         }
     }
+}
+
+/// The name that the entry at a card bears, by the boundary.
+fn name_at(bytes: &[u8], number: usize) -> Option<Vec<u8>> {
+    let (mut name, mut length) = ([0; CARD], 0);
+    let borne = boundary::name(bytes, number, &mut name, &mut length, &mut 0) == 0;
+    borne.then(|| name[..length].to_vec())
+}
+
+/// The entry at a card, by the boundary.
+fn entry_at(bytes: &[u8], number: usize) -> Entry {
+    let (mut text, mut comment, mut told) = (vec![0; 3_000], vec![0; 3_000], Told::default());
+    assert_eq!(boundary::entry(bytes, number, &mut text, &mut comment, &mut told), 0);
+    read(&told, &text, &comment)
+}
+
+/// The entry that a card belongs to, by the boundary alone: the card bears it, or its own comment shows up in it.
+fn entry_of(bytes: &[u8], number: usize) -> Option<usize> {
+    if name_at(bytes, number).is_some() {
+        return Some(number);
+    }
+    let mut marked = bytes.to_vec();
+    let card = &mut marked[number * CARD..][..CARD];
+    if !matches!(Card::read(card.first_chunk().unwrap()), Ok(Card::Continuation { .. })) {
+        return None;
+    }
+    card.copy_from_slice(&padded(b"CONTINUE  'x' /#"));
+    let entries = (0..number).filter(|&entry| name_at(bytes, entry).is_some());
+    let shown = |&entry: &usize| entry_at(&marked, entry).comment.is_some_and(|comment| comment.contains('#'));
+    let met: Vec<usize> = entries.filter(shown).collect();
+    assert!(met.len() <= 1, "a card is joined to one entry at most");
+    met.first().copied()
+}
+
+#[test]
+fn the_cards_of_a_name_are_those_that_the_boundary_joins() {
+    let (mut random, mut joined, mut others) = (Random(20_261_116), 0, 0);
+    for _ in 0..500 {
+        // Most of the cards are of the first ten: open strings and CONTINUE cards.
+        let of = [CARDS.len(), 10, 10];
+        let mut bytes = Vec::new();
+        for _ in 0..random.below(24) {
+            let among = random.pick(&of);
+            bytes.extend(padded(CARDS[random.below(among)]));
+        }
+        let many = bytes.len() / CARD;
+        bytes.extend(padded(b"END"));
+        bytes.extend(padded(b"CONTINUE  'behind'"));
+        let header = Header::parse(&bytes).unwrap();
+        let owners: Vec<Option<usize>> = (0..many).map(|number| entry_of(&bytes, number)).collect();
+        for name in ["KIT", "SIZE", "A.B", "A&", "NONE"] {
+            let found = parts(&header, name.as_bytes());
+            assert_eq!(found.len(), many);
+            for ((part, card), owner) in found.iter().zip(header.cards()).zip(&owners) {
+                let own = owner.is_some_and(|entry| name_at(&bytes, entry).unwrap() == name.as_bytes());
+                let other = owner.is_some() || matches!(card, Card::Continuation { .. });
+                assert_eq!(
+                    *part,
+                    if own {
+                        Part::Own
+                    } else if other {
+                        Part::Other
+                    } else {
+                        Part::Commentary
+                    }
+                );
+            }
+        }
+        // A text that is joined card by card is the boundary's, also where the next card is cut off.
+        for entry in (0..many).filter(|&number| owners[number] == Some(number)) {
+            let Value::String(text) = entry_at(&bytes[..(entry + 1) * CARD], entry).value else { continue };
+            let mut text = String::from(text);
+            for (number, card) in header.cards().enumerate().take(many).skip(entry + 1) {
+                match card {
+                    Card::Continuation { string, .. } if owners[number] == Some(entry) => {
+                        assert!(text.ends_with('&'));
+                        join(&mut text, &string);
+                        joined += 1;
+                    }
+                    _ => others += 1,
+                }
+                assert_eq!(entry_at(&bytes[..(number + 1) * CARD], entry).value.as_str(), Some(&*text));
+            }
+            assert_eq!(entry_at(&bytes, entry).value.as_str(), Some(&*text));
+        }
+    }
+    assert!(joined > 500 && others > 500, "{joined} joined, {others} others");
+}
+
+#[test]
+fn a_header_that_answers_otherwise_is_seen() {
+    let bytes = [padded(b"KIT     = 'a' /c"), padded(b"END")].concat();
+    let (a, b) = (Value::from("a"), Value::from("b"));
+    assert!(answers(&bytes, b"KIT", &a, Some("c")));
+    assert!(!answers(&bytes, b"KIT", &b, Some("c")));
+    assert!(!answers(&bytes, b"KIT", &a, None));
+    assert!(!answers(&bytes, b"KIT", &a, Some("")));
+    assert!(!answers(&bytes, b"SIZE", &a, Some("c")));
+    assert!(!answers(&bytes[..CARD], b"KIT", &a, Some("c")), "without END");
+    let longer = [&bytes[..], &padded(b"END")].concat();
+    assert!(!answers(&longer, b"KIT", &a, Some("c")), "END before the last card");
 }

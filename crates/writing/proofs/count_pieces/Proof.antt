@@ -36,7 +36,8 @@ asked : (c : tie.After-exceeds Inv-loop μ-loop)
 asked c =
     let l = c .before .before in
     c .exceeds .ensures
-    ∙ ap₂ (λ (n : ℕ) (t : List ℕ). ltb (68 - n) (length (doubled t))) (l .before .tail-length .ensures) (c .before .rest-of .ensures)
+    ∙ ap₂ (λ (n : ℕ) (t : List ℕ). ltb (68 - n) (length (doubled t))) (l .before .tail-length .ensures)
+    (c .before .rest-of .ensures)
 
 opened-here : (c : tie.Then1 Inv-loop μ-loop)
     → let l = c .before .before .before in

@@ -49,9 +49,11 @@ returns c =
     let d = a .digits .now in
     let u = minusOf (a .minus) ++ d in
     let few : length u ≤ size = omega (arith, length-append (minusOf (a .minus)) d, minus-length (a .minus), start .pre) in
-    let front : first .first-of .result .now ≡ u = first .first-of .ensures ∙ text-bytes (take size u) (sign .signed-text .ensures) ∙ take-all size u few in
+    let front : first .first-of .result .now ≡ u =
+    first .first-of .ensures ∙ text-bytes (take size u) (sign .signed-text .ensures) ∙ take-all size u few in
     let power = ap (λ (z : ℤ). textOf (scaleOf d z)) (toZ-ofZ (start .fits .power)) in
-    let behind : second .first-of2 .result .now ≡ scaleOf d (a .power) = second .first-of2 .ensures ∙ text-bytes (scaleOf d (a .power)) (scale .scale-text .ensures ∙ power) in
+    let behind : second .first-of2 .result .now ≡ scaleOf d (a .power) =
+    second .first-of2 .ensures ∙ text-bytes (scaleOf d (a .power)) (scale .scale-text .ensures ∙ power) in
     c .joined-text .ensures
     ∙ ap₂ (λ (l r : List ℕ). textOf (take size (l ++ r))) front behind
     ∙ ap (λ (l : List ℕ). textOf (take size l)) (sym (decimal-is (a .minus) d (a .power)))

@@ -64,7 +64,8 @@ returns c =
     let l = f .before .before .before in
     let s = l .before .before .args .s .now in
     let b = getD s (l .loop .i) 0 in
-    let over : l .loop .left < bytesFor b = rw (f .bytes-for .ensures) at (leb-false (f .bytes-for .result) (l .loop .left) (c .if1 .left)) in
+    let over : l .loop .left < bytesFor b =
+    rw (f .bytes-for .ensures) at (leb-false (f .bytes-for .result) (l .loop .left) (c .if1 .left)) in
     omega (arith, ap length (fit-stop s (l .loop .left) (l .loop .i) (f .before .before .loop-test .taken) over), l .loop .inv .1)
 
 returns-2 : tie.Need-returns-2 Inv-loop μ-loop

@@ -26,7 +26,8 @@ returns-2 c =
     let asked = known .before .before in
     let a = asked .before .before .args in
     c .is-remark .ensures
-    ∙ comment-some (a .commented) (a .comment .now) (sym (asked .is-short .ensures) ∙ not-false _ (known .before .if1 .left)) (known .if2 .taken)
+    ∙ comment-some (a .commented) (a .comment .now) (sym (asked .is-short .ensures) ∙ not-false _ (known .before .if1 .left))
+    (known .if2 .taken)
 
 returns-3 : tie.Need-returns-3
 returns-3 c = search needs

@@ -18,7 +18,8 @@ returns-2 : tie.Need-returns-2
 returns-2 c =
     let asked = c .before in
     let short = asked .before in
-    sym (name-odd (short .before .before .args .name .now) (short .if1 .left) (sym (asked .every-byte .ensures) ∙ not-true _ (c .if2 .taken)))
+    let odd = sym (asked .every-byte .ensures) ∙ not-true _ (c .if2 .taken) in
+    sym (name-odd (short .before .before .args .name .now) (short .if1 .left) odd)
 
 class-of-requires : tie.Need-class-of-requires
 class-of-requires c κs = search needs
@@ -31,9 +32,10 @@ returns-3 c =
     let good = c .before .before in
     let asked = good .before in
     let short = asked .before in
+    let every = sym (asked .every-byte .ensures) ∙ not-false _ (good .if2 .left) in
     c .is-other .ensures
     ∙ ap isOther (c .before .class-of .ensures)
-    ∙ sym (name-class (short .before .before .args .name .now) (short .if1 .left) (sym (asked .every-byte .ensures) ∙ not-false _ (good .if2 .left)))
+    ∙ sym (name-class (short .before .before .args .name .now) (short .if1 .left) every)
 
 pub is-name-spec : {M : Type 1} → statement M
 is-name-spec =

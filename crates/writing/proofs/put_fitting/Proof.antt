@@ -46,7 +46,8 @@ put-byte-requires c κs =
     let l = f .before .before .before in
     let s = l .before .before .before .args .s .now in
     let b = getD s (l .loop .i) 0 in
-    let fit : bytesFor b ≤ end-of l - l .loop .j = rw (f .bytes-for .ensures) at (leb-true (f .bytes-for .result) (end-of l - l .loop .j) (test .if1 .taken)) in
+    let fit : bytesFor b ≤ end-of l - l .loop .j =
+    rw (f .bytes-for .ensures) at (leb-true (f .bytes-for .result) (end-of l - l .loop .j) (test .if1 .taken)) in
     omega (arith, fit, l .loop .inv .below, l .loop .inv .long, l .before .before .before .pre)
 
 add-i : tie.Need-add-i Inv-loop μ-loop
@@ -63,7 +64,8 @@ loop-again c =
     let l = f .before .before .before in
     let s = l .before .before .before .args .s .now in
     let b = getD s (l .loop .i) 0 in
-    let fit : bytesFor b ≤ end-of l - l .loop .j = rw (f .bytes-for .ensures) at (leb-true (f .bytes-for .result) (end-of l - l .loop .j) (test .if1 .taken)) in
+    let fit : bytesFor b ≤ end-of l - l .loop .j =
+    rw (f .bytes-for .ensures) at (leb-true (f .bytes-for .result) (end-of l - l .loop .j) (test .if1 .taken)) in
     let more = f .before .before .loop-test .taken in
     fills-on (l .loop .inv) more fit (put .put-byte .ensures .0) (search needs) (put .put-byte .ensures .1)
 
@@ -76,7 +78,8 @@ returns c =
     let l = f .before .before .before in
     let s = l .before .before .before .args .s .now in
     let b = getD s (l .loop .i) 0 in
-    let over : end-of l - l .loop .j < bytesFor b = rw (f .bytes-for .ensures) at (leb-false (f .bytes-for .result) (end-of l - l .loop .j) (c .if1 .left)) in
+    let over : end-of l - l .loop .j < bytesFor b =
+    rw (f .bytes-for .ensures) at (leb-false (f .bytes-for .result) (end-of l - l .loop .j) (c .if1 .left)) in
     let none = fit-stop s (end-of l - l .loop .j) (l .loop .i) (f .before .before .loop-test .taken) over in
     let v = l .loop .inv in
     (filled-count v none, (filled-place v none, filled-bytes v none))

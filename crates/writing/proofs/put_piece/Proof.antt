@@ -25,7 +25,8 @@ place c =
     omega (arith, c .put-fitting .ensures .1 .0, fitting-bytes (a .room) (a .s .now), start c .pre)
 
 -- the opening quote keeps the length
-quoted : (c : tie.After-put-fitting) → length (set (start c .args .block .now) (start c .args .at) 39) ≡ length (start c .args .block .now)
+quoted : (c : tie.After-put-fitting)
+    → length (set (start c .args .block .now) (start c .args .at) 39) ≡ length (start c .args .block .now)
 quoted c = simp length-set
 
 slice-write-block : tie.Need-slice-write-block
@@ -67,7 +68,8 @@ returns c =
     let t = fitting (a .room) (a .s .now) in
     let own = commentOf (a .commented) (a .comment .now) in (
       f .put-fitting .ensures .0,
-      piece-put (a .block .now) (a .at) t (a .close .now) own (f .put-fitting .ensures .1 .1) (f .put-fitting .ensures .1 .0) (put .put-at .ensures) (tail .put-tail .ensures),
+      piece-put (a .block .now) (a .at) t (a .close .now) own (f .put-fitting .ensures .1 .1) (f .put-fitting .ensures .1 .0)
+          (put .put-at .ensures) (tail .put-tail .ensures),
     )
 
 pub put-piece-spec : {M : Type 1} → statement M

@@ -68,7 +68,8 @@ returns c =
     let some = put .before .before in
     let a = start some .args in
     tail-put (a .block .now) (a .from) (a .end) (a .comment .now) (put .put-at .ensures) (spaces .put-spaces .ensures)
-    ∙ ap (λ (t : List ℕ). sets (a .block .now) (a .from) (spaced (a .end - a .from) t)) (sym (tail-some (a .commented) (a .comment .now) (some .if1 .taken)))
+    ∙ ap (λ (t : List ℕ). sets (a .block .now) (a .from) (spaced (a .end - a .from) t))
+    (sym (tail-some (a .commented) (a .comment .now) (some .if1 .taken)))
 
 put-spaces-requires-2 : tie.Need-put-spaces-requires-2
 put-spaces-requires-2 c κs = search needs
@@ -83,7 +84,8 @@ returns-2 c =
     let a = none .before .before .before .args in
     spaces .put-spaces2 .ensures
     ∙ ap (sets (a .block .now) (a .from)) (spaced-is (a .end - a .from) (a .end - a .from) [] (omega arith))
-    ∙ ap (λ (t : List ℕ). sets (a .block .now) (a .from) (spaced (a .end - a .from) t)) (sym (tail-none (a .commented) (a .comment .now) (none .if1 .left)))
+    ∙ ap (λ (t : List ℕ). sets (a .block .now) (a .from) (spaced (a .end - a .from) t))
+    (sym (tail-none (a .commented) (a .comment .now) (none .if1 .left)))
 
 pub put-tail-spec : {M : Type 1} → statement M
 put-tail-spec =

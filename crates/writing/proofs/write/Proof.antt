@@ -77,7 +77,8 @@ returns-3 c =
     let fine = put .before .before in
     let named = fine .before .before in
     let a = start named .args in
-    let is = put .write-value .ensures ∙ value-put (a .name .now) (a .value) (a .text .now) (own named) (a .block .now) (good named) (commented-well fine) in
+    let is = put .write-value .ensures
+    ∙ value-put (a .name .now) (a .value) (a .text .now) (own named) (a .block .now) (good named) (commented-well fine) in
     (ap (λ (w : WriteOutcome). w .answer) is, ap (λ (w : WriteOutcome). w .block) is)
 
 pub write-spec : {M : Type 1} → statement M

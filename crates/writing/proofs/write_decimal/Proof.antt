@@ -50,7 +50,10 @@ returns c =
     (isValue (Float (a .minus) (Finite (a .power))) (a .digits .now) o)
     (plainCards (a .name .now) (decimalText (a .minus) (a .digits .now) (a .power)) o)
     (a .block .now)
-    (and-false (isSignificant (a .digits .now) && isPower (a .digits .now) (a .power)) (fitsCard (decimalText (a .minus) (a .digits .now) (a .power)) o) over)
+    (and-false
+    (isSignificant (a .digits .now) && isPower (a .digits .now) (a .power))
+    (fitsCard (decimalText (a .minus) (a .digits .now) (a .power)) o)
+    over)
     (c .refused .ensures)
 
 is-significant-requires : tie.Need-is-significant-requires
@@ -113,7 +116,8 @@ returns-4 c =
     let o = commentOf (a .commented) (a .comment .now) in
     let w = decimalText (a .minus) (a .digits .now) (a .power) in
     let fine : isPower (a .digits .now) (a .power) ≡ true = sym (powered p) ∙ not-false _ (good .if3 .left) in
-    let made = d .decimal-text .ensures ∙ ap (λ (z : ℤ). textOf (take size (decimalText (a .minus) (a .digits .now) z))) (toZ-ofZ (s .fits .power)) in
+    let made = d .decimal-text .ensures
+    ∙ ap (λ (z : ℤ). textOf (take size (decimalText (a .minus) (a .digits .now) z))) (toZ-ofZ (s .fits .power)) in
     let both : (isSignificant (a .digits .now) && isPower (a .digits .now) (a .power)) ≡ true = rw (significant (p .before), fine) in
     put .write-plain .ensures
     ∙ ap (λ (l : List ℕ). putWhere (fitsCard l o) (plainCards (a .name .now) l o) (a .block .now)) (text-bytes (take size w) made)

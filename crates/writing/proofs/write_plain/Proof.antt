@@ -63,7 +63,8 @@ returns c =
     let f = c .before .before in
     let s = start f in
     let no-room = sym (fit f) ∙ not-true _ (c .before .if1 .taken) in
-    put-refused (fitsCard (held f) (own f)) (plainCards (s .args .name .now) (held f) (own f)) (s .args .block .now) no-room (c .refused .ensures)
+    put-refused (fitsCard (held f) (own f)) (plainCards (s .args .name .now) (held f) (own f)) (s .args .block .now) no-room
+    (c .refused .ensures)
 
 refused-requires-2 : tie.Need-refused-requires-2
 refused-requires-2 c κs = search needs
@@ -103,10 +104,13 @@ returns-3 c =
     let d = s .args .block .now in
     let room = has-room (test .before) in
     let t = plainText (held f) (own f) in
-    let body = put .put-number .ensures ∙ ap (λ (l : List ℕ). sets (named .put-name .last .1 .0) 10 (bodyOf (plainText l (own f)))) (f .before .first-of .ensures) in
+    let body = put .put-number .ensures
+    ∙ ap (λ (l : List ℕ). sets (named .put-name .last .1 .0) 10 (bodyOf (plainText l (own f)))) (f .before .first-of .ensures) in
     let there : 10 ≡ 0 + length (nameFront name) = omega (arith, front-length name (s .pre .0)) in
-    let stored = sets-then d 0 (nameFront name) (bodyOf t) (named .put-name .ensures) there body ∙ sym (ap (sets d 0) (plain-flat name (held f) (own f) (s .pre .0))) in
-    put-written (fitsCard (held f) (own f)) (plainCards name (held f) (own f)) d room (omega (arith, plain-bytes name (held f) (own f) (s .pre .0) room, test .if2 .left)) refl stored
+    let stored = sets-then d 0 (nameFront name) (bodyOf t) (named .put-name .ensures) there body
+    ∙ sym (ap (sets d 0) (plain-flat name (held f) (own f) (s .pre .0))) in
+    put-written (fitsCard (held f) (own f)) (plainCards name (held f) (own f)) d room
+    (omega (arith, plain-bytes name (held f) (own f) (s .pre .0) room, test .if2 .left)) refl stored
 
 pub write-plain-spec : {M : Type 1} → statement M
 write-plain-spec =

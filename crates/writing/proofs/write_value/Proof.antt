@@ -107,7 +107,8 @@ by c v e = ap (outcome c) (sym e)
 -- a kind that is never written
 refusal : (c : tie.After-slice-known) (v : Value) {r : WriteAnswer}
     → isValue v (start c .args .text .now) (commentOf (start c .args .commented) (start c .args .comment .now)) ≡ false
-    → start c .args .value ≡ v → r ≡ Refused (faultOf UnwritableValue) → writeOutcome r (start c .args .block .now) ≡ outcome c (start c .args .value)
+    → start c .args .value ≡ v → r ≡ Refused (faultOf UnwritableValue)
+    → writeOutcome r (start c .args .block .now) ≡ outcome c (start c .args .value)
 refusal c v no-way e f =
     let a = start c .args in
     let o = commentOf (a .commented) (a .comment .now) in
@@ -122,11 +123,12 @@ returns c =
     let a = start s .args in
     let o = commentOf (a .commented) (a .comment .now) in
     let z = known .before .value .given .0 .0 in
+    let t = signedDigits z in
     let fit : SFits w64 z = record { sfits = known .known-told .given .0 .1 } in
     let digits = made .integer-text .ensures ∙ ap (λ (y : ℤ). textOf (signedDigits y)) (toZ-ofZ fit) in
     put .write-plain .ensures
-    ∙ ap (λ (l : List ℕ). putWhere (fitsCard l o) (plainCards (a .name .now) l o) (a .block .now)) (text-bytes (signedDigits z) digits)
-    ∙ sym (ap (λ (u : Bool). putWhere (u && fitsCard (signedDigits z) o) (plainCards (a .name .now) (signedDigits z) o) (a .block .now)) (is-long z fit))
+    ∙ ap (λ (l : List ℕ). putWhere (fitsCard l o) (plainCards (a .name .now) l o) (a .block .now)) (text-bytes t digits)
+    ∙ sym (ap (λ (u : Bool). putWhere (u && fitsCard t o) (plainCards (a .name .now) t o) (a .block .now)) (is-long z fit))
     ∙ by s (Integer z) (known .before .value .given .1)
 
 same-length-2 : tie.Need-same-length-2
@@ -174,7 +176,8 @@ returns-5 c =
     let o = commentOf (a .commented) (a .comment .now) in
     let t = known .before .value3 .given .0 .0 in
     put .write-plain2 .ensures
-    ∙ ap (λ (l : List ℕ). putWhere (fitsCard l o) (plainCards (a .name .now) l o) (a .block .now)) (text-bytes (truthText t) (made .truth-text .ensures))
+    ∙ ap (λ (l : List ℕ). putWhere (fitsCard l o) (plainCards (a .name .now) l o) (a .block .now))
+    (text-bytes (truthText t) (made .truth-text .ensures))
     ∙ by s (Logical t) (known .before .value3 .given .1)
 
 same-length-4 : tie.Need-same-length-4
