@@ -3,16 +3,18 @@ use Prim.Native.Char.{code}
 use Prim.Native.Nat.{ℕ, zero, suc, _+_, _-_, _<_, _≤_}
 use native.Mathlib.Omega.{arith}
 use mathlib.Core.Path.{_≡_, refl, sym, ap, ap₂, _∙_}
-use mathlib.Core.Bool.{Bool, true, false, cond}
+use mathlib.Core.Bool.{Bool, true, false, not, cond, true≢false}
 use mathlib.Core.List.{List, [], _∷_, _++_}
 use borrow.Author.Tests.{le-leb, lt-leb, leb-true, lt-ltb, le-ltb, ltb-true, ltb-false, eq-eqb, ne-eqb}
 use lib.Dec.{eqb, leb, ltb}
 use lib.ListN.{length, set, take, drop, getD, drop-of-length-le, length-append, length-drop}
-use lib.Seq.{sets, drop-drop}
+use lib.Seq.{sets, drop-drop, take-nil}
+use Rattle.laws.proofs.Truths.{and-both}
 use Rattle.text.proofs.Trimming.{at-next}
 use Rattle.text.proofs.Laying.{sets-append}
 use Rattle.writing.specs.Pieces.{doubled, bytesFor, fitting, leftover}
-use Rattle.writing.specs.Passes.{inQuotes}
+use Rattle.writing.specs.Rules.{every}
+use Rattle.writing.specs.Passes.{isBare, inQuotes}
 
 -- ---- one character
 
@@ -222,3 +224,29 @@ leftover-less n s h some =
     let left : length (leftover n s) ≡ length s - length (fitting n s) =
     sym (ap length (drop-fitting n s)) ∙ length-drop (length (fitting n s)) s in
     omega (arith, left, fitting-some n s h some, fitting-within n s)
+
+-- ---- texts without a quote
+
+bare-bytes : (b : ℕ) → isBare b ≡ true → (b ≡ code "'" → ⊥)
+unfolding isBare
+bare-bytes b e h = true≢false (sym e ∙ ap not (eq-eqb b (code "'") h))
+
+-- each character takes a byte
+pub bare-fitting : (n : ℕ) (s : List ℕ) → every isBare (take n s) ≡ true → fitting n s ≡ take n s
+unfolding fitting every
+bare-fitting n [] e = sym (take-nil n)
+bare-fitting zero (b ∷ s) e = rw (lt-leb (bytesFor b) 0 (bytes-some b .0))
+bare-fitting (suc n) (b ∷ s) e =
+    let both = and-both (isBare b) (every isBare (take n s)) e in
+    let one = other-bytes b (bare-bytes b (both .0)) in
+    let rest : suc n - bytesFor b ≡ n = omega (arith, one) in
+    rw (le-leb (bytesFor b) (suc n) (omega (arith, one)))
+    (ap (λ (l : List ℕ). b ∷ l) (ap (λ (k : ℕ). fitting k s) rest ∙ bare-fitting n s (both .1)))
+
+-- and stands as it is
+pub bare-doubled : (s : List ℕ) → every isBare s ≡ true → doubled s ≡ s
+unfolding every doubled
+bare-doubled [] e = refl
+bare-doubled (b ∷ s) e =
+    let both = and-both (isBare b) (every isBare s) e in
+    rw (ne-eqb b (code "'") (bare-bytes b (both .0))) (ap (λ (l : List ℕ). b ∷ l) (bare-doubled s (both .1)))

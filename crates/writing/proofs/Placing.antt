@@ -8,7 +8,7 @@ use mathlib.Core.Path.{_≡_, refl, sym, ap, ap₂, _∙_}
 use mathlib.Core.Bool.{Bool, true, false, true≢false}
 use mathlib.Core.List.{List, [], _∷_, _++_, append-assoc}
 use lib.ListN.{length, set, replicate, length-append, length-replicate, length-set}
-use lib.Seq.{sets, length-sets}
+use lib.Seq.{sets}
 use Rattle.laws.proofs.Truths.{false≢true}
 use Rattle.text.specs.Bytes.{ascii}
 use Rattle.text.specs.Text.{filled}
@@ -81,9 +81,6 @@ name-put d name h e f =
     sets-then d 0 (spaced 8 name) (ascii "= ") eight there refl
 
 -- storing keeps the length
-pub same-sets : (d : List ℕ) (at : ℕ) (a : List ℕ) {d₁ : List ℕ} → d₁ ≡ sets d at a → length d₁ ≡ length d
-same-sets d at a e = ap length e ∙ length-sets d at a
-
 pub same-set-twice : (d : List ℕ) (i j x y : ℕ) → length (set (set d i x) j y) ≡ length d
 same-set-twice d i j x y = simp length-set
 

@@ -1,7 +1,7 @@
 -- The passes over a text, and the parts of the cards, as they are written one behind another.
 use Prim.Native.Nat.{ℕ}
 use Prim.Native.Char.{code}
-use mathlib.Core.Bool.{Bool, cond, _&&_}
+use mathlib.Core.Bool.{Bool, not, cond, _&&_}
 use mathlib.Core.List.{List, [], _∷_, _++_, map}
 use lib.Dec.{eqb, leb}
 use lib.IntN.{ℤ}
@@ -12,18 +12,23 @@ use Rattle.numerals.specs.Numerals.{powerText}
 use Rattle.roles.specs.Roles.{Comment}
 use Rattle.refusal.specs.declared.Refusal.the-variants.{UnwritableValue}
 use Rattle.writing.specs.declared.Allowed.{Allowed}
-use Rattle.writing.specs.declared.Allowed.the-variants.{InNames, Printable, Digits}
+use Rattle.writing.specs.declared.Allowed.the-variants.{InNames, Printable, Digits, Bare}
 use Rattle.writing.specs.declared.WriteAnswer.{WriteAnswer}
 use Rattle.writing.specs.Pieces.{doubled, tailOf, Piece, pieceText, textRoom}
 use Rattle.writing.specs.Written.{cardFrom, continueFront}
 use Rattle.writing.specs.Rules.{isNameByte}
 use Rattle.writing.specs.Block.{flat, WriteOutcome, putCards, notWritten}
 
+-- any byte but a quote
+unfoldable pub isBare : ℕ → Bool
+isBare b = not (eqb b (code "'"))
+
 -- which bytes are allowed
 abbrev pub allowedOf : Allowed → ℕ → Bool
 allowedOf InNames = isNameByte
 allowedOf Printable = isPrintable
 allowedOf Digits = isDigit
+allowedOf Bare = isBare
 
 -- A to Z
 unfoldable pub isCapital : ℕ → Bool
@@ -41,7 +46,7 @@ spaced n t = filled (code " ") n t
 unfoldable pub inQuotes : ℕ → List ℕ
 inQuotes b = cond (eqb b (code "'")) (code "'" ∷ code "'" ∷ []) (b ∷ [])
 
--- characters within quotes, of which the last stands in what closes them, and a comment
+-- an opening quote, characters, what closes them, and a comment
 abbrev pub closedBy : List ℕ → List ℕ → Comment → List ℕ
 closedBy close s c = code "'" ∷ (doubled s ++ (close ++ tailOf c))
 

@@ -36,11 +36,12 @@ pub enum WriteAnswer {
     Refused(Fault),
 }
 
-// The bytes that a text may hold.
+// The bytes that a text may hold: those of names, printable ones, digits, all but the quote.
 enum Allowed {
     InNames,
     Printable,
     Digits,
+    Bare,
 }
 
 // What was put of a text within quotes: the bytes taken of it, and the place behind those that they became.
@@ -133,6 +134,7 @@ fn is_allowed(allowed: Allowed, b: u8) -> bool
         Allowed::InNames => is_name_byte(b),
         Allowed::Printable => text::is_printable(b),
         Allowed::Digits => text::is_digit(b),
+        Allowed::Bare => b != QUOTE,
     }
 }
 
@@ -307,8 +309,8 @@ fn put_byte(b: u8, block: &mut [u8], at: usize) -> usize
     at + 1
 }
 
-// As many characters as fit in a room, a doubled quote uncut.
-fn put_fitting(s: &[u8], room: usize, block: &mut [u8], at: usize) -> Put
+// As many characters as fit in a room, one by one, a doubled quote uncut.
+fn put_each(s: &[u8], room: usize, block: &mut [u8], at: usize) -> Put
     requires { ⌜ at + room ≤ length (now block) ⌝ }
     ensures { λ r. ⌜ r .taken ≡ length (fitting room (now (s .entry))) ⌝ }
     ensures { λ r. ⌜ r .end ≡ at + length (doubled (fitting room (now (s .entry)))) ⌝ }
@@ -322,6 +324,25 @@ fn put_fitting(s: &[u8], room: usize, block: &mut [u8], at: usize) -> Put
         i += 1;
     }
     Put { taken: i, end: j }
+}
+
+// As many characters as fit in a room, all at once where there is no quote among them.
+fn put_fitting(s: &[u8], room: usize, block: &mut [u8], at: usize) -> Put
+    requires { ⌜ at + room ≤ length (now block) ⌝ }
+    ensures { λ r. ⌜ r .taken ≡ length (fitting room (now (s .entry))) ⌝ }
+    ensures { λ r. ⌜ r .end ≡ at + length (doubled (fitting room (now (s .entry)))) ⌝ }
+    ensures { λ _. ⌜ now (block .exit) ≡ sets (now (block .entry)) at (doubled (fitting room (now (s .entry)))) ⌝ }
+{
+    let part = text::first_of(s, room);
+    if !every_byte(part, Allowed::Bare) {
+        return put_each(s, room, block, at);
+    }
+    text::put_at(part, block, at);
+    let end = at + part.len();
+    Put {
+        taken: part.len(),
+        end: end,
+    }
 }
 
 // The comment, if there is one, then spaces up to an end.
@@ -364,8 +385,8 @@ fn tail_length(commented: bool, comment: &[u8]) -> usize
     0
 }
 
-// How many characters fit in a room.
-fn fitting_length(s: &[u8], room: usize) -> usize
+// How many characters fit in a room, one by one.
+fn fitting_each(s: &[u8], room: usize) -> usize
     ensures { λ r. ⌜ r ≡ length (fitting room (now (s .entry))) ⌝ }
 {
     let mut left = room;
@@ -375,6 +396,17 @@ fn fitting_length(s: &[u8], room: usize) -> usize
         i += 1;
     }
     i
+}
+
+// How many characters fit in a room: one a byte where there is no quote among them.
+fn fitting_length(s: &[u8], room: usize) -> usize
+    ensures { λ r. ⌜ r ≡ length (fitting room (now (s .entry))) ⌝ }
+{
+    let part = text::first_of(s, room);
+    if !every_byte(part, Allowed::Bare) {
+        return fitting_each(s, room);
+    }
+    part.len()
 }
 
 // Whether a text within quotes takes more bytes than a room has.
@@ -443,8 +475,7 @@ fn put_open(s: &[u8], block: &mut [u8], at: usize) -> usize
 fn put_last(s: &[u8], commented: bool, comment: &[u8], block: &mut [u8], at: usize)
     requires { ⌜ (fits (lastPiece (now s) (commentOf commented (now comment))) ≡ true) × (at + 70 ≤ length (now block)) ⌝ }
     ensures { λ _. ⌜ now (block .exit)
-        ≡ sets (now (block .entry)) at (bodyOf (pieceText (lastPiece (now (s .entry)) (commentOf commented (now (comment .entry)))))) ⌝
-        }
+        ≡ sets (now (block .entry)) at (bodyOf (pieceText (lastPiece (now (s .entry)) (commentOf commented (now (comment .entry)))))) ⌝ }
 {
     let room = QUOTED_ROOM - tail_length(commented, comment);
     put_piece(s, room, b"'", commented, comment, block, at);

@@ -1,3 +1,4 @@
+use Rattle.writing.specs.Passes.{isBare}
 use borrow.Author.Needs.{needs}
 use Rattle.writing.proofs.is_allowed.Statement.{statement}
 use Rattle.writing.proofs.is_allowed.Tie as tie
@@ -20,6 +21,9 @@ enum-told-3 c = search needs
 is-digit-requires : tie.Need-is-digit-requires
 is-digit-requires c κs = search needs
 
+enum-told-4 : tie.Need-enum-told-4
+enum-told-4 c = search needs
+
 returns : tie.Need-returns
 returns c = rw (c .before .enum-told .given .1) (c .is-name-byte .ensures)
 
@@ -28,6 +32,10 @@ returns-2 c = rw (c .before .enum-told2 .given .1) (c .is-printable .ensures)
 
 returns-3 : tie.Need-returns-3
 returns-3 c = rw (c .before .enum-told3 .given .1) (c .is-digit .ensures)
+
+returns-4 : tie.Need-returns-4
+unfolding isBare
+returns-4 c = rw (c .enum-told4 .given .1)
 
 pub is-allowed-spec : {M : Type 1} → statement M
 is-allowed-spec =
@@ -39,6 +47,8 @@ is-allowed-spec =
     is-printable-requires
     enum-told-3
     is-digit-requires
+    enum-told-4
     returns
     returns-2
-    returns-3)
+    returns-3
+    returns-4)

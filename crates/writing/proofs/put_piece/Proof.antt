@@ -8,7 +8,7 @@ use lib.Seq.{sets}
 use Rattle.roles.specs.Roles.{commentOf}
 use Rattle.writing.specs.Pieces.{doubled, tailOf, fitting}
 use Rattle.writing.proofs.Cutting.{fitting-bytes}
-use Rattle.writing.proofs.Placing.{piece-put, same-sets}
+use Rattle.writing.proofs.Placing.{piece-put}
 use borrow.Author.Needs.{needs}
 use Rattle.writing.proofs.put_piece.Statement.{statement}
 use Rattle.writing.proofs.put_piece.Tie as tie

@@ -5,8 +5,8 @@ use mathlib.Core.Path.{_≡_, refl, sym, ap, _∙_}
 use mathlib.Core.List.{List, []}
 use lib.ListN.{length, set, length-set}
 use lib.Seq.{sets}
-use Rattle.writing.specs.Passes.{spaces as padding, spaced}
-use Rattle.writing.proofs.Placing.{tail-some, tail-none, tail-put, spaced-is, same-sets, same-set-twice}
+use Rattle.writing.specs.Passes.{spaced}
+use Rattle.writing.proofs.Placing.{tail-some, tail-none, tail-put, spaced-is, same-set-twice}
 use borrow.Author.Needs.{needs}
 use Rattle.writing.proofs.put_tail.Statement.{statement}
 use Rattle.writing.proofs.put_tail.Tie as tie
@@ -23,12 +23,13 @@ fits c =
 slice-write-block : tie.Need-slice-write-block
 slice-write-block c = omega (arith, fits c, start c .pre)
 
--- the comment is put, and the block is as long as before
-put-same : (c : tie.After-put-at) → length (c .put-at .last .1 .0) ≡ length (start (c .before .before) .args .block .now)
-put-same c =
-    let a = start (c .before .before) .args in
-    let front = set (set (a .block .now) (a .from) 32) (a .from + 1) 47 in
-    same-sets front (a .from + 2) (a .comment .now) (c .put-at .ensures) ∙ same-set-twice (a .block .now) (a .from) (a .from + 1) 32 47
+-- the two bytes in front of the comment keep the length
+kept : (c : tie.Then1)
+    → let a = start c .args in
+    length (set (set (a .block .now) (a .from) 32) (a .from + 1) 47) ≡ length (a .block .now)
+kept c =
+    let a = start c .args in
+    same-set-twice (a .block .now) (a .from) (a .from + 1) 32 47
 
 add-block : tie.Need-add-block
 add-block c = search needs
@@ -50,16 +51,13 @@ add-put-spaces-2 c = record { fits = omega (arith, fits (c .before .before .befo
 
 put-spaces-requires : tie.Need-put-spaces-requires
 put-spaces-requires c κs =
-    let put = c .before .before .before in
-    omega (arith, put-same put, start (put .before .before) .pre .1)
+    let some = c .before .before .before .before .before in
+    omega (arith, kept some, start some .pre .1)
 
 same-length : tie.Need-same-length
 same-length c =
-    let spaces = c .before .before in
-    let put = spaces .before .before .before .before in
-    let a = start (put .before .before) .args in
-    let from = a .from + 2 + length (a .comment .now) in
-    same-sets (put .put-at .last .1 .0) from (padding (a .end - from)) (spaces .put-spaces .ensures) ∙ put-same put
+    let some = c .before .before .before .before .before .before .before .before in
+    omega (arith, kept some)
 
 returns : tie.Need-returns
 returns c =
