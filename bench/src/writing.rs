@@ -19,9 +19,9 @@ const FINITE: usize = 2;
 const STRING: usize = 6;
 
 /// A decimal: its digits, its power, and the double nearest to it.
-const DIGITS: &[u8] = b"271828182845904";
+const DIGITS: &[u8] = b"353781904528613";
 const POWER: i64 = -14;
-const DOUBLE: f64 = 2.71828182845904;
+const DOUBLE: f64 = 3.53781904528613;
 
 #[derive(Clone)]
 enum Value {
