@@ -168,7 +168,7 @@ struct Maker(Random);
 
 impl Maker {
     fn below(&mut self, many: usize) -> usize {
-        (u64::from(self.0.bits()) * many as u64 >> 32) as usize
+        ((u64::from(self.0.bits()) * many as u64) >> 32) as usize
     }
 
     /// A number from the first to the last.
