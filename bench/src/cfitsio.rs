@@ -1,6 +1,6 @@
 //! CFITSIO, by the few functions that the bench needs.
 
-use std::ffi::{c_char, c_int, c_uchar, c_uint, c_ushort, c_void, CStr, CString};
+use std::ffi::{c_char, c_int, c_long, c_uchar, c_uint, c_ushort, c_void, CStr, CString};
 use std::ptr;
 
 #[repr(C)]
@@ -54,6 +54,24 @@ extern "C" {
         status: *mut c_int,
     ) -> c_int;
     fn fffree(value: *mut c_void, status: *mut c_int) -> c_int;
+    fn ffinit(file: *mut *mut File, name: *const c_char, status: *mut c_int) -> c_int;
+    fn ffcrim(file: *mut File, bits: c_int, axes: c_int, sizes: *mut c_long, status: *mut c_int) -> c_int;
+    fn ffukls(
+        file: *mut File,
+        name: *const c_char,
+        value: *const c_char,
+        comment: *const c_char,
+        status: *mut c_int,
+    ) -> c_int;
+    fn ffukyj(file: *mut File, name: *const c_char, value: i64, comment: *const c_char, status: *mut c_int) -> c_int;
+    fn ffukyd(
+        file: *mut File,
+        name: *const c_char,
+        value: f64,
+        shown: c_int,
+        comment: *const c_char,
+        status: *mut c_int,
+    ) -> c_int;
     fn ffvers(version: *mut f32) -> f32;
 
     fn fits_rcomp(pixels: *const c_int, nx: c_int, tile: *mut c_uchar, room: c_int, nblock: c_int) -> c_int;
@@ -171,6 +189,42 @@ impl Opened {
         unsafe { ffomem(&mut file, c"header".as_ptr(), 0, buffer, size, 0, None, &mut status) };
         assert!(status == 0, "CFITSIO opens a header: {status}");
         Opened { file, _place: place, _bytes: bytes }
+    }
+
+    /// A file in memory with a header of its own, which may grow.
+    pub fn created() -> Self {
+        let (mut file, mut status) = (ptr::null_mut(), 0);
+        // SAFETY: live numbers; a file without axes has no sizes.
+        unsafe {
+            ffinit(&mut file, c"mem://".as_ptr(), &mut status);
+            ffcrim(file, 8, 0, ptr::null_mut(), &mut status);
+        }
+        assert!(status == 0, "CFITSIO creates a header: {status}");
+        Opened { file, _place: Box::new((ptr::null_mut(), 0)), _bytes: Vec::new() }
+    }
+
+    /// Gives a name a string.
+    pub fn set_string(&mut self, name: &CStr, value: &CStr, comment: &CStr) {
+        let mut status = 0;
+        // SAFETY: an open file that may be written, and live strings.
+        unsafe { ffukls(self.file, name.as_ptr(), value.as_ptr(), comment.as_ptr(), &mut status) };
+        assert!(status == 0, "CFITSIO writes a string: {status}");
+    }
+
+    /// Gives a name an integer.
+    pub fn set_integer(&mut self, name: &CStr, value: i64, comment: &CStr) {
+        let mut status = 0;
+        // SAFETY: as above.
+        unsafe { ffukyj(self.file, name.as_ptr(), value, comment.as_ptr(), &mut status) };
+        assert!(status == 0, "CFITSIO writes an integer: {status}");
+    }
+
+    /// Gives a name a double, of which so many digits are shown.
+    pub fn set_float(&mut self, name: &CStr, value: f64, digits: c_int, comment: &CStr) {
+        let mut status = 0;
+        // SAFETY: as above. A negative number asks for significant digits.
+        unsafe { ffukyd(self.file, name.as_ptr(), value, -digits, comment.as_ptr(), &mut status) };
+        assert!(status == 0, "CFITSIO writes a decimal: {status}");
     }
 
     /// Reads every card's name, value text and comment, and answers how many there are, END not counted.

@@ -1,4 +1,4 @@
-//! What is measured: a job that each side can do.
+//! What is measured: a job that each side, or all but fitsrs, can do.
 
 /// Who does a job.
 #[derive(Clone, Copy, PartialEq, Debug)]
@@ -28,6 +28,11 @@ impl Side {
 pub trait Job {
     /// The pixels, cards or calls of one run.
     fn units(&self) -> usize;
+
+    /// The sides that can do it.
+    fn sides(&self) -> &'static [Side] {
+        &SIDES
+    }
 
     /// Does the job once, and keeps what it came to.
     fn run(&mut self, side: Side);

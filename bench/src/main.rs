@@ -21,6 +21,7 @@ mod report;
 mod theirs;
 mod tiles;
 mod worst;
+mod writing;
 
 use job::{Side, Spec};
 use std::io::Write;
@@ -36,6 +37,7 @@ const COUNTED: (usize, usize) = (4, 4096);
 fn specs((rows, large): (usize, usize)) -> Vec<Spec> {
     let mut specs = tiles::specs(rows, large);
     specs.extend(headers::specs());
+    specs.extend(writing::specs());
     specs.extend(worst::specs(rows));
     specs
 }
@@ -57,12 +59,13 @@ fn measure(short: bool) {
     }
 }
 
-/// The jobs whose instructions are counted; of a short run the first of each group.
+/// The jobs whose instructions are counted, each with its sides; of a short run the first of each group.
 fn jobs(short: bool) {
-    for group in ["rows", "headers", "lookups", worst::GROUP] {
+    for group in ["rows", "headers", "lookups", writing::GROUP, worst::GROUP] {
         let specs = specs(COUNTED).into_iter().filter(|spec| spec.group == group);
         for spec in specs.take(if short { 1 } else { usize::MAX }) {
-            println!("{group}\t{}", spec.name);
+            let sides: Vec<&str> = (spec.make)().sides().iter().map(|side| side.name()).collect();
+            println!("{group}\t{}\t{}", spec.name, sides.join(" "));
         }
     }
 }

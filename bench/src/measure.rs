@@ -1,6 +1,6 @@
 //! Times the jobs, in rounds in which the sides take turns.
 
-use crate::job::{Job, Side, Spec, SIDES};
+use crate::job::{Job, Side, Spec};
 use std::time::{Duration, Instant};
 
 /// How long and how often is measured.
@@ -42,22 +42,24 @@ fn sorted(values: impl Iterator<Item = f64>) -> Vec<f64> {
     values
 }
 
-/// Measures a job and prints its lines: the units, each side's time for a unit, and our time over each of the others'.
+/// Measures a job and prints its lines: the units, the time of each side that can do it for a unit, and our time over each of the others'.
 pub fn measure(spec: &Spec, effort: Effort) {
     let (group, name) = (spec.group, &spec.name);
     let mut job = (spec.make)();
     let job = job.as_mut();
     println!("job\t{group}\t{name}\t{}\t{}", spec.unit, job.units());
-    for side in SIDES {
-        job.run(side);
-    }
+    let sides = job.sides();
+    sides.iter().for_each(|&side| job.run(side));
     job.check();
-    let many = SIDES.map(|side| times(job, side, effort.least));
+    let mut many = [0; 3];
+    for &side in sides {
+        many[side as usize] = times(job, side, effort.least);
+    }
     let mut rounds: Vec<[f64; 3]> = Vec::new();
     for round in 0..effort.rounds {
         let mut taken = [0.0; 3];
-        for turn in 0..SIDES.len() {
-            let side = SIDES[(round + turn) % SIDES.len()];
+        for turn in 0..sides.len() {
+            let side = sides[(round + turn) % sides.len()];
             let at = side as usize;
             let nanoseconds = time(job, side, many[at]).as_secs_f64() * 1e9;
             taken[at] = nanoseconds / many[at] as f64 / job.units() as f64;
@@ -65,11 +67,11 @@ pub fn measure(spec: &Spec, effort: Effort) {
         job.check();
         rounds.push(taken);
     }
-    for side in SIDES {
+    for &side in sides {
         let taken = sorted(rounds.iter().map(|round| round[side as usize]));
         println!("time\t{group}\t{name}\t{}\t{:.4}", side.name(), quantile(&taken, 0.5));
     }
-    for side in [Side::Fitsrs, Side::Cfitsio] {
+    for &side in sides.iter().filter(|&&side| side != Side::Ours) {
         let ratios = sorted(rounds.iter().map(|round| round[Side::Ours as usize] / round[side as usize]));
         let [low, middle, high] = [0.1, 0.5, 0.9].map(|place| quantile(&ratios, place));
         println!("ratio\t{group}\t{name}\t{}\t{low:.4}\t{middle:.4}\t{high:.4}", side.name());

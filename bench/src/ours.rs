@@ -1,7 +1,7 @@
 //! Our boundary, called as it is, and the binding.
 
 use widrekas::{Entry, Header};
-use widrekas_sys::{self as boundary, Told, PLACES};
+use widrekas_sys::{self as boundary, Asked, Told, PLACES};
 
 /// Room for any text.
 const ROOM: usize = 58_320;
@@ -47,10 +47,27 @@ impl Lent {
         boundary::lookup(header, name.as_bytes(), &mut self.text, &mut self.comment, &mut self.told)
     }
 
+    /// The minus and the digits of the decimal that was read last; its power is the integer.
+    pub fn decimal(&self) -> (bool, &[u8]) {
+        (self.told.out[2] != 0, &self.told.digits[..self.told.out[6]])
+    }
+
+    /// The comment that was read last.
+    pub fn comment(&self) -> &[u8] {
+        &self.comment[..self.told.out[5]]
+    }
+
     /// The integer and the text that were read last, and how many names the list has.
     pub fn told(&self) -> (i64, &[u8], usize) {
         (self.told.number, &self.text[..self.told.out[4]], self.count)
     }
+}
+
+/// Writes a value's cards; answers how many there are.
+pub fn write(name: &[u8], value: Asked, comment: &[u8], block: &mut [u8]) -> usize {
+    let mut count = 0;
+    assert!(boundary::write(name, value, Some(comment), block, &mut count) == 0, "our writing of a value");
+    count
 }
 
 /// A header through the binding.

@@ -4,11 +4,12 @@ use crate::report::{Figures, Row};
 use std::fmt::Write;
 
 /// The groups that are drawn, with their titles.
-const GROUPS: [(&str, &str); 4] = [
+const GROUPS: [(&str, &str); 5] = [
     ("rows", "Rice, rows of 4,096 pixels"),
     ("large", "Rice, one large tile"),
     ("headers", "Headers, from bytes"),
     ("lookups", "Lookups"),
+    ("writing", "Writing"),
 ];
 
 /// The others, with the colours of their marks and how far these stand from a line's middle.

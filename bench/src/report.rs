@@ -1,6 +1,6 @@
 //! The text of the figures.
 
-use crate::{bars, picture, worst};
+use crate::{bars, picture, worst, writing};
 use std::collections::HashMap;
 use std::fmt::Write;
 use std::path::Path;
@@ -196,7 +196,8 @@ fn worst_cases(text: &mut String, figures: &Figures) -> std::fmt::Result {
          the ordinary input, in time (of the medians) and in instructions. Every header has 720 cards, of which CFITSIO wants the first three.\n\
          Open strings: every card is `'&'`. One string: over 716 cards, each full. Refused cards: every one has a complex value. Names that\n\
          are slow to tell apart are made by `bench/slow_names.py`. One name is a string out of the bytes. Read on is `Header::read_on`, for fitsrs\n\
-         its file reader with undefined cards, for CFITSIO the list. Tiles are rows of 4,096.\n"
+         its file reader with undefined cards, for CFITSIO the list. Write is a string of 2,000 bytes;\n\
+         CFITSIO's `fits_update_key_longstr` does not return on the quotes. Tiles are rows of 4,096.\n"
     )?;
     writeln!(
         text,
@@ -259,7 +260,8 @@ fn text(figures: &Figures) -> Result<String, std::fmt::Error> {
         format!("faster than fitsrs in {a} and than CFITSIO in {b} of {all} jobs")
     };
     writeln!(all, "Rice tiles: {}. Headers read whole: {}.", counts(&["rows", "large"]), counts(&["headers"]))?;
-    writeln!(all, "Lookups: {}.\n", counts(&["lookups"]))?;
+    let (fast, written) = faster(figures, &[writing::GROUP], "cfitsio");
+    writeln!(all, "Lookups: {}. Writing: faster than CFITSIO in {fast} of {written} jobs.\n", counts(&["lookups"]))?;
     aims(all, figures)?;
     tiles(all, figures)?;
     writeln!(
@@ -279,6 +281,15 @@ fn text(figures: &Figures) -> Result<String, std::fmt::Error> {
          that is read (or opened) already: ours reads the entry from the cards, fitsrs finds it in a table, CFITSIO searches the cards.\n"
     )?;
     ratios(all, figures, "lookups")?;
+    writeln!(
+        all,
+        "## Writing\n\n\
+         One value with a short comment. Ours: `widrekas_write` into a lent block, which leaves it to the caller where the cards go. CFITSIO:\n\
+         `fits_update_key_longstr`, `fits_update_key_lng` and `fits_update_key_dbl` on a file in memory (`mem://`) whose few cards have the name\n\
+         already, with as many cards, so that the header does not grow; it finds the name and changes its cards. Our decimal comes as digits and a\n\
+         power, CFITSIO's as a double with 15 digits to be shown. fitsrs writes no cards.\n"
+    )?;
+    ratios(all, figures, writing::GROUP)?;
     writeln!(all, "## Growth\n\nA header listed (fitsrs: read whole; CFITSIO: as above), by its cards:\n")?;
     growth(all, figures, "cards", "Cards")?;
     writeln!(all, "One string out of a header's bytes, by its CONTINUE cards, beside 11 other cards and END:\n")?;

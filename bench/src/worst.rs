@@ -6,7 +6,7 @@
 use crate::cfitsio::Opened;
 use crate::headers::{self, Work, FIRST, JOINED};
 use crate::job::{Job, Side, Spec};
-use crate::{theirs, tiles};
+use crate::{theirs, tiles, writing};
 use std::fs;
 use std::hint::black_box;
 use std::path::PathBuf;
@@ -137,6 +137,7 @@ pub fn specs(rows: usize) -> Vec<Spec> {
     specs.push(read_on("an ordinary header", ordinary));
     specs.push(read_on("refused cards", refused));
     specs.push(read_on("every second one refused, in open strings", refused_in_strings));
+    specs.extend(writing::slow(GROUP));
     specs.extend(tiles::blocks(GROUP, rows));
     specs
 }
