@@ -161,7 +161,8 @@ fn words(bytes: usize) -> Value {
 /// The jobs.
 pub fn specs() -> Vec<Spec> {
     vec![
-        spec(GROUP, "a string of 180 bytes, 3 cards", BOTH, words(180), "the kit"),
+        spec(GROUP, "a string of 200 bytes, 3 cards", BOTH, words(200), ""),
+        spec(GROUP, "a string of 180 bytes and a comment, 3 cards", BOTH, words(180), "the kit"),
         spec(GROUP, "an integer", BOTH, Value::Integer(-4711), "the depth"),
         spec(GROUP, "a decimal of 15 digits", BOTH, Value::Decimal, "the depth"),
     ]
