@@ -66,7 +66,10 @@ impl Lent {
 /// Writes a value's cards, without a comment where it is empty; answers how many there are.
 pub fn write(name: &[u8], value: Asked, comment: &[u8], block: &mut [u8]) -> usize {
     let mut count = 0;
-    assert!(boundary::write(name, value, (!comment.is_empty()).then_some(comment), block, &mut count) == 0, "our writing of a value");
+    assert!(
+        boundary::write(name, value, (!comment.is_empty()).then_some(comment), block, &mut count) == 0,
+        "our writing of a value"
+    );
     count
 }
 
