@@ -284,7 +284,7 @@ fn text(figures: &Figures) -> Result<String, std::fmt::Error> {
     writeln!(
         all,
         "## Writing\n\n\
-         One value with a short comment. Ours: `widrekas_write` into a lent block, which leaves it to the caller where the cards go. CFITSIO:\n\
+         One value. Ours: `widrekas_write` into a lent block, which leaves it to the caller where the cards go. CFITSIO:\n\
          `fits_update_key_longstr`, `fits_update_key_lng` and `fits_update_key_dbl` on a file in memory (`mem://`) whose few cards have the name\n\
          already, with as many cards, so that the header does not grow; it finds the name and changes its cards. Our decimal comes as digits and a\n\
          power, CFITSIO's as a double with 15 digits to be shown. fitsrs writes no cards.\n"
