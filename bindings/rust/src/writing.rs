@@ -20,8 +20,9 @@ use widrekas_sys::{self as boundary, BLOCK, CARD};
 /// # }
 /// ```
 ///
-/// What is written reads back, which is proved: in an accepted header where these cards stand in order before END, with at most
-/// commentary between them, and no later card bears the name, [`Header::get`](crate::Header::get) answers this value and this comment.
+/// What is written reads back: in an accepted header where these cards stand in order before END, with at most commentary between
+/// them, and no later card bears the name, [`Header::get`](crate::Header::get) answers this value and this comment. This is proved
+/// of the writing and the lookup behind the C boundary; this crate only hands them on.
 ///
 /// Refused by [`UnwritableName`](crate::Reason::UnwritableName):
 ///
