@@ -141,8 +141,10 @@ impl Header {
     /// The cards of a name are those of all its entries, and the CONTINUE cards that are joined to them. There must be as many as are
     /// written, and between them may stand commentary alone: no value, HIERARCH, XTENSION or CONTINUE card of another name or of none.
     /// Then the new header is accepted, every other name is answered as before, and the name is answered as it was written. This is
-    /// proved of the cards and the lookup behind the C boundary; which cards are the name's is found here, and tested. If a condition does not hold the error says which, in this order: what cannot be written, no card, another number of
-    /// cards, a card between. The project's docs/SPECIFICATION.md, section 16.6, shows for each of them what would go wrong.
+    /// proved of the cards and the lookup behind the C boundary; which cards are the name's is found here, and tested.
+    ///
+    /// If a condition does not hold the error says which, in this order: what cannot be written, no card, another number of cards, a
+    /// card between. The project's docs/SPECIFICATION.md, section 16.6, shows for each of them what would go wrong.
     ///
     /// There are as many bytes as in [`Header::as_bytes`], so in a file they take the place of its first ones.
     pub fn replaced(
