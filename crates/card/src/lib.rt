@@ -196,10 +196,13 @@ fn with_value(dotted: bool, name: Text, read: ValueRead) -> CardRead
 
 // ---- keywords
 
-// The first byte of 128 or more.
+// The first byte of 128 or more. Most cards have printable bytes alone, which is seen at once.
 fn find_high(s: &[u8]) -> Column
     ensures { λ r. ⌜ r ≡ highFrom (now (s .entry)) 0 ⌝ }
 {
+    if text::are_printable(s) {
+        return Column::Absent;
+    }
     let mut i = 0;
     while i < s.len() {
         if FIRST_HIGH <= s[i] {

@@ -1,14 +1,14 @@
 -- What is shown is printable, and some texts made visible.
 use Prim.Native.Nat.{ℕ, _+_, _/_, _%_, _<_, _≤_}
 use native.Mathlib.Omega.{arith}
-use mathlib.Core.Path.{_≡_, refl, sym, ap, ap₂, _∙_}
-use mathlib.Core.Bool.{Bool, true, false, cond, _&&_}
+use mathlib.Core.Path.{_≡_, refl}
+use mathlib.Core.Bool.{Bool, true, false, cond}
 use mathlib.Core.List.{List, [], _∷_, _++_, map}
-use lib.Dec.{ltb, leb}
-use borrow.Author.Tests.{ltb-true, ltb-false, le-leb}
+use lib.Dec.{ltb}
+use borrow.Author.Tests.{ltb-true, le-leb}
 use Rattle.laws.proofs.Truths.{and-both}
-use Rattle.text.specs.Bytes.{ascii, isPrintable}
-use Rattle.escaping.specs.Escaping.{hexDigit, escapedByte, escaped, areBytes, arePrintable, Visible}
+use Rattle.text.specs.Bytes.{ascii, isPrintable, arePrintable}
+use Rattle.escaping.specs.Escaping.{hexDigit, escapedByte, escaped, areBytes, Visible}
 use Rattle.escaping.proofs.Showing.{as-it-is, by-number}
 
 -- numbers from 32 to 126

@@ -7,7 +7,7 @@ use mathlib.Core.List.{List, [], _∷_, _++_}
 use lib.Dec.{ltb}
 use lib.ListN.{length, take}
 use lib.Seq.{sets}
-use Rattle.text.specs.Bytes.{isPrintable}
+use Rattle.text.specs.Bytes.{isPrintable, arePrintable}
 use Rattle.escaping.specs.declared.Escaped.{Escaped}
 
 -- 0 to 9, then A to F
@@ -46,11 +46,6 @@ escapeOf s out = escapedIn (take (length out / 4) s) out
 unfoldable pub areBytes : List ℕ → Bool
 areBytes [] = true
 areBytes (b ∷ s) = ltb b 256 && areBytes s
-
--- whether each byte is one of 32..126
-unfoldable pub arePrintable : List ℕ → Bool
-arePrintable [] = true
-arePrintable (b ∷ s) = isPrintable b && arePrintable s
 
 -- a text that is made visible holds printable bytes alone, so no line feed and no ESC
 abbrev pub Visible : Type 0

@@ -52,6 +52,12 @@ module _ {b : ℕ} where
       unfolding byteClass
       class-odd e = rw (ne-eqb b (code "'") unquote, ne-eqb b (code "/") unslash, e)
 
+-- the byte at i makes its move, and then what stands behind it
+pub moved : (s : List ℕ) (q : Quoting) (i : ℕ) → i < length s → (m : Move) → move q (byteClass (getD s i 0)) ≡ m
+    → scanFrom q (drop i s) i ≡ after m (getD s i 0) i (λ (r : Quoting). scanFrom r (drop (i + 1) s) (i + 1))
+unfolding scanFrom
+moved s q i more m e = rw (drop-cons s i 0 more, add-one i, e)
+
 -- ---- where the loop stands: v was put, and what is left is scanned from the state on
 pub record Reached (s : List ℕ) (place : Slash) (q : Quoting) (bytes : List ℕ) (n i : ℕ) : Type 0 where
   pub v : List ℕ
@@ -87,19 +93,13 @@ module _ {s : List ℕ} {place : Slash} {q : Quoting} {bytes : List ℕ} {n i : 
     abbrev onward : Quoting → Scan
     onward r = scanFrom r (drop (i + 1) s) (i + 1)
 
-    -- the byte at i makes its move
-    moved : (m : Move) → move q (byteClass (getD s i 0)) ≡ m
-        → scanFrom q (drop i s) i ≡ after m (getD s i 0) i (λ (r : Quoting). scanFrom r (drop (i + 1) s) (i + 1))
-    unfolding scanFrom
-    moved m e = rw (drop-cons s i 0 more, add-one i, e)
-
     pub on-ends : move q (byteClass (getD s i 0)) ≡ ends → handed (At i) bytes n ≡ scannedOf s
     unfolding after
-    on-ends e = stopped (At i) (moved ends e)
+    on-ends e = stopped (At i) (moved s q i more ends e)
 
     pub on-refused : move q (byteClass (getD s i 0)) ≡ rejects → handed (Bad i) bytes n ≡ scannedOf s
     unfolding after
-    on-refused e = stopped (Bad i) (moved rejects e)
+    on-refused e = stopped (Bad i) (moved s q i more rejects e)
 
     pub on-passes : (r : Quoting) → move q (byteClass (getD s i 0)) ≡ passes r → Reached s place r bytes n (i + 1)
     unfolding after
@@ -111,7 +111,7 @@ module _ {s : List ℕ} {place : Slash} {q : Quoting} {bytes : List ℕ} {n i : 
           none = R .none;
           held = R .held;
           count = R .count;
-          left = ap (putBefore (R .v)) (sym (moved (passes r) e)) ∙ R .left;
+          left = ap (putBefore (R .v)) (sym (moved s q i more (passes r) e)) ∙ R .left;
         }
 
     pub on-puts : (r : Quoting) (b : ℕ) → length s ≤ size → move q (byteClass (getD s i 0)) ≡ puts r → b ≡ shown (getD s i 0)
@@ -128,6 +128,6 @@ module _ {s : List ℕ} {place : Slash} {q : Quoting} {bytes : List ℕ} {n i : 
           left =
               ap (λ (v : List ℕ). record { place = onward r .place; value = v }) (append-assoc (R .v) (b ∷ []) (onward r .value))
               ∙ ap (λ (x : ℕ). putBefore (R .v) (putBefore (x ∷ []) (onward r))) is-shown
-              ∙ ap (putBefore (R .v)) (sym (moved (puts r) e))
+              ∙ ap (putBefore (R .v)) (sym (moved s q i more (puts r) e))
               ∙ R .left;
         }

@@ -70,6 +70,12 @@ pub parts-found : (first : ℕ) (s : List ℕ) (f : Scanned) → f ≡ scannedOf
 unfolding halvesAt scannedOf
 parts-found first s f scans = rw (scans, bytes-text)
 
+-- the parts by what the scan of the text is known to find
+pub parts-plain : (first : ℕ) (s v : List ℕ) (p : Slash) → scanFrom Outside s 0 ≡ record { place = p; value = v }
+    → partsFrom first p s v ≡ halvesAt first s
+unfolding halvesAt
+parts-plain first s v p e = sym (ap (λ (r : Scan). partsFrom first (r .place) s (r .value)) e)
+
 -- 2 is the only refusal of the parts, so they ask for its column alone
 parts-placed : (p : Slash) (first : ℕ) (s v : List ℕ) (f : Refusal → Column) → f R.OddByte ≡ oddBy p first
     → partsFrom first p s v ≡ halvesPlaced f (partsAt p s v)

@@ -1,14 +1,15 @@
 // A card's text taken apart into value text and comment, and value texts read as strings.
 ghost use mathlib.Core.Path.{_≡_};
+ghost use mathlib.Core.Bool.{true};
 ghost use Prim.Native.Nat.{_+_, _-_, _≤_, _<_};
 ghost use mathlib.Core.List.{map};
 ghost use lib.ListN.{length, drop};
-ghost use Rattle.text.specs.Bytes.{isSpace, shown};
+ghost use Rattle.text.specs.Bytes.{isSpace, shown, arePrintable};
 ghost use Rattle.text.specs.Trim.{trim, trimEnd};
 ghost use Rattle.text.specs.Text.{size, textOf, bytesOf};
 ghost use Rattle.splitting.specs.Strings.{settledOf, stringRefused};
 ghost use Rattle.splitting.specs.Columns.{splitFrom, stringFrom};
-ghost use Rattle.splitting.specs.Scanned.{scannedOf, firstOf, halvesAt};
+ghost use Rattle.splitting.specs.Scanned.{scannedOf, firstOf, halvesAt, Stretches, Passed, PassedString};
 use refusal::Fault;
 use refusal::Refusal;
 use text::Change;
@@ -64,6 +65,13 @@ pub enum Slash {
     Bad(usize),
 }
 
+// How far a text is its own value text: up to the slash at a place, or all of it; or it is not known.
+pub enum Stretch {
+    UpTo(usize),
+    All,
+    Unknown,
+}
+
 // The value text up to the slash stands beside its place.
 pub struct Scanned {
     pub slash: Slash,
@@ -74,14 +82,17 @@ const QUOTE: u8 = b'\'';
 
 const SLASH: u8 = b'/';
 
-// The text that stands on a card from a byte on, taken apart at its slash.
+// The text that stands on a card from a byte on, taken apart at its slash. Most blanks at its end are spaces, which are cut first.
 pub fn split(card: &[u8; 80], from: usize) -> SplitRead
     ensures { λ r. ⌜ r ≡ splitFrom from (drop from (now (card .entry))) ⌝ }
 {
     let raw = text::rest_of(&card[..], from);
     let rest = text::trim_start(raw, Cut::Blanks);
     let first = first_byte(from, raw.len(), rest.len());
-    let halves = halves_of(text::trim_end(rest, Cut::Blanks), first);
+    let halves = halves_of(
+        text::trim_end(text::trim_end(rest, Cut::Spaces), Cut::Blanks),
+        first,
+    );
     SplitRead {
         first: first,
         halves: halves,
@@ -107,8 +118,78 @@ fn first_byte(from: usize, all: usize, left: usize) -> usize
     from + (all - left)
 }
 
-// A text without its blanks taken apart, which begins at a byte of the card.
+// A text without its blanks taken apart, which begins at a byte of the card. Most texts are their own value texts, which are not
+// stored byte by byte.
 fn halves_of(s: &[u8], first: usize) -> Halves
+    requires { ⌜ (length (now s) ≤ size) × (0 < length (now s) → first ≤ size) ⌝ }
+    ensures { λ r. ⌜ r ≡ halvesAt first (now (s .entry)) ⌝ }
+{
+    match stretch_of(s) {
+        Stretch::UpTo(i) => Halves {
+            answer: SplitAnswer::Commented,
+            value: text::text_of(text::trimmed(&s[..i], Cut::Spaces)),
+            comment: comment_of(&s[i + 1..]),
+        },
+        Stretch::All => Halves {
+            answer: SplitAnswer::Bare,
+            value: text::text_of(text::trimmed(s, Cut::Spaces)),
+            comment: text::empty_text(),
+        },
+        Stretch::Unknown => halves_scanned(s, first),
+    }
+}
+
+// How far a text of printable bytes with no doubled quote is its own value text.
+fn stretch_of(s: &[u8]) -> Stretch
+    requires { ⌜ length (now s) ≤ size ⌝ }
+    ensures { λ r. ⌜ Stretches r (now (s .entry)) ⌝ }
+{
+    if !text::are_printable(s) {
+        return Stretch::Unknown;
+    }
+    let mut i: usize = 0;
+    'bytes: while i < s.len() {
+        let b = s[i];
+        if b == SLASH {
+            return Stretch::UpTo(i);
+        }
+        if b == QUOTE {
+            let end = behind_string(s, i + 1);
+            if s.len() <= end {
+                return Stretch::All;
+            }
+            let next = s[end];
+            if next == QUOTE {
+                return Stretch::Unknown;
+            }
+            if next == SLASH {
+                return Stretch::UpTo(end);
+            }
+            i = end + 1;
+            continue 'bytes;
+        }
+        i += 1;
+    }
+    Stretch::All
+}
+
+// The place behind the quote that closes a string, of which the bytes from a place on are left; the end of the text where none does.
+fn behind_string(s: &[u8], from: usize) -> usize
+    requires { ⌜ Passed (now s) Quoting.Inside from × (arePrintable (now s) ≡ true) × (length (now s) ≤ size) ⌝ }
+    ensures { λ r. ⌜ PassedString (now (s .entry)) from r ⌝ }
+{
+    let mut i = from;
+    while i < s.len() {
+        if s[i] == QUOTE {
+            return i + 1;
+        }
+        i += 1;
+    }
+    i
+}
+
+// The same of any text, by its scan.
+fn halves_scanned(s: &[u8], first: usize) -> Halves
     requires { ⌜ (length (now s) ≤ size) × (0 < length (now s) → first ≤ size) ⌝ }
     ensures { λ r. ⌜ r ≡ halvesAt first (now (s .entry)) ⌝ }
 {

@@ -4,3 +4,4 @@ pub mod Comparing
 pub mod Texts
 pub mod Finding
 pub mod Laying
+pub mod Printing

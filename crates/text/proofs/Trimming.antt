@@ -10,7 +10,7 @@ use mathlib.Core.List.{List, [], _∷_, _++_, map}
 use lib.ListN.{drop-of-length-le, length-append, length-drop, length, take, drop, getD}
 use lib.Seq.{drop-cons, take-suc, take-length, take-at}
 use Rattle.text.specs.Trim.{leading, trimStart, trimEnd, trim, consTrimmed}
-use Rattle.text.specs.Bytes.{isSpace, isPrintable, shown, delete}
+use Rattle.text.specs.Bytes.{isSpace, isBlank, isPrintable, shown, delete}
 use lib.Dec.{eqb}
 use borrow.Author.Tests.{eqb-true}
 
@@ -124,6 +124,23 @@ module _ (p : ℕ → Bool) where
   leading-taken s =
       let n : length s - length (trimStart p s) ≡ length (leading p s) = omega (arith, leading-length s) in
       ap₂ take n (sym (leading-and-rest s)) ∙ take-at (leading p s) (trimStart p s) _ refl
+
+-- what passes q passes p: where p cuts, cutting by q before it changes nothing
+pub end-twice : (p q : ℕ → Bool) → ((b : ℕ) → q b ≡ true → p b ≡ true) → (s : List ℕ) → trimEnd p (trimEnd q s) ≡ trimEnd p s
+unfolding trimEnd consTrimmed
+end-twice p q also [] = refl
+end-twice p q also (b ∷ s) = go (q b) refl (trimEnd q s) (end-twice p q also s)
+  where
+    go : (t : Bool) → q b ≡ t → (r : List ℕ) → trimEnd p r ≡ trimEnd p s
+        → trimEnd p (consTrimmed t b r) ≡ consTrimmed (p b) b (trimEnd p s)
+    go true e [] h = rw (also b e, ← h)
+    go true e (c ∷ r) h = ap (consTrimmed (p b) b) h
+    go false e r h = ap (consTrimmed (p b) b) h
+
+-- a space is a blank
+pub space-blank : (b : ℕ) → isSpace b ≡ true → isBlank b ≡ true
+unfolding isSpace isBlank
+space-blank b e = rw e
 
 -- where the test p of f's results is the test q, it is the same whether f or the trimming comes first
 pub end-mapped : (p q : ℕ → Bool) (f : ℕ → ℕ) → ((b : ℕ) → p (f b) ≡ q b) → (s : List ℕ)

@@ -2,7 +2,7 @@
 use Prim.Native.Nat.{ℕ}
 use Prim.Native.Char.{code}
 use Prim.Native.String.{String, [] as none, _∷_ as _then_}
-use mathlib.Core.Bool.{Bool, cond, _&&_, _||_}
+use mathlib.Core.Bool.{Bool, true, cond, _&&_, _||_}
 use mathlib.Core.List.{List, [], _∷_}
 use lib.Dec.{eqb, leb}
 
@@ -38,6 +38,11 @@ isBlank b = eqb b (code " ") || (eqb b tab || (eqb b lineFeed || (eqb b formFeed
 -- the characters that the standard allows (4.1.1, 4.2.1.1)
 unfoldable pub isPrintable : ℕ → Bool
 isPrintable b = leb (code " ") b && leb b (code "~")
+
+-- whether each byte is such a character
+unfoldable pub arePrintable : List ℕ → Bool
+arePrintable [] = true
+arePrintable (b ∷ s) = isPrintable b && arePrintable s
 
 -- 0 to 9
 unfoldable pub isDigit : ℕ → Bool

@@ -4,7 +4,7 @@ ghost use Prim.Native.Nat.{_+_, _<_, min};
 ghost use mathlib.Core.List.{[], _++_, map};
 ghost use lib.ListN.{take, drop};
 ghost use lib.Seq.{sets};
-ghost use Rattle.text.specs.Bytes.{isBlank, isPrintable, isDigit, shown, dToE};
+ghost use Rattle.text.specs.Bytes.{isBlank, isPrintable, arePrintable, isDigit, shown, dToE};
 ghost use Rattle.text.specs.Trim.{trimStart, trimEnd, trim, leading, cutOf};
 ghost use Rattle.text.specs.Same.{same};
 ghost use Rattle.text.specs.Place.{placeOf};
@@ -76,6 +76,19 @@ pub fn is_printable(b: u8) -> bool
     ensures { λ r. ⌜ r ≡ isPrintable b ⌝ }
 {
     b' ' <= b && b <= b'~'
+}
+
+// Whether each byte is such a one. Nothing leads out of the loop, so that it can be compiled to vectors.
+pub fn are_printable(s: &[u8]) -> bool
+    ensures { λ r. ⌜ r ≡ arePrintable (now (s .entry)) ⌝ }
+{
+    let mut odd = false;
+    let mut i = 0;
+    while i < s.len() {
+        odd = odd | !is_printable(s[i]);
+        i += 1;
+    }
+    !odd
 }
 
 // 0 to 9.

@@ -1,11 +1,11 @@
 -- `card::find_high` meets its contract: what stands from i on decides for the whole.
 use Prim.Native.Nat.{_-_, _≤_}
 use native.Mathlib.Omega.{arith}
-use mathlib.Core.Path.{_≡_, _∙_}
+use mathlib.Core.Path.{_≡_, sym, _∙_}
 use lib.ListN.{length, drop}
 use borrow.Author.Needs.{needs}
 use Rattle.card.specs.Columns.{highFrom}
-use Rattle.card.proofs.Highs.{high-here, high-later, high-none}
+use Rattle.card.proofs.Highs.{printable-low, high-here, high-later, high-none}
 use Rattle.card.proofs.find_high.Statement.{statement}
 use Rattle.card.proofs.find_high.Tie as tie
 
@@ -15,17 +15,23 @@ Inv-loop s i₀ i = (i ≤ length s) × (highFrom (drop i s) i ≡ highFrom s 0)
 abbrev μ-loop : tie.MeasureT-loop
 μ-loop s i₀ i = length s - i
 
+are-printable-requires : tie.Need-are-printable-requires Inv-loop μ-loop
+are-printable-requires c κs = search needs
+
+returns : tie.Need-returns Inv-loop μ-loop
+returns c = printable-low (c .before .before .before .args .s .now) 0 (sym (c .before .are-printable .ensures) ∙ c .if1 .taken)
+
 loop-holds : tie.Need-loop-holds Inv-loop μ-loop
 loop-holds c = search needs
 
-shared-slice-read-if1 : tie.Need-shared-slice-read-if1 Inv-loop μ-loop
-shared-slice-read-if1 c = search needs
+shared-slice-read-if2 : tie.Need-shared-slice-read-if2 Inv-loop μ-loop
+shared-slice-read-if2 c = search needs
 
-returns : tie.Need-returns Inv-loop μ-loop
-returns c =
+returns-2 : tie.Need-returns-2 Inv-loop μ-loop
+returns-2 c =
     let test = c .before .before in
     let loop = test .before .loop in
-    high-here (test .before .before .args .s .now) (loop .i) (test .loop-test .taken) (c .if1 .taken) ∙ loop .inv .1
+    high-here (test .before .before .before .before .before .args .s .now) (loop .i) (test .loop-test .taken) (c .if2 .taken) ∙ loop .inv .1
 
 add-i : tie.Need-add-i Inv-loop μ-loop
 add-i c = search needs
@@ -37,10 +43,10 @@ loop-again : tie.Need-loop-again Inv-loop μ-loop
 loop-again c =
     let test = c .before .before in
     let loop = test .before .loop in
-    (omega arith, high-later (test .before .before .args .s .now) (loop .i) (test .loop-test .taken) (c .if1 .left) ∙ loop .inv .1)
+    (omega arith, high-later (test .before .before .before .before .before .args .s .now) (loop .i) (test .loop-test .taken) (c .if2 .left) ∙ loop .inv .1)
 
-returns-2 : tie.Need-returns-2 Inv-loop μ-loop
-returns-2 c = high-none (c .before .before .args .s .now) (c .before .loop .i) (c .loop-test .left) ∙ c .before .loop .inv .1
+returns-3 : tie.Need-returns-3 Inv-loop μ-loop
+returns-3 c = high-none (c .before .before .before .before .before .args .s .now) (c .before .loop .i) (c .loop-test .left) ∙ c .before .loop .inv .1
 
 pub find-high-spec : {M : Type 1} → statement M
 find-high-spec =
@@ -48,10 +54,12 @@ find-high-spec =
     (tie.spec
     Inv-loop
     μ-loop
-    loop-holds
-    shared-slice-read-if1
+    are-printable-requires
     returns
+    loop-holds
+    shared-slice-read-if2
+    returns-2
     add-i
     loop-less
     loop-again
-    returns-2)
+    returns-3)

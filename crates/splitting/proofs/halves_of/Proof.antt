@@ -1,140 +1,153 @@
--- `splitting::halves_of` meets its contract: the scan says where, and the parts are trimmed and copied.
-use Prim.Native.Nat.{ℕ, _+_, _≤_, _<_}
+-- `splitting::halves_of` meets its contract: a text that is its own value text is cut, any other is scanned.
+use Prim.Native.Nat.{ℕ, _+_, _≤_}
 use native.Mathlib.Numerals.{add-one}
 use native.Mathlib.Omega.{arith}
-use mathlib.Core.Path.{_≡_, _∙_, ap, sym, subst}
+use mathlib.Core.Path.{_≡_, sym, ap, subst, _∙_}
 use mathlib.Core.List.{List, map}
-use lib.ListN.{length, drop, length-drop}
+use lib.ListN.{length, take, drop, length-drop, length-take}
+use lib.Seq.{take-all, length-take-le}
 use Rattle.text.specs.Bytes.{isSpace, shown}
-use Rattle.text.specs.Trim.{trimEnd}
-use Rattle.text.specs.Text.{textOf, bytesOf}
-use Rattle.text.proofs.Trimming.{take-rest}
-use Rattle.splitting.specs.declared.Slash.{Slash}
-use Rattle.splitting.specs.declared.Slash.the-variants.{At, Nowhere, Bad}
-use Rattle.splitting.specs.declared.Scanned.{Scanned}
-use Rattle.splitting.specs.declared.SplitAnswer.the-variants.{Bare, Commented, Refused}
-use Rattle.splitting.specs.Scanned.{halvesAt}
-use Rattle.splitting.proofs.Splitting.{Below, scanned-within, partsFrom, parts-found}
+use Rattle.text.specs.Trim.{trim, trimEnd}
+use Rattle.text.specs.Text.{size, textOf}
+use Rattle.text.proofs.Trimming.{take-rest, shorter}
+use Rattle.splitting.specs.declared.Slash.the-variants.{At, Nowhere}
+use Rattle.splitting.specs.declared.SplitAnswer.the-variants.{Bare, Commented}
+use Rattle.splitting.specs.declared.Stretch.{Stretch}
+use Rattle.splitting.specs.declared.Stretch.the-variants.{UpTo, All}
+use Rattle.splitting.specs.Scanned.{Stretches}
+use Rattle.splitting.proofs.Splitting.{parts-plain}
 use borrow.Author.Needs.{needs}
 use Rattle.splitting.proofs.halves_of.Statement.{statement}
 use Rattle.splitting.proofs.halves_of.Tie as tie
 
--- the arguments, the text, and what its scan gave
-abbrev began : tie.After-scan → tie.Start
-began c = c .before .before
+abbrev start : tie.After-stretch-of → tie.Start
+start c = c .before .before
 
-abbrev text : tie.After-scan → List ℕ
-text c = began c .args .s .now
+abbrev text : tie.After-stretch-of → List ℕ
+text c = start c .args .s .now
 
-abbrev scanned : tie.After-scan → Scanned
-scanned c = c .scan .result
+-- what is known of the stretch that an arm knows
+known : (c : tie.After-stretch-of) (x : Stretch) → c .stretch-of .result ≡ x → Stretches x (text c)
+known c x e = subst (λ (y : Stretch). Stretches y (text c)) e (c .stretch-of .ensures)
 
--- what was found lies within it
-found : (c : tie.After-scan) → (scanned c .value .len ≤ length (text c)) × Below (length (text c)) (scanned c .slash)
-found c = scanned-within (text c) (scanned c) (c .scan .ensures)
+abbrev place : tie.After-i → ℕ
+place c = c .i .given .0 .0
 
--- the place after the scan that led to an arm
-abbrev scan-at : tie.After-place → tie.After-scan
-scan-at c = c .before .before .before .before .before
+abbrev at : tie.After-i → tie.After-stretch-of
+at c = c .before .before
 
-below : (c : tie.After-place) → c .place .given .0 .0 < length (text (scan-at c))
-below c = subst (Below _) (c .place .given .1) (found (scan-at c) .1)
+up-to : (c : tie.After-i) → Stretches (UpTo (place c)) (text (at c))
+up-to c = known (at c) (UpTo (place c)) (c .i .given .1)
 
--- the parts at the place that an arm knows are those of the text
-by : (c : tie.After-scan) (p : Slash) → scanned c .slash ≡ p
-    → partsFrom (began c .args .first) p (text c) (bytesOf (scanned c .value)) ≡ halvesAt (began c .args .first) (text c)
-by c p e =
-    let first = began c .args .first in
-    ap (λ (x : Slash). partsFrom first x (text c) (bytesOf (scanned c .value))) (sym e)
-    ∙ parts-found first (text c) (scanned c) (c .scan .ensures)
+stretch-of-requires : tie.Need-stretch-of-requires
+stretch-of-requires c κs = search needs
 
-scan-requires : tie.Need-scan-requires
-scan-requires c κs = search needs
+enum-known-i : tie.Need-enum-known-i
+enum-known-i c = search needs
 
-spaces-off-requires : tie.Need-spaces-off-requires
-spaces-off-requires c κs = search needs
+slice-aggregate-trimmed : tie.Need-slice-aggregate-trimmed
+slice-aggregate-trimmed c =
+    let i = c .before .before in
+    sym (length-take-le (place i) (text (at i)) (omega (arith, up-to i .0)))
 
-empty-text-requires : tie.Need-empty-text-requires
-empty-text-requires c κs = search needs
+trimmed-requires : tie.Need-trimmed-requires
+trimmed-requires c κs = search needs
 
-enum-known-place : tie.Need-enum-known-place
-enum-known-place c = search needs
+text-of-requires : tie.Need-text-of-requires
+text-of-requires c κs = search needs
+
+abbrev from-text : tie.After-text-of → tie.After-i
+from-text c = c .before .before .before .before
 
 add-comment-of : tie.Need-add-comment-of
-add-comment-of c = omega (arith, below (c .before), began (scan-at (c .before)) .pre .0)
+add-comment-of c = omega (arith, up-to (from-text c) .0, start (at (from-text c)) .pre .0)
 
 sub-comment-of : tie.Need-sub-comment-of
-sub-comment-of c = omega (arith, below (c .before))
+sub-comment-of c = omega (arith, up-to (from-text c) .0)
 
 part-comment-of-start : tie.Need-part-comment-of-start
-part-comment-of-start c = omega (arith, below (c .before))
+part-comment-of-start c = omega (arith, up-to (from-text c) .0)
 
 part-comment-of-end : tie.Need-part-comment-of-end
 part-comment-of-end c = search needs
 
 comment-of-requires : tie.Need-comment-of-requires
 comment-of-requires c κs =
-    let s = text (scan-at (c .before .before)) in
-    let i = c .before .before .place .given .0 .0 in
-    rw (take-rest s (i + 1)) (omega (arith, length-drop (i + 1) s, began (scan-at (c .before .before)) .pre .0))
+    let i = from-text (c .before) in
+    let s = text (at i) in
+    rw (take-rest s (place i + 1)) (omega (arith, length-drop (place i + 1) s, start (at i) .pre .0))
 
 enum-told : tie.Need-enum-told
 enum-told c = search needs
 
-enum-known-place-2 : tie.Need-enum-known-place-2
-enum-known-place-2 c = search needs
+trimmed-requires-2 : tie.Need-trimmed-requires-2
+trimmed-requires-2 c κs = search needs
 
-add-fault-at : tie.Need-add-fault-at
-add-fault-at c =
-    let scan = c .before .before .before .before .before .before in
-    let i = c .before .place2 .given .0 .0 in
-    let under : i < length (text scan) = subst (Below _) (c .before .place2 .given .1) (found scan .1) in
-    omega (arith, under, began scan .pre .0, began scan .pre .1 (omega (arith, under)))
+text-of-requires-2 : tie.Need-text-of-requires-2
+text-of-requires-2 c κs = search needs
 
-fault-at-requires : tie.Need-fault-at-requires
-fault-at-requires c κs = search needs
+empty-text-requires : tie.Need-empty-text-requires
+empty-text-requires c κs = search needs
+
+enum-told-2 : tie.Need-enum-told-2
+enum-told-2 c = search needs
+
+halves-scanned-requires : tie.Need-halves-scanned-requires
+halves-scanned-requires c κs = search needs
+
+-- a part without its spaces, as a text
+cut : (s t : List ℕ) → length s ≤ size → t ≡ trim isSpace s → textOf (take size t) ≡ textOf (trim isSpace s)
+cut s t few e =
+    ap (λ (l : List ℕ). textOf (take size l)) e
+    ∙ ap textOf (take-all size (trim isSpace s) (omega (arith, shorter isSpace s)))
 
 returns : tie.Need-returns
 returns c =
-    let place = c .before .before .before in
-    let s = text (scan-at place) in
-    let i = place .place .given .0 .0 in
-    let behind = take-rest s (i + 1) ∙ ap (λ (k : ℕ). drop k s) (add-one i) in
+    let stored = c .before .before in
+    let i = from-text stored in
+    let s = text (at i) in
+    let front = take (place i) s in
+    let few : length front ≤ size = omega (arith, length-take (place i) s, start (at i) .pre .0) in
+    let value = stored .text-of .ensures ∙ cut front _ few (stored .before .trimmed .ensures) in
+    let behind = take-rest s (place i + 1) ∙ ap (λ (k : ℕ). drop k s) (add-one (place i)) in
     let comment = c .comment-of .ensures ∙ ap (λ (l : List ℕ). textOf (trimEnd isSpace (map shown l))) behind in
-    (λ j. record { answer = Commented; value = place .before .before .before .spaces-off .ensures j; comment = comment j })
-    ∙ by (scan-at place) (At i) (place .place .given .1)
+    (λ j. record { answer = Commented; value = value j; comment = comment j })
+    ∙ parts-plain (start (at i) .args .first) s front (At (place i)) (up-to i .1)
 
 returns-2 : tie.Need-returns-2
 returns-2 c =
-    let empty = c .before .before in
-    (λ j. record { answer = Bare; value = empty .before .spaces-off .ensures j; comment = empty .empty-text .ensures j })
-    ∙ by (empty .before .before .before) Nowhere (c .enum-told .given .1)
+    let stored = c .before in
+    let cutting = stored .before in
+    let told = cutting .before in
+    let made = told .before .before in
+    let s = text made in
+    let value = stored .text-of2 .ensures ∙ cut s _ (start made .pre .0) (cutting .trimmed2 .ensures) in
+    (λ j. record { answer = Bare; value = value j; comment = c .empty-text .ensures j })
+    ∙ parts-plain (start made .args .first) s s Nowhere (known made All (told .enum-told .given .1))
 
 returns-3 : tie.Need-returns-3
-returns-3 c =
-    let place = c .before .before in
-    let empty = place .before .before in
-    let none = empty .empty-text .ensures in
-    (λ j. record { answer = Refused (c .fault-at .ensures j); value = none j; comment = none j })
-    ∙ by (empty .before .before .before) (Bad (place .place2 .given .0 .0)) (place .place2 .given .1)
+returns-3 c = search needs
 
 pub halves-of-spec : {M : Type 1} → statement M
 halves-of-spec =
     tie.close
     (tie.spec
-    scan-requires
-    spaces-off-requires
-    empty-text-requires
-    enum-known-place
+    stretch-of-requires
+    enum-known-i
+    slice-aggregate-trimmed
+    trimmed-requires
+    text-of-requires
     add-comment-of
     sub-comment-of
     part-comment-of-start
     part-comment-of-end
     comment-of-requires
     enum-told
-    enum-known-place-2
-    add-fault-at
-    fault-at-requires
+    trimmed-requires-2
+    text-of-requires-2
+    empty-text-requires
+    enum-told-2
+    halves-scanned-requires
     returns
     returns-2
     returns-3)

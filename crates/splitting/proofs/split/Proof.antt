@@ -4,10 +4,10 @@ use native.Mathlib.Omega.{arith}
 use mathlib.Core.Path.{_≡_, _∙_, ap, ap₂}
 use mathlib.Core.List.{List}
 use lib.ListN.{length, drop, length-drop}
-use Rattle.text.specs.Bytes.{isBlank}
+use Rattle.text.specs.Bytes.{isSpace, isBlank}
 use Rattle.text.specs.Trim.{trimStart, trimEnd, trim}
 use Rattle.text.specs.Text.{size}
-use Rattle.text.proofs.Trimming.{start-shorter, shorter}
+use Rattle.text.proofs.Trimming.{start-shorter, shorter, end-twice, space-blank}
 use Rattle.splitting.specs.Columns.{firstByte}
 use Rattle.splitting.specs.Scanned.{firstOf, halvesAt}
 use Rattle.splitting.proofs.Splitting.{first-by-lengths, byte-within, halves-placed}
@@ -32,9 +32,13 @@ few c =
 started : (c : tie.After-trim-start) → c .trim-start .result .now ≡ trimStart isBlank (given c)
 started c = c .trim-start .ensures ∙ ap (trimStart isBlank) (c .before .rest-of .ensures)
 
-trims : (c : tie.After-trim-end) → c .trim-end .result .now ≡ trim isBlank (given (c .before .before))
+trims : (c : tie.After-trim-end2) → c .trim-end2 .result .now ≡ trim isBlank (given (c .before .before .before))
 unfolding trim
-trims c = c .trim-end .ensures ∙ ap (trimEnd isBlank) (started (c .before .before))
+trims c =
+    let at = c .before .before .before in
+    c .trim-end2 .ensures
+    ∙ ap (trimEnd isBlank) (c .before .trim-end .ensures ∙ ap (trimEnd isSpace) (started at))
+    ∙ end-twice isBlank isSpace space-blank (trimStart isBlank (given at))
 
 -- where it begins
 begins : (c : tie.After-first-byte) → c .first-byte .result ≡ firstByte (from (c .before)) (given (c .before))
@@ -61,18 +65,21 @@ first-byte-requires c κs =
 trim-end-requires : tie.Need-trim-end-requires
 trim-end-requires c κs = search needs
 
+trim-end-requires-2 : tie.Need-trim-end-requires-2
+trim-end-requires-2 c κs = search needs
+
 halves-of-requires : tie.Need-halves-of-requires
 halves-of-requires c κs =
-    let at = c .before .before in
+    let at = c .before .before .before in
     let short = ap (length {A = ℕ}) (trims c) in
     let low = byte-within (from at) (given at) (few at) 0 in (
       omega (arith, short, shorter isBlank (given at), few at),
-      λ some. omega (arith, begins (c .before), low (omega (arith, short, some))),
+      λ some. omega (arith, begins (c .before .before), low (omega (arith, short, some))),
     )
 
 returns : tie.Need-returns
 returns c =
-    let first = c .before .before in
+    let first = c .before .before .before in
     let at = first .before in
     let halves = c .halves-of .ensures ∙ ap₂ halvesAt (begins first) (trims (c .before)) ∙ halves-placed (from at) (given at) in
     λ j. record { first = begins first j; halves = halves j }
@@ -85,5 +92,6 @@ split-spec =
     trim-start-requires
     first-byte-requires
     trim-end-requires
+    trim-end-requires-2
     halves-of-requires
     returns)
