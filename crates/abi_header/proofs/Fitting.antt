@@ -7,12 +7,12 @@ use lib.Dec.{eqb}
 use lib.ListN.{length}
 use borrow.Author.Tests.{eqb-true}
 use Rattle.laws.proofs.Truths.{and-both}
-use Rattle.abi_header.specs.Headers.{entryFits}
+use Rattle.abi_header.specs.Headers.{valueFits}
 
 -- where both tests hold, both lengths are those asked for
 pub both : (a m b n : ℕ) → eqb a m && eqb b n ≡ true → (a ≡ m) × (b ≡ n)
 both a m b n e = let t = and-both (eqb a m) (eqb b n) e in (eqb-true a m (t .0), eqb-true b n (t .1))
 
--- of an entry's digits and numbers
-pub fits : (digits out : List ℕ) → entryFits digits out ≡ true → (length digits ≡ 80) × (length out ≡ 7)
-fits digits out e = both (length digits) 80 (length out) 7 e
+-- of a value's digits and numbers
+pub fits : (digits out : List ℕ) → valueFits digits out ≡ true → (length digits ≡ 80) × (length out ≡ 5)
+fits digits out e = both (length digits) 80 (length out) 5 e

@@ -10,16 +10,19 @@ use Rattle.refusal.specs.Numbers.{numberOf}
 use Rattle.abi_value.specs.Telling.{wrongLength, columnAfter}
 use Rattle.finding.specs.declared.Header.{Header}
 use Rattle.entries.specs.declared.LookupAnswer.{LookupAnswer}
-use Rattle.entries.specs.declared.Looked.{Looked}
-use Rattle.entries.specs.Answers.{LookupOutcome, leftBy}
+use Rattle.entries.specs.declared.CommentAnswer.{CommentAnswer}
+use Rattle.entries.specs.declared.ValueHalf.{ValueHalf}
+use Rattle.entries.specs.declared.CommentHalf.{CommentHalf}
+use Rattle.entries.specs.Halves.{ValueOutcome, valueLeft, CommentOutcome, commentLeft}
 use Rattle.listing.specs.declared.Listing.{Listing}
 use Rattle.naming.specs.declared.Named.{Named}
 use Rattle.naming.specs.declared.Named.the-variants.{Bears, Refused}
 use Rattle.naming.specs.Naming.{NameOutcome, namingBy}
 use Rattle.abi_header.specs.Headers.{HeaderOutcome, headerTold, nameTold, NameLeft}
-use Rattle.abi_header.specs.Headers.{EntryOutcome, entryTold, entryFits, entryInto, EntryLeft}
+use Rattle.abi_header.specs.Headers.{ValueMemory, valueStored, valueFits, valueInto, ValueLeft}
+use Rattle.abi_header.specs.Headers.{CommentMemory, commentStored, CommentLeft}
 use Rattle.abi_header.specs.Headers.{ListOutcome, listTold, listFits, listInto, ListLeft}
-use Rattle.abi_header.specs.Writing.{EntryWritten, ListWritten}
+use Rattle.abi_header.specs.Writing.{ValueWritten, CommentWritten, ListWritten}
 
 -- lent memory that stays
 abbrev same : {A : Type 0} → A → Lent A
@@ -32,47 +35,58 @@ pub header-by : {x a b : Header} (column : ℕ) {o : HeaderOutcome} → a ≡ b 
     → o ≡ headerTold x column
 header-by column e g w = w ∙ ap (λ (y : Header). headerTold y column) (sym e ∙ g)
 
--- ---- an entry
+-- ---- the value of an entry
 
 -- the answer that an arm knows is the answer
-pub by : (l : Looked) (digits out : Lent (List ℕ)) (number : Lent ℤ) (column : Lent ℕ) (r : ℕ) {a b : LookupAnswer} → a ≡ b
-    → EntryWritten b l digits out number column r → EntryWritten a l digits out number column r
-by l digits out number column r e w = rw e w
+pub value-by : (l : ValueHalf) (digits out : Lent (List ℕ)) (number : Lent ℤ) (column : Lent ℕ) (r : ℕ) {a b : LookupAnswer} → a ≡ b
+    → ValueWritten b l digits out number column r → ValueWritten a l digits out number column r
+value-by l digits out number column r e w = rw e w
 
-module _
-    (read : List ℕ → List ℕ → LookupOutcome)
-    (text comment digits out : Lent (List ℕ)) (number : Lent ℤ) (column : Lent ℕ) where
+module _ (read : List ℕ → ValueOutcome) (text digits out : Lent (List ℕ)) (number : Lent ℤ) (column : Lent ℕ) where
   abbrev fit : Bool
-  fit = entryFits (digits .was) (out .was)
+  fit = valueFits (digits .was) (out .was)
 
-  abbrev into : Bool → EntryOutcome
-  into b =
-      entryInto b (read (text .was) (comment .was)) (text .was) (comment .was) (digits .was) (out .was) (number .was) (column .was)
+  abbrev into : Bool → ValueMemory
+  into b = valueInto b (read (text .was)) (text .was) (digits .was) (out .was) (number .was) (column .was)
 
   -- what was read is written
-  pub told : {l : Looked} (r : ℕ) → fit ≡ true
-      → leftBy l (text .left) (comment .left) ≡ read (text .was) (comment .was)
-      → EntryWritten (l .answer) l digits out number column r
-      → EntryLeft read text comment digits out number column r
+  pub told : {l : ValueHalf} (r : ℕ) → fit ≡ true → valueLeft l (text .left) ≡ read (text .was)
+      → ValueWritten (l .answer) l digits out number column r → ValueLeft read text digits out number column r
   told {l} r e g w =
       (λ j. record {
         answer = w .said j;
         text = text .left;
-        comment = comment .left;
         digits = w .in-digits j;
         numbers = w .in-numbers j;
         number = w .in-number j;
         column = w .in-column j;
       })
-      ∙ ap (λ (x : LookupOutcome). entryTold x (digits .was) (out .was) (number .was) (column .was)) g
+      ∙ ap (λ (x : ValueOutcome). valueStored x (digits .was) (out .was) (number .was) (column .was)) g
       ∙ sym (ap into e)
 
 -- nothing is read
-pub unread : (read : List ℕ → List ℕ → LookupOutcome) (text comment digits out : List ℕ) (number : ℤ) (column : ℕ)
-    → entryFits digits out ≡ false
-    → EntryLeft read (same text) (same comment) (same digits) (same out) (same number) (same column) wrongLength
-unread read text comment digits out number column e =
-    sym (ap (λ (b : Bool). entryInto b (read text comment) text comment digits out number column) e)
+pub unread : (read : List ℕ → ValueOutcome) (text digits out : List ℕ) (number : ℤ) (column : ℕ) → valueFits digits out ≡ false
+    → ValueLeft read (same text) (same digits) (same out) (same number) (same column) wrongLength
+unread read text digits out number column e =
+    sym (ap (λ (b : Bool). valueInto b (read text) text digits out number column) e)
+
+-- ---- the comment of an entry
+
+-- the answer that an arm knows is the answer
+pub comment-by : (n : ℕ) (c : List ℕ) (commented bytes card column : ℕ) {x : CommentMemory} {a b : CommentAnswer} → a ≡ b
+    → x ≡ commentStored b n c commented bytes card column → x ≡ commentStored a n c commented bytes card column
+comment-by n c commented bytes card column e w =
+    w ∙ sym (ap (λ (y : CommentAnswer). commentStored y n c commented bytes card column) e)
+
+-- what was read is written
+pub commented : (read : List ℕ → CommentOutcome) (comment : Lent (List ℕ)) (there bytes card column : Lent ℕ) {l : CommentHalf} (r : ℕ)
+    → commentLeft l (comment .left) ≡ read (comment .was)
+    → CommentWritten (l .answer) (l .comment) there bytes card column r
+    → CommentLeft read comment there bytes card column r
+commented read comment there bytes card column r g w =
+    w (comment .left)
+    ∙ ap (λ (x : CommentOutcome). commentStored (x .answer .answer) (x .answer .comment) (x .comment) (there .was) (bytes .was) (card .was)
+    (column .was)) g
 
 -- ---- a list of names
 

@@ -1,4 +1,4 @@
--- What the C boundary writes of a header: where END stands, an entry in bytes and seven numbers, the list of its names, and a name.
+-- What the C boundary writes of a header: where END stands, an entry's value and its comment, the list of its names, and a name.
 use Prim.Native.Nat.{ℕ}
 use mathlib.Core.Path.{_≡_}
 use mathlib.Core.Bool.{Bool, cond, _&&_}
@@ -15,8 +15,10 @@ use Rattle.finding.specs.declared.Header.{Header}
 use Rattle.finding.specs.declared.Header.the-variants.{Accepted, Refused}
 use Rattle.entries.specs.declared.LookupAnswer.{LookupAnswer}
 use Rattle.entries.specs.declared.LookupAnswer.the-variants as L
-use Rattle.entries.specs.declared.Looked.{Looked}
-use Rattle.entries.specs.Answers.{LookupOutcome}
+use Rattle.entries.specs.declared.CommentAnswer.{CommentAnswer}
+use Rattle.entries.specs.declared.CommentAnswer.the-variants as C
+use Rattle.entries.specs.declared.ValueHalf.{ValueHalf}
+use Rattle.entries.specs.Halves.{ValueOutcome, CommentOutcome}
 use Rattle.listing.specs.declared.Listing.{Listing}
 use Rattle.listing.specs.Listing.{places}
 use Rattle.naming.specs.declared.Named.{Named}
@@ -42,30 +44,30 @@ abbrev pub HeaderLeft : Header → Lent ℕ → Lent ℕ → ℕ → Type 0
 HeaderLeft x card column r =
     _≡_ {A = HeaderOutcome} (record { answer = r; card = card .left; column = column .left }) (headerTold x (column .was))
 
--- ---- an entry
+-- ---- the value of an entry
 
--- how many numbers an entry has
+-- how many numbers it has
 abbrev pub numberCount : ℕ
-numberCount = 7
+numberCount = 5
 
--- 0; the value's kind and flag; whether there is a comment; the lengths of text, comment and digits
-abbrev pub numbersOf : Told → Looked → List ℕ
-numbersOf t r = 0 ∷ t .kind ∷ bitOf (t .flag) ∷ bitOf (r .commented) ∷ r .text ∷ r .comment ∷ r .digits .len ∷ []
+-- 0; the value's kind and flag; the lengths of text and digits
+abbrev pub numbersOf : Told → ValueHalf → List ℕ
+numbersOf t r = 0 ∷ t .kind ∷ bitOf (t .flag) ∷ r .text ∷ r .digits .len ∷ []
 
 -- 0, or the refusal's number
-abbrev pub entrySaid : LookupAnswer → ℕ
-entrySaid (L.Found v) = 0
-entrySaid (L.Header s) = numberOf (s .fault .why)
-entrySaid (L.Refused f) = numberOf (f .why)
+abbrev pub valueSaid : LookupAnswer → ℕ
+valueSaid (L.Found v) = 0
+valueSaid (L.Header s) = numberOf (s .fault .why)
+valueSaid (L.Refused f) = numberOf (f .why)
 
--- a refused header leaves the card's number in the first place; any other refusal leaves all as it was
-abbrev pub numbersAfter : LookupAnswer → Looked → List ℕ → List ℕ
+-- a refused header leaves the card's number in the first place; 12 and 13 leave the room that is wanted in that of the text's length
+abbrev pub numbersAfter : LookupAnswer → ValueHalf → List ℕ → List ℕ
 numbersAfter (L.Found v) r o = numbersOf (valueTold v) r
 numbersAfter (L.Header s) r o = set o 0 (s .card)
-numbersAfter (L.Refused f) r o = o
+numbersAfter (L.Refused f) r o = set o 3 (r .text)
 
 -- a decimal's digits, then zeros; a refusal leaves all as it was
-abbrev pub digitsAfter : LookupAnswer → Looked → List ℕ → List ℕ
+abbrev pub digitsAfter : LookupAnswer → ValueHalf → List ℕ → List ℕ
 digitsAfter (L.Found v) r d = r .digits .bytes
 digitsAfter (L.Header s) r d = d
 digitsAfter (L.Refused f) r d = d
@@ -77,60 +79,105 @@ numberAfter (L.Header s) z = z
 numberAfter (L.Refused f) z = z
 
 -- the column of a refusal; otherwise it stays as it was
-abbrev pub entryColumn : LookupAnswer → ℕ → ℕ
-entryColumn (L.Found v) column = column
-entryColumn (L.Header s) column = columnAfter (s .fault .column) column
-entryColumn (L.Refused f) column = columnAfter (f .column) column
+abbrev pub valueColumn : LookupAnswer → ℕ → ℕ
+valueColumn (L.Found v) column = column
+valueColumn (L.Header s) column = columnAfter (s .fault .column) column
+valueColumn (L.Refused f) column = columnAfter (f .column) column
 
 -- an answer, and the lent memory after it
-pub record EntryOutcome : Type 0 where
+pub record ValueMemory : Type 0 where
   pub answer : ℕ
   pub text : List ℕ
-  pub comment : List ℕ
   pub digits : List ℕ
   pub numbers : List ℕ
   pub number : ℤ
   pub column : ℕ
 
--- what was read of an entry, told to lent digits, numbers, a number and a column
-abbrev pub entryTold : LookupOutcome → List ℕ → List ℕ → ℤ → ℕ → EntryOutcome
-entryTold x digits out number column =
+-- what was read of a value, told to lent digits, numbers, a number and a column
+abbrev pub valueStored : ValueOutcome → List ℕ → List ℕ → ℤ → ℕ → ValueMemory
+valueStored x digits out number column =
     record {
-      answer = entrySaid (x .answer .answer);
+      answer = valueSaid (x .answer .answer);
       text = x .text;
-      comment = x .comment;
       digits = digitsAfter (x .answer .answer) (x .answer) digits;
       numbers = numbersAfter (x .answer .answer) (x .answer) out;
       number = numberAfter (x .answer .answer) number;
-      column = entryColumn (x .answer .answer) column;
+      column = valueColumn (x .answer .answer) column;
     }
 
 -- the lengths that are asked for: those of digits and numbers
-abbrev pub entryFits : List ℕ → List ℕ → Bool
-entryFits digits out = eqb (length digits) size && eqb (length out) numberCount
+abbrev pub valueFits : List ℕ → List ℕ → Bool
+valueFits digits out = eqb (length digits) size && eqb (length out) numberCount
 
 -- with other lengths nothing is read, and all stays as it was
-abbrev pub entryInto : Bool → LookupOutcome → List ℕ → List ℕ → List ℕ → List ℕ → ℤ → ℕ → EntryOutcome
-entryInto fit x text comment digits out number column =
-    cond fit (entryTold x digits out number column)
-    (record { answer = wrongLength; text = text; comment = comment; digits = digits; numbers = out; number = number; column = column })
+abbrev pub valueInto : Bool → ValueOutcome → List ℕ → List ℕ → List ℕ → ℤ → ℕ → ValueMemory
+valueInto fit x text digits out number column =
+    cond fit (valueStored x digits out number column)
+    (record { answer = wrongLength; text = text; digits = digits; numbers = out; number = number; column = column })
 
--- what looking a name up, or reading an entry, leaves: `read` says what is read with the lent buffers, and r is the answer
-abbrev pub EntryLeft : (List ℕ → List ℕ → LookupOutcome)
-    → Lent (List ℕ) → Lent (List ℕ) → Lent (List ℕ) → Lent (List ℕ) → Lent ℤ → Lent ℕ → ℕ → Type 0
-EntryLeft read text comment digits out number column r =
-    _≡_ {A = EntryOutcome}
+-- what looking a name's value up, or reading an entry's, leaves: `read` says what is read with the lent buffer, and r is the answer
+abbrev pub ValueLeft : (List ℕ → ValueOutcome) → Lent (List ℕ) → Lent (List ℕ) → Lent (List ℕ) → Lent ℤ → Lent ℕ → ℕ → Type 0
+ValueLeft read text digits out number column r =
+    _≡_ {A = ValueMemory}
     (record {
       answer = r;
       text = text .left;
-      comment = comment .left;
       digits = digits .left;
       numbers = out .left;
       number = number .left;
       column = column .left;
     })
-    (entryInto (entryFits (digits .was) (out .was)) (read (text .was) (comment .was)) (text .was) (comment .was) (digits .was) (out .was)
-    (number .was) (column .was))
+    (valueInto (valueFits (digits .was) (out .was)) (read (text .was)) (text .was) (digits .was) (out .was) (number .was) (column .was))
+
+-- ---- the comment of an entry
+
+-- an answer, and the lent memory after it
+pub record CommentMemory : Type 0 where
+  pub answer : ℕ
+  pub comment : List ℕ
+  pub commented : ℕ
+  pub bytes : ℕ
+  pub card : ℕ
+  pub column : ℕ
+
+-- 0, with whether there is a comment and its length; or the refusal's number, with the card's number and the column of a refused header,
+-- or the room that is wanted
+abbrev pub commentStored : CommentAnswer → ℕ → List ℕ → ℕ → ℕ → ℕ → ℕ → CommentMemory
+commentStored (C.Found there) n comment commented bytes card column =
+    record { answer = 0; comment = comment; commented = bitOf there; bytes = n; card = card; column = column }
+commentStored (C.Header s) n comment commented bytes card column =
+    record {
+      answer = numberOf (s .fault .why);
+      comment = comment;
+      commented = commented;
+      bytes = bytes;
+      card = s .card;
+      column = columnAfter (s .fault .column) column;
+    }
+commentStored (C.Refused f) n comment commented bytes card column =
+    record {
+      answer = numberOf (f .why);
+      comment = comment;
+      commented = commented;
+      bytes = n;
+      card = card;
+      column = columnAfter (f .column) column;
+    }
+
+-- what looking a name's comment up, or reading an entry's, leaves: `read` says what is read with the lent buffer, and r is the answer
+abbrev pub CommentLeft : (List ℕ → CommentOutcome) → Lent (List ℕ) → Lent ℕ → Lent ℕ → Lent ℕ → Lent ℕ → ℕ → Type 0
+CommentLeft read comment commented bytes card column r =
+    let x = read (comment .was) in
+    _≡_ {A = CommentMemory}
+    (record {
+      answer = r;
+      comment = comment .left;
+      commented = commented .left;
+      bytes = bytes .left;
+      card = card .left;
+      column = column .left;
+    })
+    (commentStored (x .answer .answer) (x .answer .comment) (x .comment) (commented .was) (bytes .was) (card .was) (column .was))
 
 -- ---- a list of names
 

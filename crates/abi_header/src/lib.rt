@@ -1,23 +1,25 @@
-// A header as the C boundary gives it: where END stands, an entry in bytes and numbers, the list of its names, and a name.
+// A header as the C boundary gives it: where END stands, an entry's value and its comment, the list of its names, and a name.
 ghost use mathlib.Core.Path.{_≡_};
 ghost use lib.ListN.{length};
 ghost use Rattle.laws.specs.Lending.{lentOf};
 ghost use Rattle.finding.specs.Finding.{headerOf};
-ghost use Rattle.entries.specs.Answers.{lookupOf, entryOf};
+ghost use Rattle.entries.specs.Halves.{valueNamed, valueNumbered, commentNamed, commentNumbered};
 ghost use Rattle.listing.specs.Listing.{listOf};
 ghost use Rattle.naming.specs.Naming.{nameAt};
-ghost use Rattle.abi_header.specs.Headers.{numbersOf, HeaderLeft, EntryLeft, ListLeft, NameLeft};
-ghost use Rattle.abi_header.specs.Writing.{EntryWritten, ListWritten};
+ghost use Rattle.abi_header.specs.Headers.{numbersOf, HeaderLeft, ValueLeft, CommentLeft, ListLeft, NameLeft};
+ghost use Rattle.abi_header.specs.Writing.{ValueWritten, CommentWritten, ListWritten};
 use abi_value::Told;
-use entries::Looked;
+use entries::CommentAnswer;
+use entries::CommentHalf;
 use entries::LookupAnswer;
+use entries::ValueHalf;
 use finding::Header;
 use listing::Listing;
 use listing::PLACES;
 use naming::Named;
 
-// The numbers of an entry, and the bytes of its digits.
-const NUMBERS: usize = 7;
+// The numbers of a value, and the bytes of its digits.
+const NUMBERS: usize = 5;
 
 const DIGITS: usize = 80;
 
@@ -42,48 +44,83 @@ pub fn header_into(header: &[u8], card: &mut usize, column: &mut usize) -> u8
     }
 }
 
-// Looks a name up. Answers 0, and lays the entry's numbers, text, comment and digits into the lent memory.
+// Looks a name's value up. Answers 0, and lays the value's numbers, text and digits into the lent memory.
 // Otherwise it answers the refusal's number, or 255 where digits or numbers have another length. Nothing is written then, except
-// that a header refusal stores the card's number in the first of the numbers, and a refused card's byte in the column.
-pub fn lookup_into(
+// that a header refusal stores the card's number in the first of the numbers, and a refused card's byte in the column; and 12 and 13
+// store the room that is wanted in the number of the text's length.
+pub fn lookup_value_into(
     header: &[u8],
     name: &[u8],
     text: &mut [u8],
-    comment: &mut [u8],
     digits: &mut [u8],
     out: &mut [usize],
     number: &mut i64,
     column: &mut usize,
 ) -> u8
-    ensures { λ r. ⌜ EntryLeft (lookupOf (now (header .entry)) (now (name .entry)))
-        (lentOf text) (lentOf comment) (lentOf digits) (lentOf out) (lentOf number) (lentOf column) r ⌝ }
+    ensures { λ r. ⌜ ValueLeft (valueNamed (now (header .entry)) (now (name .entry)))
+        (lentOf text) (lentOf digits) (lentOf out) (lentOf number) (lentOf column) r ⌝ }
 {
     if (digits.len() == DIGITS) & (out.len() == NUMBERS) {
-        let read = entries::lookup(header, name, text, comment);
-        return write_looked(read, digits, out, number, column);
+        let read = entries::lookup_value(header, name, text);
+        return write_value(read, digits, out, number, column);
     }
     abi_value::WRONG_LENGTH
 }
 
-// Reads the entry at a card's number, as a lookup does.
-pub fn entry_into(
+// Reads the value of the entry at a card's number, as a lookup does.
+pub fn entry_value_into(
     header: &[u8],
     card: usize,
     text: &mut [u8],
-    comment: &mut [u8],
     digits: &mut [u8],
     out: &mut [usize],
     number: &mut i64,
     column: &mut usize,
 ) -> u8
-    ensures { λ r. ⌜ EntryLeft (entryOf (now (header .entry)) card)
-        (lentOf text) (lentOf comment) (lentOf digits) (lentOf out) (lentOf number) (lentOf column) r ⌝ }
+    ensures { λ r. ⌜ ValueLeft (valueNumbered (now (header .entry)) card)
+        (lentOf text) (lentOf digits) (lentOf out) (lentOf number) (lentOf column) r ⌝ }
 {
     if (digits.len() == DIGITS) & (out.len() == NUMBERS) {
-        let read = entries::read_entry(header, card, text, comment);
-        return write_looked(read, digits, out, number, column);
+        let read = entries::value_at(header, card, text);
+        return write_value(read, digits, out, number, column);
     }
     abi_value::WRONG_LENGTH
+}
+
+// Looks a name's comment up. Answers 0, with whether there is one, the comment and its length. Otherwise it answers the refusal's
+// number: a header refusal stores the card's number, and a refused card's byte in the column; 12 and 13 store the room that is wanted in
+// the length. Nothing else is written then.
+pub fn lookup_comment_into(
+    header: &[u8],
+    name: &[u8],
+    comment: &mut [u8],
+    commented: &mut usize,
+    length: &mut usize,
+    card: &mut usize,
+    column: &mut usize,
+) -> u8
+    ensures { λ r. ⌜ CommentLeft (commentNamed (now (header .entry)) (now (name .entry)))
+        (lentOf comment) (lentOf commented) (lentOf length) (lentOf card) (lentOf column) r ⌝ }
+{
+    let read = entries::lookup_comment(header, name, comment);
+    write_comment(read, commented, length, card, column)
+}
+
+// Reads the comment of the entry at a card's number, as a lookup does.
+pub fn entry_comment_into(
+    header: &[u8],
+    number: usize,
+    comment: &mut [u8],
+    commented: &mut usize,
+    length: &mut usize,
+    card: &mut usize,
+    column: &mut usize,
+) -> u8
+    ensures { λ r. ⌜ CommentLeft (commentNumbered (now (header .entry)) number)
+        (lentOf comment) (lentOf commented) (lentOf length) (lentOf card) (lentOf column) r ⌝ }
+{
+    let read = entries::comment_at(header, number, comment);
+    write_comment(read, commented, length, card, column)
 }
 
 // Lists a header's names. Answers 0, with the first cards, the last entries and their count. Otherwise it answers the refusal's
@@ -130,16 +167,16 @@ pub fn name_into(
     }
 }
 
-// What was looked up, in lent memory.
-fn write_looked(
-    read: Looked,
+// The value that was read, in lent memory.
+fn write_value(
+    read: ValueHalf,
     digits: &mut [u8],
     out: &mut [usize],
     number: &mut i64,
     column: &mut usize,
 ) -> u8
-    requires { ⌜ (length (now digits) ≡ 80) × (length (now out) ≡ 7) ⌝ }
-    ensures { λ r. ⌜ EntryWritten (read .answer) read (lentOf digits) (lentOf out) (lentOf number) (lentOf column) r ⌝ }
+    requires { ⌜ (length (now digits) ≡ 80) × (length (now out) ≡ 5) ⌝ }
+    ensures { λ r. ⌜ ValueWritten (read .answer) read (lentOf digits) (lentOf out) (lentOf number) (lentOf column) r ⌝ }
 {
     let answer = read.answer;
     match answer {
@@ -151,6 +188,7 @@ fn write_looked(
             fault.number()
         }
         LookupAnswer::Refused(fault) => {
+            out[3] = read.text;
             let at = fault.column;
             *column = abi_value::column_after(at, *column);
             fault.number()
@@ -164,6 +202,40 @@ fn write_looked(
             text::put_at(&places, digits, 0);
             let z = value.number;
             *number = z;
+            0
+        }
+    }
+}
+
+// The comment that was read, in lent memory.
+fn write_comment(
+    read: CommentHalf,
+    commented: &mut usize,
+    length: &mut usize,
+    card: &mut usize,
+    column: &mut usize,
+) -> u8
+    ensures { λ r. ⌜ CommentWritten (read .answer) (read .comment)
+        (lentOf commented) (lentOf length) (lentOf card) (lentOf column) r ⌝ }
+{
+    let answer = read.answer;
+    match answer {
+        CommentAnswer::Header(stop) => {
+            let fault = stop.fault;
+            *card = stop.card;
+            let at = fault.column;
+            *column = abi_value::column_after(at, *column);
+            fault.number()
+        }
+        CommentAnswer::Refused(fault) => {
+            *length = read.comment;
+            let at = fault.column;
+            *column = abi_value::column_after(at, *column);
+            fault.number()
+        }
+        CommentAnswer::Found(there) => {
+            *commented = abi_value::bit(there) as usize;
+            *length = read.comment;
             0
         }
     }
@@ -202,8 +274,8 @@ fn write_listing(
     }
 }
 
-// The numbers of an entry.
-fn numbers_of(value: Told, read: Looked) -> [usize; 7]
+// The numbers of a value.
+fn numbers_of(value: Told, read: ValueHalf) -> [usize; 5]
     ensures { λ r. ⌜ r ≡ numbersOf value read ⌝ }
 {
     let own = read.digits;
@@ -211,9 +283,7 @@ fn numbers_of(value: Told, read: Looked) -> [usize; 7]
         0,
         value.kind as usize,
         abi_value::bit(value.flag) as usize,
-        abi_value::bit(read.commented) as usize,
         read.text,
-        read.comment,
         own.len,
     ]
 }

@@ -24,7 +24,8 @@ use Rattle.joining.proofs.Answers.{or-assoc}
 use Rattle.finding.specs.declared.Stop.{Stop}
 use Rattle.finding.specs.declared.Header.the-variants.{Accepted, Refused}
 use Rattle.finding.specs.Finding.{stopAt, headerFrom, headerOf, lastFrom, lastOf}
-use Rattle.entries.specs.Answers.{entryHead, entryAt, metOn, metHead, given, entryFrom, unlessMet}
+use Rattle.entries.specs.Answers.{entryHead, entryAt, metOn, metHead}
+use Rattle.entries.specs.Halves.{missing, heldIn, unlessStopped, numberedFrom}
 
 -- a refused header is not accepted
 apart : (s : Stop) (k : ℕ) → Refused s ≡ Accepted k → ⊥
@@ -86,9 +87,8 @@ module _ (name : List ℕ) where
       subst (Under (length h / 80)) e under
 
 -- beyond the cards there is no entry
-pub no-entry : (h : List ℕ) (i : ℕ) (text comment : List ℕ) → length h / 80 ≤ i
-    → given none text comment ≡ entryFrom (drop i (rolesOf h)) i text comment
-no-entry h i text comment p = sym (ap (λ (l : List Role). entryFrom l i text comment) (roles-past h i p))
+pub none-past : (h : List ℕ) (i : ℕ) → length h / 80 ≤ i → missing ≡ numberedFrom (drop i (rolesOf h)) i
+none-past h i p = sym (ap (λ (l : List Role). numberedFrom l i) (roles-past h i p))
 
 -- ---- an accepted header has no refused card before END, so joining meets none
 either : (b : Bool) (m : Option Stop) → m ≡ none → cond b m none ≡ none
@@ -128,14 +128,13 @@ module _ (name : List ℕ) (end : ℕ) where
 
   -- so in an accepted header the entry at the last card that bears a name is what the name is answered
   pub last-read : (h : List ℕ) (k : ℕ) → headerOf h ≡ Accepted end → lastOf name (rolesOf h) ≡ At k
-      → (text comment : List ℕ)
-      → entryFrom (drop k (rolesOf h)) k text comment ≡ given (entryAt (At k) (rolesOf h)) text comment
+      → numberedFrom (drop k (rolesOf h)) k ≡ heldIn (entryAt (At k) (rolesOf h))
   unfolding headerOf
-  last-read h k a e text comment =
+  last-read h k a e =
       let roles = rolesOf h in
       let good = accepted-good h end a in
       let read : headerFrom roles 0 ≡ Accepted end =
       sym (ap (λ (b : Bool). cond b (Refused (stopAt (faultOf R.HeaderLength) 0)) (headerFrom roles 0)) good) ∙ a in
       let met : metIn (At k) roles ≡ none = ap (λ (p : Place). metIn p roles) (sym e)
       ∙ last-unmet roles roles 0 Nowhere refl read refl in
-      ap (λ (m : Option Stop). unlessMet m (given (entryHead (drop k roles)) text comment) text comment) met
+      ap (λ (m : Option Stop). unlessStopped m (entryHead (drop k roles))) met

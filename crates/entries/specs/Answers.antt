@@ -1,4 +1,5 @@
--- What a lookup answers, and what the lent buffers then hold (SPECIFICATION 10).
+-- What a lookup of both halves at once answers, and what the lent buffers then hold. The demands and the theorems on written cards are
+-- stated over it; what the functions promise is in Halves, and the two halves together are this answer (`LookupHalves`).
 use Prim.Native.Nat.{ℕ, suc}
 use mathlib.Core.Bool.{Bool, true, false, cond, _&&_}
 use mathlib.Core.List.{List, [], _∷_}
@@ -10,6 +11,7 @@ use Rattle.refusal.specs.declared.Refusal.the-variants as R
 use Rattle.refusal.specs.Numbers.{faultOf}
 use Rattle.text.specs.declared.Place.{Place}
 use Rattle.text.specs.declared.Place.the-variants.{At, Nowhere}
+use Rattle.text.specs.declared.Text.{Text}
 use Rattle.text.specs.Text.{textOf}
 use Rattle.roles.specs.Roles.{Comment, Words, Held, Role, entry, more, neutral, last, refused}
 use Rattle.roles.specs.Cards.{rolesOf, isBadLength}
@@ -21,7 +23,14 @@ use Rattle.finding.specs.declared.Header.the-variants.{Accepted, Refused}
 use Rattle.finding.specs.Finding.{stopAt, headerOf}
 use Rattle.entries.specs.declared.LookupAnswer.{LookupAnswer}
 use Rattle.entries.specs.declared.LookupAnswer.the-variants as L
-use Rattle.entries.specs.declared.Looked.{Looked}
+
+-- the answer, a decimal's digits, whether there is a comment, and the lengths written to the lent buffers
+pub record Looked : Type 0 where
+  pub answer : LookupAnswer
+  pub digits : Text
+  pub commented : Bool
+  pub text : ℕ
+  pub comment : ℕ
 
 -- an answer, and the lent buffers for text and comment after it
 pub record LookupOutcome : Type 0 where

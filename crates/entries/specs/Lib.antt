@@ -1,4 +1,5 @@
--- What public promises cite.
+-- What public promises and the demands cite.
 pub mod Answers
+pub mod Halves
 -- What private contracts cite alone.
 pub mod Passes

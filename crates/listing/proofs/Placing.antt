@@ -1,5 +1,5 @@
 -- Tables in arrays, and what is put into them.
-use Prim.Native.Nat.{ℕ, suc, _+_, _-_, _/_, _<_, _≤_}
+use Prim.Native.Nat.{ℕ, zero, suc, _+_, _-_, _/_, _<_, _≤_}
 use native.Mathlib.Numerals.{add-one}
 use native.Mathlib.Nat.{sub-zero}
 use native.Mathlib.Omega.{arith}
@@ -33,6 +33,12 @@ use Rattle.listing.proofs.Keying.{length-key, same-key}
 use Rattle.listing.proofs.Rows.{row-other, row-own}
 
 -- ---- arrays
+-- another default, where there is an element
+pub at-within : (l : List ℕ) (k d e : ℕ) → k < length l → getD l k d ≡ getD l k e
+at-within [] k d e p = absurd (omega arith)
+at-within (x ∷ l) zero d e p = refl
+at-within (x ∷ l) (suc k) d e p = at-within l k d e (omega arith)
+
 length-filled : (mark n : ℕ) (l : List ℕ) → length l ≤ n → length (filled mark n l) ≡ n
 unfolding filled
 length-filled mark n l h =

@@ -13,6 +13,7 @@ use Rattle.finding.specs.declared.Header.{Header}
 use Rattle.finding.specs.declared.Header.the-variants.{Accepted, Refused}
 use Rattle.finding.specs.Finding.{headerOf}
 use Rattle.entries.specs.Answers.{LookupOutcome, entryOf}
+use Rattle.entries.specs.Halves.{ValueOutcome, CommentOutcome, valueNumbered, commentNumbered}
 use Rattle.listing.specs.declared.Listing.{Listing}
 
 -- the places of the table, and the mark of a free one: no card has this number
@@ -83,3 +84,10 @@ listOf h = byHeader (headerOf h) (rolesOf h)
 -- the entry at a place of a table of last entries, which may be made up; a place that it lacks is free
 unfoldable pub placeOfEntry : List ℕ → List ℕ → ℕ → List ℕ → List ℕ → LookupOutcome
 placeOfEntry h lasts k text comment = entryOf h (getD lasts k free) text comment
+
+-- its two halves
+unfoldable pub placeOfValue : List ℕ → List ℕ → ℕ → List ℕ → ValueOutcome
+placeOfValue h lasts k text = valueNumbered h (getD lasts k free) text
+
+unfoldable pub placeOfComment : List ℕ → List ℕ → ℕ → List ℕ → CommentOutcome
+placeOfComment h lasts k comment = commentNumbered h (getD lasts k free) comment

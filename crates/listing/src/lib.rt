@@ -1,14 +1,15 @@
 // The names of a header in the order of their first cards, each with its last entry.
 ghost use mathlib.Core.Path.{_≡_};
 ghost use Prim.Native.Nat.{_+_, _*_, _<_, _≤_};
-ghost use lib.ListN.{length};
+ghost use lib.ListN.{length, getD};
 ghost use lib.Seq.{sets};
 ghost use Rattle.text.specs.Text.{bytesOf};
-ghost use Rattle.entries.specs.Answers.{leftBy};
-ghost use Rattle.listing.specs.Listing.{places, empty, tabled, listOf, placeOfEntry};
+ghost use Rattle.entries.specs.Halves.{valueLeft, commentLeft};
+ghost use Rattle.listing.specs.Listing.{places, free, empty, tabled, listOf, placeOfValue, placeOfComment};
 ghost use Rattle.listing.specs.Keys.{courseOf, bytesOfWord, wordsOfKey, wordOf, keyOf, isBefore, rowAt};
 ghost use Rattle.listing.specs.Keys.{Ordered, Parted, Slid, Ready, arraysBy, Entered};
-use entries::Looked;
+use entries::CommentHalf;
+use entries::ValueHalf;
 use finding::Header;
 use finding::Stop;
 use refusal::Refusal;
@@ -85,21 +86,35 @@ pub fn list(header: &[u8]) -> Listing
     refused(finding::stop_at(refusal::fault_of(Refusal::NoEnd), cards))
 }
 
-// The entry at a place of a listing's last entries, joined and read into the lent buffers. A place that the listing lacks is free.
-pub fn entry(
+// The value of the entry at a place of a listing's last entries, with its text, joined, in the lent buffer.
+pub fn entry_value(header: &[u8], lasts: &[usize], place: usize, text: &mut [u8]) -> ValueHalf
+    ensures { λ r. ⌜ valueLeft r (now (text .exit))
+        ≡ placeOfValue (now (header .entry)) (now (lasts .entry)) place (now (text .entry)) ⌝ }
+{
+    entries::value_at(header, last_at(lasts, place), text)
+}
+
+// Whether that entry has a comment, and the comment, joined, in the lent buffer.
+pub fn entry_comment(
     header: &[u8],
     lasts: &[usize],
     place: usize,
-    text: &mut [u8],
     comment: &mut [u8],
-) -> Looked
-    ensures { λ r. ⌜ leftBy r (now (text .exit)) (now (comment .exit))
-        ≡ placeOfEntry (now (header .entry)) (now (lasts .entry)) place (now (text .entry)) (now (comment .entry)) ⌝ }
+) -> CommentHalf
+    ensures { λ r. ⌜ commentLeft r (now (comment .exit))
+        ≡ placeOfComment (now (header .entry)) (now (lasts .entry)) place (now (comment .entry)) ⌝ }
+{
+    entries::comment_at(header, last_at(lasts, place), comment)
+}
+
+// The card's number at a place. A place that the listing lacks is free.
+fn last_at(lasts: &[usize], place: usize) -> usize
+    ensures { λ r. ⌜ r ≡ getD (now (lasts .entry)) place free ⌝ }
 {
     if place < lasts.len() {
-        return entries::read_entry(header, lasts[place], text, comment);
+        return lasts[place];
     }
-    entries::read_entry(header, FREE, text, comment)
+    FREE
 }
 
 // The listing of a refused header: all places are free.

@@ -5,7 +5,7 @@ use lib.IntN.{ℤ}
 use mathlib.Core.Path.{_≡_, sym, _∙_}
 use denote.Ref.{now}
 use Rattle.abi_card.specs.Records.{cardOutcome}
-use Rattle.abi_header.specs.Headers.{HeaderOutcome, EntryOutcome, ListOutcome, NamedOutcome}
+use Rattle.abi_header.specs.Headers.{HeaderOutcome, ValueMemory, CommentMemory, ListOutcome, NamedOutcome}
 use Rattle.abi_writing.specs.Asking.{WrittenOutcome}
 use Rattle.abi_tile.specs.Tiles.{cursorOf}
 use Rattle.one_answer.specs.OneAnswer.{OneAnswer, pairOf}
@@ -16,8 +16,10 @@ use Rattle.abi_value.proofs.unit_end.Reads as unit-end-reads
 use Rattle.abi_value.proofs.column_after.Reads as column-after-reads
 use Rattle.abi_card.proofs.read_into.Reads as read-into-reads
 use Rattle.abi_header.proofs.header_into.Reads as header-into-reads
-use Rattle.abi_header.proofs.lookup_into.Reads as lookup-into-reads
-use Rattle.abi_header.proofs.entry_into.Reads as entry-into-reads
+use Rattle.abi_header.proofs.lookup_value_into.Reads as lookup-value-into-reads
+use Rattle.abi_header.proofs.lookup_comment_into.Reads as lookup-comment-into-reads
+use Rattle.abi_header.proofs.entry_value_into.Reads as entry-value-into-reads
+use Rattle.abi_header.proofs.entry_comment_into.Reads as entry-comment-into-reads
 use Rattle.abi_header.proofs.list_into.Reads as list-into-reads
 use Rattle.abi_header.proofs.name_into.Reads as name-into-reads
 use Rattle.abi_writing.proofs.write_into.Reads as write-into-reads
@@ -28,8 +30,10 @@ use Rattle.widrekas.proofs.widrekas_version.Reads as widrekas-version-reads
 use Rattle.widrekas.proofs.widrekas_unit.Reads as widrekas-unit-reads
 use Rattle.widrekas.proofs.widrekas_card.Reads as widrekas-card-reads
 use Rattle.widrekas.proofs.widrekas_header.Reads as widrekas-header-reads
-use Rattle.widrekas.proofs.widrekas_lookup.Reads as widrekas-lookup-reads
-use Rattle.widrekas.proofs.widrekas_entry.Reads as widrekas-entry-reads
+use Rattle.widrekas.proofs.widrekas_lookup_value.Reads as widrekas-lookup-value-reads
+use Rattle.widrekas.proofs.widrekas_lookup_comment.Reads as widrekas-lookup-comment-reads
+use Rattle.widrekas.proofs.widrekas_entry_value.Reads as widrekas-entry-value-reads
+use Rattle.widrekas.proofs.widrekas_entry_comment.Reads as widrekas-entry-comment-reads
 use Rattle.widrekas.proofs.widrekas_list.Reads as widrekas-list-reads
 use Rattle.widrekas.proofs.widrekas_name.Reads as widrekas-name-reads
 use Rattle.widrekas.proofs.widrekas_write.Reads as widrekas-write-reads
@@ -40,9 +44,13 @@ use Rattle.widrekas.proofs.widrekas_decode.Reads as widrekas-decode-reads
 abbrev writtenLeft : ℕ → List ℕ → ℕ → WrittenOutcome
 writtenLeft r block count = record { answer = r; block = block; count = count }
 
-abbrev entryLeft : ℕ → List ℕ → List ℕ → List ℕ → List ℕ → ℤ → ℕ → EntryOutcome
-entryLeft r text comment digits out number column =
-    record { answer = r; text = text; comment = comment; digits = digits; numbers = out; number = number; column = column }
+abbrev valueMemory : ℕ → List ℕ → List ℕ → List ℕ → ℤ → ℕ → ValueMemory
+valueMemory r text digits out number column =
+    record { answer = r; text = text; digits = digits; numbers = out; number = number; column = column }
+
+abbrev commentMemory : ℕ → List ℕ → ℕ → ℕ → ℕ → ℕ → CommentMemory
+commentMemory r comment commented bytes card column =
+    record { answer = r; comment = comment; commented = commented; bytes = bytes; card = card; column = column }
 
 abbrev listLeft : ℕ → List ℕ → List ℕ → ℕ → ℕ → ListOutcome
 listLeft r first last count column = record { answer = r; first = first; last = last; count = count; column = column }
@@ -77,17 +85,29 @@ read-into κs a r q s t x y = x ∙ sym y
 pub header-into : OneAnswer header-into-reads.Post (λ r s. headerLeft r (now (s .1 .0)) (now (s .1 .1 .0)))
 header-into κs a r q s t x y = x ∙ sym y
 
--- `abi_header::lookup_into`
-pub lookup-into : OneAnswer lookup-into-reads.Post
-    (λ r s. entryLeft r (now (s .1 .1 .0)) (now (s .1 .1 .1 .0)) (now (s .1 .1 .1 .1 .0)) (now (s .1 .1 .1 .1 .1 .0))
-    (now (s .1 .1 .1 .1 .1 .1 .0)) (now (s .1 .1 .1 .1 .1 .1 .1 .0)))
-lookup-into κs a r q s t x y = x ∙ sym y
+-- `abi_header::lookup_value_into`
+pub lookup-value-into : OneAnswer lookup-value-into-reads.Post
+    (λ r s. valueMemory r (now (s .1 .1 .0)) (now (s .1 .1 .1 .0)) (now (s .1 .1 .1 .1 .0))
+    (now (s .1 .1 .1 .1 .1 .0)) (now (s .1 .1 .1 .1 .1 .1 .0)))
+lookup-value-into κs a r q s t x y = x ∙ sym y
 
--- `abi_header::entry_into`
-pub entry-into : OneAnswer entry-into-reads.Post
-    (λ r s. entryLeft r (now (s .1 .1 .0)) (now (s .1 .1 .1 .0)) (now (s .1 .1 .1 .1 .0)) (now (s .1 .1 .1 .1 .1 .0))
-    (now (s .1 .1 .1 .1 .1 .1 .0)) (now (s .1 .1 .1 .1 .1 .1 .1 .0)))
-entry-into κs a r q s t x y = x ∙ sym y
+-- `abi_header::lookup_comment_into`
+pub lookup-comment-into : OneAnswer lookup-comment-into-reads.Post
+    (λ r s. commentMemory r (now (s .1 .1 .0)) (now (s .1 .1 .1 .0)) (now (s .1 .1 .1 .1 .0))
+    (now (s .1 .1 .1 .1 .1 .0)) (now (s .1 .1 .1 .1 .1 .1 .0)))
+lookup-comment-into κs a r q s t x y = x ∙ sym y
+
+-- `abi_header::entry_value_into`
+pub entry-value-into : OneAnswer entry-value-into-reads.Post
+    (λ r s. valueMemory r (now (s .1 .1 .0)) (now (s .1 .1 .1 .0)) (now (s .1 .1 .1 .1 .0))
+    (now (s .1 .1 .1 .1 .1 .0)) (now (s .1 .1 .1 .1 .1 .1 .0)))
+entry-value-into κs a r q s t x y = x ∙ sym y
+
+-- `abi_header::entry_comment_into`
+pub entry-comment-into : OneAnswer entry-comment-into-reads.Post
+    (λ r s. commentMemory r (now (s .1 .1 .0)) (now (s .1 .1 .1 .0)) (now (s .1 .1 .1 .1 .0))
+    (now (s .1 .1 .1 .1 .1 .0)) (now (s .1 .1 .1 .1 .1 .1 .0)))
+entry-comment-into κs a r q s t x y = x ∙ sym y
 
 -- `abi_header::list_into`
 pub list-into : OneAnswer list-into-reads.Post
@@ -138,17 +158,29 @@ widrekas-card κs a r q s t x y = x ∙ sym y
 pub widrekas-header : OneAnswer widrekas-header-reads.Post (λ r s. headerLeft r (now (s .1 .0)) (now (s .1 .1 .0)))
 widrekas-header κs a r q s t x y = x ∙ sym y
 
--- `widrekas::widrekas_lookup`
-pub widrekas-lookup : OneAnswer widrekas-lookup-reads.Post
-    (λ r s. entryLeft r (now (s .1 .1 .0)) (now (s .1 .1 .1 .0)) (now (s .1 .1 .1 .1 .0)) (now (s .1 .1 .1 .1 .1 .0))
-    (now (s .1 .1 .1 .1 .1 .1 .0)) (now (s .1 .1 .1 .1 .1 .1 .1 .0)))
-widrekas-lookup κs a r q s t x y = x ∙ sym y
+-- `widrekas::widrekas_lookup_value`
+pub widrekas-lookup-value : OneAnswer widrekas-lookup-value-reads.Post
+    (λ r s. valueMemory r (now (s .1 .1 .0)) (now (s .1 .1 .1 .0)) (now (s .1 .1 .1 .1 .0))
+    (now (s .1 .1 .1 .1 .1 .0)) (now (s .1 .1 .1 .1 .1 .1 .0)))
+widrekas-lookup-value κs a r q s t x y = x ∙ sym y
 
--- `widrekas::widrekas_entry`
-pub widrekas-entry : OneAnswer widrekas-entry-reads.Post
-    (λ r s. entryLeft r (now (s .1 .1 .0)) (now (s .1 .1 .1 .0)) (now (s .1 .1 .1 .1 .0)) (now (s .1 .1 .1 .1 .1 .0))
-    (now (s .1 .1 .1 .1 .1 .1 .0)) (now (s .1 .1 .1 .1 .1 .1 .1 .0)))
-widrekas-entry κs a r q s t x y = x ∙ sym y
+-- `widrekas::widrekas_lookup_comment`
+pub widrekas-lookup-comment : OneAnswer widrekas-lookup-comment-reads.Post
+    (λ r s. commentMemory r (now (s .1 .1 .0)) (now (s .1 .1 .1 .0)) (now (s .1 .1 .1 .1 .0))
+    (now (s .1 .1 .1 .1 .1 .0)) (now (s .1 .1 .1 .1 .1 .1 .0)))
+widrekas-lookup-comment κs a r q s t x y = x ∙ sym y
+
+-- `widrekas::widrekas_entry_value`
+pub widrekas-entry-value : OneAnswer widrekas-entry-value-reads.Post
+    (λ r s. valueMemory r (now (s .1 .1 .0)) (now (s .1 .1 .1 .0)) (now (s .1 .1 .1 .1 .0))
+    (now (s .1 .1 .1 .1 .1 .0)) (now (s .1 .1 .1 .1 .1 .1 .0)))
+widrekas-entry-value κs a r q s t x y = x ∙ sym y
+
+-- `widrekas::widrekas_entry_comment`
+pub widrekas-entry-comment : OneAnswer widrekas-entry-comment-reads.Post
+    (λ r s. commentMemory r (now (s .1 .1 .0)) (now (s .1 .1 .1 .0)) (now (s .1 .1 .1 .1 .0))
+    (now (s .1 .1 .1 .1 .1 .0)) (now (s .1 .1 .1 .1 .1 .1 .0)))
+widrekas-entry-comment κs a r q s t x y = x ∙ sym y
 
 -- `widrekas::widrekas_list`
 pub widrekas-list : OneAnswer widrekas-list-reads.Post

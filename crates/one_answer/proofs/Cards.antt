@@ -10,6 +10,7 @@ use Rattle.refusal.proofs.fault_of.Reads as fault-of-reads
 use Rattle.refusal.proofs.fault_at.Reads as fault-at-reads
 use Rattle.text.proofs.is_blank.Reads as is-blank-reads
 use Rattle.text.proofs.is_printable.Reads as is-printable-reads
+use Rattle.text.proofs.are_printable.Reads as are-printable-reads
 use Rattle.text.proofs.is_digit.Reads as is-digit-reads
 use Rattle.text.proofs.replaced.Reads as replaced-reads
 use Rattle.text.proofs.trim_start.Reads as trim-start-reads
@@ -63,6 +64,10 @@ is-blank κs a r q s t x y = x ∙ sym y
 -- `text::is_printable`
 pub is-printable : OneAnswer is-printable-reads.Post (λ r s. r)
 is-printable κs a r q s t x y = x ∙ sym y
+
+-- `text::are_printable`
+pub are-printable : OneAnswer are-printable-reads.Post (λ r s. r)
+are-printable κs a r q s t x y = x ∙ sym y
 
 -- `text::is_digit`
 pub is-digit : OneAnswer is-digit-reads.Post (λ r s. r)

@@ -1,51 +1,43 @@
 -- The line of the name at a place: what is read there, and that it fits.
-use Prim.Native.Nat.{ℕ, zero, suc, _+_, _-_, _/_, _≤_, _<_}
+use Prim.Native.Nat.{ℕ, zero, suc, _+_, _/_, _≤_, _<_}
 use native.Mathlib.Nat.{add-assoc}
 use native.Mathlib.Omega.{arith}
-use mathlib.Core.Path.{_≡_, refl, sym, ap, ap₂, subst, _∙_}
-use mathlib.Core.List.{List, [], _∷_, _++_, map}
-use mathlib.Core.Option.{Option, none, some}
+use mathlib.Core.Path.{_≡_, sym, ap, _∙_}
+use mathlib.Core.List.{List, [], _∷_, _++_}
 use borrow.Author.Tests.{le-leb}
-use lib.Dec.{leb, ltb}
 use lib.ListN.{length, getD, take, length-append, length-map}
 use lib.Seq.{sets, take-length, length-take-le}
 use Rattle.text.specs.Text.{filled, textOf, bytesOf}
-use Rattle.numbers.specs.declared.Value.{Value}
 use Rattle.card.specs.declared.CardRead.{CardRead}
 use Rattle.card.specs.Cards.{cardOf}
 use Rattle.roles.specs.declared.Role.{Role as Told}
 use Rattle.roles.specs.declared.Role.the-variants as T
-use Rattle.roles.specs.Roles.{Held, Role, entry, neutral, last, roleBy, roleIn, roleRead, roleOf}
-use Rattle.roles.specs.Cards.{rolesOf, cardNo, roleNo, cardAt}
+use Rattle.roles.specs.Roles.{Held, Role, entry, neutral, last, roleBy, roleIn}
+use Rattle.roles.specs.Cards.{rolesOf, cardNo, cardAt}
 use Rattle.roles.proofs.Cards.{role-count, role-is}
 use Rattle.roles.proofs.Counting.{card-here}
 use Rattle.joining.specs.Lookup.{lookup}
-use Rattle.finding.specs.declared.Stop.{Stop}
-use Rattle.finding.specs.declared.Header.{Header}
 use Rattle.finding.specs.declared.Header.the-variants.{Accepted, Refused}
 use Rattle.finding.specs.Finding.{headerOf}
 use Rattle.entries.specs.declared.LookupAnswer.the-variants as L
-use Rattle.entries.specs.declared.Looked.{Looked}
-use Rattle.entries.specs.Answers.{LookupOutcome, leftBy, bytesIn, foundAs, untouched, written, given, lookedUp, lookupOf, entryOf}
+use Rattle.entries.specs.declared.ValueHalf.{ValueHalf}
+use Rattle.entries.specs.Halves.{Sought, heldIn, valueLeft, valueIn, valueNumbered}
 use Rattle.entries.proofs.Looking.{accepted-good}
 use Rattle.listing.specs.declared.Listing.{Listing}
-use Rattle.listing.specs.Listing.{places, free, nameOf, listOf, placeOfEntry}
+use Rattle.listing.specs.Listing.{places, free, nameOf, listOf}
 use Rattle.lines.specs.Lines.{entryLine}
 use Rattle.agreeing.specs.Firsts.{firstsOf, lastsOf}
-use Rattle.agreeing.specs.Agreeing.{StandsAt, PlaceTaken, FoundIn, namesListed}
-use Rattle.agreeing.proofs.Agreed.{agreement, each-taken, each-standing, contents}
+use Rattle.agreeing.specs.Agreeing.{PlaceTaken, FoundIn, namesListed}
+use Rattle.agreeing.proofs.Agreed.{by-cards, sought-at, each-taken, each-standing, contents}
 use Rattle.agreeing.proofs.Fitting.{names-fit}
 use Rattle.agreeing.proofs.Naming.{at-map, filled-long, first-long, name-kth}
-use Rattle.bounds.specs.Longest.{longestText, longestRemark, Short}
+use Rattle.bounds.specs.Longest.{longestText, Short}
 use Rattle.bounds.proofs.Joined.{each-short}
 use Rattle.printing.specs.Output.{lineFor, nameLines, inOrder}
 
--- ---- lists
--- another default, where there is an element
-pub at-within : (l : List ℕ) (k d e : ℕ) → k < length l → getD l k d ≡ getD l k e
-at-within [] k d e p = absurd (omega arith)
-at-within (x ∷ l) zero d e p = refl
-at-within (x ∷ l) (suc k) d e p = at-within l k d e (omega arith)
+-- a value that was found
+abbrev pub halfOf : Held → ValueHalf
+halfOf v = record { answer = L.Found (v .value); digits = textOf (v .digits); text = length (v .words .text) }
 
 -- ---- lines one behind the other
 pub in-order-next : (ls : List (List ℕ)) (k : ℕ) → k < length ls
@@ -131,22 +123,14 @@ module _ (h : List ℕ) (end : ℕ) (a : headerOf h ≡ Accepted end) where
     pub first-named : bytesOf (cardAt h (getD (listOf h .first) k free) .name) ≡ name
     first-named = card-named h (getD (listOf h .first) k free) name (taken .stands .held) (taken .stands .bears)
 
-    -- the entry at its last card is read whole where the buffers are wide
-    pub read-whole : (text line : List ℕ) → longestText ≤ length text → longestRemark ≤ length line
-        → entryOf h (getD (listOf h .last) k free) text line
-        ≡ leftBy (foundAs value) (sets text 0 (value .words .text)) (sets line 0 (bytesIn (value .words .comment)))
-    unfolding placeOfEntry lookupOf written
-    read-whole text line wide wider =
-        let s = value .words .text in
-        let c = bytesIn (value .words .comment) in
-        agreement h end a name k (taken .stands) text line
-        ∙ ap (λ (x : Header). lookedUp x (rolesOf h) name text line) a
-        ∙ ap (λ (o : Option Held). given o text line) (found .is)
-        ∙ rw (
-          le-leb (length s) (length text) (omega (arith, short .text)),
-          le-leb (length c) (length line)
-              (omega (arith, short .comment)),
-        )
+    -- the value of the entry at its last card is read whole where the buffer is wide
+    pub read-whole : (text : List ℕ) → longestText ≤ length text
+        → valueNumbered h (getD (listOf h .last) k free) text ≡ valueLeft (halfOf value) (sets text 0 (value .words .text))
+    unfolding valueIn
+    read-whole text wide =
+        ap (λ (x : Sought). valueIn x text)
+        (sought-at h end a name k (taken .stands) ∙ by-cards h end a name ∙ ap heldIn (found .is))
+        ∙ rw (le-leb (length (value .words .text)) (length text) (omega (arith, short .text)))
 
     -- the line is one of the header's
     pub line-is : getD (nameLines h) k [] ≡ entryLine name (value .value) (value .digits) (value .words .text)

@@ -1,5 +1,5 @@
 -- What is known where the names of a header are printed.
-use Prim.Native.Nat.{ℕ, _<_, _≤_}
+use Prim.Native.Nat.{ℕ, _+_, _≤_}
 use mathlib.Core.Path.{_≡_}
 use mathlib.Core.List.{List}
 use lib.ListN.{length, take}
@@ -8,7 +8,8 @@ use Rattle.finding.specs.Finding.{headerOf}
 use Rattle.listing.specs.Listing.{listOf}
 use Rattle.lines.specs.declared.Line.{Line}
 use Rattle.lines.specs.declared.Line.the-variants.{Written, Short}
-use Rattle.bounds.specs.Longest.{longestText, longestRemark}
+use Rattle.lines.specs.Lines.{lineRoom}
+use Rattle.bounds.specs.Longest.{longestText}
 
 -- the header is accepted, and these are the first cards and the last entries of its list
 pub record IsListed (h first last : List ℕ) : Type 0 where
@@ -17,10 +18,10 @@ pub record IsListed (h first last : List ℕ) : Type 0 where
   pub first-cards : first ≡ listOf h .first
   pub last-entries : last ≡ listOf h .last
 
--- two buffers that every text, comment and line of a header fits in
+-- two buffers that every text and every line of a header fits in
 pub record IsWide (text line : List ℕ) : Type 0 where
   pub for-text : longestText ≤ length text
-  pub for-line : longestRemark ≤ length line
+  pub for-line : longestText + lineRoom ≤ length line
 
 -- the first n bytes of a buffer are a line
 pub record Front (n : ℕ) (out line : List ℕ) : Type 0 where

@@ -70,7 +70,6 @@ fn print_names<'a>(
         ++ printedLine escaped (countLine count)) ⌝ }
 {
     let mut text = [0u8; 51200];
-    // For an entry's comment, which is not printed, and then for its line.
     let mut line = [0u8; 52640];
     let mut printed = 0;
     let mut k = 0;
@@ -128,7 +127,7 @@ fn name_part(
     ensures { λ r. ⌜ Front r (now (line .exit)) (getD (nameLines (now (header .entry))) k []) ⌝ }
 {
     let card = roles::card_at(header, first[k]);
-    let looked = entries::read_entry(header, last[k], text, line);
+    let looked = entries::value_at(header, last[k], text);
     let answer = looked.answer;
     let LookupAnswer::Found(value) = answer else {
         return 0;

@@ -8,6 +8,7 @@ ghost use mathlib.Core.Path.{_≡_};
 ghost use Prim.Native.Nat.{_+_, _≤_, _<_};
 ghost use lib.ListN.{length};
 use card::CARD;
+use entries::CommentAnswer;
 use entries::LookupAnswer;
 use finding::Header;
 use libc::STDIN_FILENO;
@@ -106,10 +107,16 @@ fn put_entry(
     line: &mut [u8],
 ) {
     let entry = roles::card_at(header, first);
-    let looked = entries::read_entry(header, last, text, comment);
+    let looked = entries::value_at(header, last, text);
+    let remark = entries::comment_at(header, last, comment);
     let answer = looked.answer;
+    let said = remark.answer;
     let LookupAnswer::Found(value) = answer else {
         put(b"no entry\n");
+        return;
+    };
+    let CommentAnswer::Found(commented) = said else {
+        put(b"no comment\n");
         return;
     };
     let name = entry.name;
@@ -117,7 +124,7 @@ fn put_entry(
     let shown = text::first_of(text, looked.text);
     let written = lines::entry_line(name, value, digits, shown, line);
     put_line(written, line);
-    put_comment(looked.commented, text::first_of(comment, looked.comment));
+    put_comment(commented, text::first_of(comment, remark.comment));
     put_record(value, digits);
     put(b"\n");
 }

@@ -4,10 +4,10 @@ ghost use Rattle.value.specs.Units.{unitOf};
 ghost use Rattle.abi_value.specs.Telling.{unitEnd};
 ghost use Rattle.abi_card.specs.Records.{CardLeft};
 ghost use Rattle.finding.specs.Finding.{headerOf};
-ghost use Rattle.entries.specs.Answers.{lookupOf, entryOf};
+ghost use Rattle.entries.specs.Halves.{valueNamed, valueNumbered, commentNamed, commentNumbered};
 ghost use Rattle.listing.specs.Listing.{listOf};
 ghost use Rattle.naming.specs.Naming.{nameAt};
-ghost use Rattle.abi_header.specs.Headers.{HeaderLeft, EntryLeft, ListLeft, NameLeft};
+ghost use Rattle.abi_header.specs.Headers.{HeaderLeft, ValueLeft, CommentLeft, ListLeft, NameLeft};
 ghost use Rattle.laws.specs.Lending.{lentOf};
 ghost use Rattle.roles.specs.Roles.{commentOf};
 ghost use Rattle.writing.specs.Block.{writeOf};
@@ -17,9 +17,9 @@ ghost use Rattle.abi_tile.specs.Tiles.{cursorIn, OpenLeft, StepLeft, DecodeLeft
 // The version of this boundary.
 #[no_mangle]
 pub extern "C" fn widrekas_version() -> u32
-    ensures { λ r. ⌜ r ≡ 2 ⌝ }
+    ensures { λ r. ⌜ r ≡ 3 ⌝ }
 {
-    2
+    3
 }
 
 // ---- cards
@@ -58,44 +58,78 @@ pub extern "C" fn widrekas_header(header: &[u8], card: &mut usize, column: &mut 
     abi_header::header_into(header, card, column)
 }
 
-// Looks a name up in a header. Answers 0, with seven numbers: 0, the value's kind, whether it is true or negative, whether there is
-// a comment, and the lengths of the text, the comment and the digits; the text and the comment at the front of their buffers; a
-// decimal's digits, then zeros, in 80 bytes; and the integer or the power of ten. Otherwise it answers the refusal's number, or 255 where
-// digits or numbers have another length. Nothing is written then, except that a refusal of the header stores the card's number in the
-// first of the seven, and a refused card's byte in the column.
+// Looks a name's value up in a header. Answers 0, with five numbers: 0, the value's kind, whether it is true or negative, and the
+// lengths of the text and the digits; the text at the front of its buffer; a decimal's digits, then zeros, in 80 bytes; and the integer
+// or the power of ten. Otherwise it answers the refusal's number, or 255 where digits or numbers have another length. Nothing is written
+// then, except that a refusal of the header stores the card's number in the first of the five, and a refused card's byte in the column;
+// and that 12 and 13 store the room that is wanted in the number of the text's length.
 #[no_mangle]
-pub extern "C" fn widrekas_lookup(
+pub extern "C" fn widrekas_lookup_value(
     header: &[u8],
     name: &[u8],
     text: &mut [u8],
-    comment: &mut [u8],
     digits: &mut [u8],
     out: &mut [usize],
     number: &mut i64,
     column: &mut usize,
 ) -> u8
-    ensures { λ r. ⌜ EntryLeft (lookupOf (now (header .entry)) (now (name .entry)))
-        (lentOf text) (lentOf comment) (lentOf digits) (lentOf out) (lentOf number) (lentOf column) r ⌝ }
+    ensures { λ r. ⌜ ValueLeft (valueNamed (now (header .entry)) (now (name .entry)))
+        (lentOf text) (lentOf digits) (lentOf out) (lentOf number) (lentOf column) r ⌝ }
 {
-    abi_header::lookup_into(header, name, text, comment, digits, out, number, column)
+    abi_header::lookup_value_into(header, name, text, digits, out, number, column)
 }
 
-// Reads the entry at a card's number, whatever stands elsewhere in the header, and answers as a lookup does.
+// Looks a name's comment up in a header. Answers 0, with whether there is one (1, or 0), its length, and the comment at the front of its
+// buffer. Otherwise it answers the refusal's number: a refusal of the header stores the card's number, and a refused card's byte in the
+// column; 12 and 13 store the room that is wanted in the length. All else stays as it is.
 #[no_mangle]
-pub extern "C" fn widrekas_entry(
+pub extern "C" fn widrekas_lookup_comment(
+    header: &[u8],
+    name: &[u8],
+    comment: &mut [u8],
+    commented: &mut usize,
+    length: &mut usize,
+    card: &mut usize,
+    column: &mut usize,
+) -> u8
+    ensures { λ r. ⌜ CommentLeft (commentNamed (now (header .entry)) (now (name .entry)))
+        (lentOf comment) (lentOf commented) (lentOf length) (lentOf card) (lentOf column) r ⌝ }
+{
+    abi_header::lookup_comment_into(header, name, comment, commented, length, card, column)
+}
+
+// Reads the value of the entry at a card's number, whatever stands elsewhere in the header, and answers as a lookup does.
+#[no_mangle]
+pub extern "C" fn widrekas_entry_value(
     header: &[u8],
     card: usize,
     text: &mut [u8],
-    comment: &mut [u8],
     digits: &mut [u8],
     out: &mut [usize],
     number: &mut i64,
     column: &mut usize,
 ) -> u8
-    ensures { λ r. ⌜ EntryLeft (entryOf (now (header .entry)) card)
-        (lentOf text) (lentOf comment) (lentOf digits) (lentOf out) (lentOf number) (lentOf column) r ⌝ }
+    ensures { λ r. ⌜ ValueLeft (valueNumbered (now (header .entry)) card)
+        (lentOf text) (lentOf digits) (lentOf out) (lentOf number) (lentOf column) r ⌝ }
 {
-    abi_header::entry_into(header, card, text, comment, digits, out, number, column)
+    abi_header::entry_value_into(header, card, text, digits, out, number, column)
+}
+
+// Reads the comment of the entry at a card's number, whatever stands elsewhere in the header, and answers as a lookup does.
+#[no_mangle]
+pub extern "C" fn widrekas_entry_comment(
+    header: &[u8],
+    number: usize,
+    comment: &mut [u8],
+    commented: &mut usize,
+    length: &mut usize,
+    card: &mut usize,
+    column: &mut usize,
+) -> u8
+    ensures { λ r. ⌜ CommentLeft (commentNumbered (now (header .entry)) number)
+        (lentOf comment) (lentOf commented) (lentOf length) (lentOf card) (lentOf column) r ⌝ }
+{
+    abi_header::entry_comment_into(header, number, comment, commented, length, card, column)
 }
 
 // Lists a header's names in the order of their first cards. Answers 0, with the number of names and, for each, the number of the

@@ -1,14 +1,17 @@
 -- `entries::join_comment` meets its contract: a line feed stands between two comments.
 use Prim.Native.Nat.{ℕ, _+_, _≤_}
 use native.Mathlib.Omega.{arith}
-use mathlib.Core.Path.{_≡_, sym, ap, _∙_}
+use mathlib.Core.Path.{_≡_, sym, ap, ap₂, _∙_}
 use mathlib.Core.Bool.{Bool}
 use mathlib.Core.List.{List}
-use lib.ListN.{length}
+use mathlib.Core.Option.{some}
+use lib.ListN.{length, take}
 use lib.Seq.{sets}
 use Rattle.text.specs.Text.{size, bytesOf}
 use Rattle.text.proofs.Texts.{bytes-fit}
-use Rattle.entries.specs.Passes.{placeBehind, laidBehind}
+use Rattle.roles.specs.Roles.{commentOf}
+use Rattle.joining.specs.Words.{joinComment}
+use Rattle.entries.proofs.Remarks.{put-behind, put-alone}
 use borrow.Author.Needs.{needs}
 use Rattle.entries.proofs.join_comment.Statement.{statement}
 use Rattle.entries.proofs.join_comment.Tie as tie
@@ -18,6 +21,14 @@ array c = search needs
 
 short : (c : tie.Start) → length (bytesOf (c .args .c)) ≤ size
 short c = bytes-fit (c .args .c) (array c)
+
+-- the case that the test knows is the whole
+by : (c : tie.Start) (there : Bool) → c .args .there ≡ there → let a = c .args in
+    joinComment (commentOf there (take (a .n) (a .held .now))) (some (bytesOf (a .c)))
+    ≡ joinComment (commentOf (a .there) (take (a .n) (a .held .now))) (some (bytesOf (a .c)))
+by c there e =
+    let a = c .args in
+    sym (ap (λ (b : Bool). joinComment (commentOf b (take (a .n) (a .held .now))) (some (bytesOf (a .c)))) e)
 
 slice-aggregate-put-at : tie.Need-slice-aggregate-put-at
 slice-aggregate-put-at c = search needs
@@ -50,12 +61,13 @@ returns c =
     let put = c .before .before .before in
     let line = put .before .before .before .before in
     let test = line .before .before .before in
-    let a = test .before .before .args in
-    let long = length (bytesOf (a .c)) in (
-      ap (λ (k : ℕ). a .n + 1 + k) (c .count-of .ensures) ∙ sym (ap (λ (b : Bool). placeBehind b (a .n) + long) (test .if1 .taken)),
-      put .put-text .ensures
-          ∙ ap (λ (l : List ℕ). sets l (a .n + 1) (bytesOf (a .c))) (line .put-at .ensures)
-          ∙ sym (ap (λ (b : Bool). laidBehind b (a .n) (a .out .now) (bytesOf (a .c))) (test .if1 .taken)),
+    let s = test .before .before in
+    let a = s .args in (
+      ap₂ (λ (k : ℕ) (l : List ℕ). some (take (a .n + 1 + k) l)) (c .count-of .ensures)
+          (put .put-text .ensures ∙ ap (λ (l : List ℕ). sets l (a .n + 1) (bytesOf (a .c))) (line .put-at .ensures))
+          ∙ put-behind (a .held .now) (bytesOf (a .c)) (a .n) (omega (arith, short s, s .pre))
+          ∙ by s _ (test .if1 .taken),
+      omega (arith, c .count-of .ensures, short s),
     )
 
 put-text-requires-2 : tie.Need-put-text-requires-2
@@ -64,11 +76,6 @@ put-text-requires-2 c κs = search needs
 count-of-requires-2 : tie.Need-count-of-requires-2
 count-of-requires-2 c κs = search needs
 
-add-result-3 : tie.Need-add-result-3
-add-result-3 c =
-    let s = c .before .before .before .before .before .before .before in
-    omega (arith, c .count-of2 .ensures, short s, s .pre)
-
 same-length-2 : tie.Need-same-length-2
 same-length-2 c = search needs
 
@@ -76,10 +83,12 @@ returns-2 : tie.Need-returns-2
 returns-2 c =
     let put = c .before .before .before in
     let test = put .before .before in
-    let a = test .before .before .args in
-    let long = length (bytesOf (a .c)) in (
-      ap (λ (k : ℕ). a .n + k) (c .count-of2 .ensures) ∙ sym (ap (λ (b : Bool). placeBehind b (a .n) + long) (test .if1 .left)),
-      put .put-text2 .ensures ∙ sym (ap (λ (b : Bool). laidBehind b (a .n) (a .out .now) (bytesOf (a .c))) (test .if1 .left)),
+    let s = test .before .before in
+    let a = s .args in (
+      ap₂ (λ (k : ℕ) (l : List ℕ). some (take k l)) (c .count-of2 .ensures) (put .put-text2 .ensures)
+          ∙ put-alone (a .held .now) (bytesOf (a .c)) (omega (arith, short s, s .pre))
+          ∙ by s _ (test .if1 .left),
+      omega (arith, c .count-of2 .ensures, short s),
     )
 
 pub join-comment-spec : {M : Type 1} → statement M
@@ -97,6 +106,5 @@ join-comment-spec =
     returns
     put-text-requires-2
     count-of-requires-2
-    add-result-3
     same-length-2
     returns-2)

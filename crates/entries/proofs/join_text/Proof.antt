@@ -10,7 +10,7 @@ use Rattle.text.specs.Text.{size, bytesOf}
 use Rattle.text.specs.Trim.{trimEnd}
 use Rattle.text.proofs.Texts.{bytes-fit}
 use Rattle.text.proofs.Trimming.{end-shorter}
-use Rattle.entries.proofs.Buffers.{joined-cut, joined-put}
+use Rattle.entries.proofs.Texts.{joined-cut, joined-put}
 use borrow.Author.Needs.{needs}
 use Rattle.entries.proofs.join_text.Statement.{statement}
 use Rattle.entries.proofs.join_text.Tie as tie
