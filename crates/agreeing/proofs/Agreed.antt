@@ -3,15 +3,11 @@
 use Prim.Native.Nat.{ℕ, zero, suc, _<_}
 use native.Mathlib.Omega.{arith}
 use mathlib.Core.Path.{_≡_, refl, sym, ap, ap₂, subst, _∙_}
-use mathlib.Core.Bool.{Bool, true, false, cond, _&&_}
+use mathlib.Core.Bool.{Bool, true, false, cond}
 use mathlib.Core.List.{List, [], _∷_, map}
 use mathlib.Core.Option.{Option, none, some}
-use lib.Dec.{leb}
 use lib.ListN.{length, getD, drop, length-map, List·getD-append}
-use lib.Seq.{sets, ext-getD}
-use Rattle.refusal.specs.declared.Fault.{Fault}
-use Rattle.refusal.specs.declared.Refusal.the-variants as R
-use Rattle.refusal.specs.Numbers.{faultOf}
+use lib.Seq.{ext-getD}
 use Rattle.text.specs.declared.Place.{Place}
 use Rattle.text.specs.declared.Place.the-variants.{At, Nowhere}
 use Rattle.text.specs.Same.{same}
@@ -19,18 +15,18 @@ use Rattle.text.specs.Text.{filled}
 use Rattle.roles.specs.Roles.{Held, Role, entry, more, neutral, last, refused}
 use Rattle.roles.specs.Cards.{rolesOf}
 use Rattle.joining.specs.Lookup.{lookup, whole, orElse}
+use Rattle.finding.specs.declared.Stop.{Stop}
 use Rattle.finding.specs.declared.Header.{Header}
 use Rattle.finding.specs.declared.Header.the-variants.{Accepted, Refused}
 use Rattle.finding.specs.Finding.{headerOf, lastFrom, lastOf}
-use Rattle.entries.specs.declared.LookupAnswer.the-variants as L
-use Rattle.entries.specs.Answers.{LookupOutcome, leftBy, foundAs, untouched, written, bytesIn, given, lookedUp, lookupOf}
-use Rattle.entries.specs.Answers.{entryAt, entryFrom, entryOf}
+use Rattle.entries.specs.Answers.{entryAt}
+use Rattle.entries.specs.Halves.{heldIn, soughtIn, named, numberedFrom, numbered}
 use Rattle.entries.proofs.Looking.{accepted-good, last-found, last-read}
 use Rattle.listing.specs.declared.Listing.{Listing}
-use Rattle.listing.specs.Listing.{places, free, Table, empty, nameOf, placeIn, tabled, byHeader, listOf, placeOfEntry}
+use Rattle.listing.specs.Listing.{places, free, Table, empty, nameOf, placeIn, tabled, byHeader, listOf}
 use Rattle.agreeing.specs.Firsts.{isAmong, firstsOf, numberAt, lastNumber, lastsOf}
-use Rattle.agreeing.specs.Agreeing.{Contents, ByLast, StandsAt, StandsIn, Agreement, EachTaken, Once, FoundIn}
-use Rattle.agreeing.specs.Agreeing.{EachStanding, EachFound, Missing, OnlyMissing, SameRefusal}
+use Rattle.agreeing.specs.Agreeing.{Contents, ByLast, StandsAt, StandsIn, EachTaken, Once, FoundIn}
+use Rattle.agreeing.specs.Agreeing.{EachStanding, EachFound}
 use Rattle.agreeing.proofs.Places.{lastAt, nameNo, placeOfName, lastInTable, hit-under, hit-named}
 use Rattle.agreeing.proofs.Tables.{EntryNo, Sound, Seen, Comes, comes}
 use Rattle.agreeing.proofs.Ending.{until-end}
@@ -152,32 +148,28 @@ module _ (h : List ℕ) (end : ℕ) (a : headerOf h ≡ Accepted end) where
       sym (last-found name roles)
       ∙ ap (λ (q : Place). entryAt q roles) (sym (last-is name) ∙ ap (λ (q : Place). lastAt q (table .last)) e)
 
-  -- an accepted header answers by its cards
-  by-cards : (name text comment : List ℕ) → lookupOf h name text comment ≡ given (lookup name roles) text comment
-  unfolding lookupOf
-  by-cards name text comment = ap (λ (x : Header). lookedUp x roles name text comment) a
+  -- an accepted header holds what its cards give
+  pub by-cards : (name : List ℕ) → named h name ≡ heldIn (lookup name roles)
+  unfolding named
+  by-cards name = ap (λ (x : Header). soughtIn x (lookup name roles)) a
 
-  by-number : (i : ℕ) (text comment : List ℕ) → entryOf h i text comment ≡ entryFrom (drop i roles) i text comment
-  unfolding entryOf
-  by-number i text comment = rw (accepted-good h end a)
-
-  at-place : (k : ℕ) (text comment : List ℕ) → let i = getD (listOf h .last) k free in
-      placeOfEntry h (listOf h .last) k text comment ≡ entryFrom (drop i roles) i text comment
-  unfolding placeOfEntry
-  at-place k text comment = by-number (getD (listOf h .last) k free) text comment
+  by-number : (i : ℕ) → numbered h i ≡ numberedFrom (drop i roles) i
+  unfolding numbered
+  by-number i = rw (accepted-good h end a)
 
   -- the card at a name's place is the last that bears the name
   last-card : (name : List ℕ) (k : ℕ) → StandsAt h name k → lastOf name roles ≡ At (getD (table .last) k free)
   last-card name k s = sym (last-is name) ∙ ap (λ (q : Place). lastAt q (table .last)) (place-of name k s)
 
-  read-at : (name : List ℕ) (k : ℕ) → StandsAt h name k → (text comment : List ℕ)
-      → placeOfEntry h (listOf h .last) k text comment ≡ given (lookup name roles) text comment
-  read-at name k s text comment =
+  -- so the entry there is what the name is answered
+  pub sought-at : (name : List ℕ) (k : ℕ) → StandsAt h name k → numbered h (getD (listOf h .last) k free) ≡ named h name
+  sought-at name k s =
       let i = getD (table .last) k free in
-      at-place k text comment
-      ∙ ap (λ (j : ℕ). entryFrom (drop j roles) j text comment) (last-in k (under name k s))
-      ∙ last-read name end h i a (last-card name k s) text comment
-      ∙ ap (λ (o : Option Held). given o text comment) (sym (lookup-by name (At k) (place-of name k s)))
+      ap (numbered h) (last-in k (under name k s))
+      ∙ by-number i
+      ∙ last-read name end h i a (last-card name k s)
+      ∙ ap heldIn (sym (lookup-by name (At k) (place-of name k s)))
+      ∙ sym (by-cards name)
 
   found-or : (name : List ℕ) (o : Option Held) → lookup name roles ≡ o → StandsIn h name → FoundIn h name
   found-or name (some v) e s = record { held = v; is = e }
@@ -198,31 +190,6 @@ module _ (h : List ℕ) (end : ℕ) (a : headerOf h ≡ Accepted end) where
   missing-or name (At k) e s = absurd (s (record { place = k; stands = stands-at name k e }))
   missing-or name Nowhere e s = lookup-by name Nowhere e
 
--- what is written is not refused with 12
-not-12 : (v : Held) (text comment : List ℕ) → written v text comment .answer .answer ≡ L.Refused (faultOf R.NameNotFound) → ⊥
-unfolding written
-not-12 v text comment e = go (leb (length s) (length text) && leb (length c) (length comment)) e
-  where
-    s : List ℕ
-    s = v .words .text
-
-    c : List ℕ
-    c = bytesIn (v .words .comment)
-
-    fits : LookupOutcome
-    fits = leftBy (foundAs v) (sets text 0 s) (sets comment 0 c)
-
-    short : LookupOutcome
-    short = untouched (L.Refused (faultOf R.BufferShort)) text comment
-
-    go : (b : Bool) → cond b fits short .answer .answer ≡ L.Refused (faultOf R.NameNotFound) → ⊥
-    go true x = let z : _≡_ {A = ℕ} 0 1 = cc in omega arith
-    go false x =
-        let fault : faultOf R.BufferShort ≡ faultOf R.NameNotFound = cc in
-        let why : R.BufferShort ≡ R.NameNotFound = ap (λ (f : Fault). f .why) fault in
-        let z : _≡_ {A = ℕ} 0 1 = cc in
-        omega arith
-
 pub by-last : ByLast
 by-last name roles = sym (last-found name roles)
 
@@ -230,10 +197,6 @@ pub contents : Contents
 contents h end a =
     list-is h end a
     ∙ ap₂ (λ (f l : List ℕ). tabled (Accepted end) (record { first = f; last = l })) (firsts-are h end a) (lasts-are h end a)
-
-pub agreement : Agreement
-agreement h end a name k s text comment =
-    read-at h end a name k s text comment ∙ sym (by-cards h end a name text comment)
 
 pub each-taken : EachTaken
 each-taken h end a k p =
@@ -249,25 +212,15 @@ each-standing h end a name s = found-or h end a name (lookup name (rolesOf h)) r
 pub each-found : EachFound
 each-found h end a name f = stands-or h end a name (place h end a name) refl f
 
-pub missing : Missing
-missing h end a name s text comment =
-    by-cards h end a name text comment
-    ∙ ap (λ (o : Option Held). given o text comment) (missing-or h end a name (place h end a name) refl s)
+-- a name that stands nowhere is not found
+pub none-found : (h : List ℕ) (end : ℕ) → headerOf h ≡ Accepted end → (name : List ℕ) → (StandsIn h name → ⊥)
+    → lookup name (rolesOf h) ≡ none
+none-found h end a name s = missing-or h end a name (place h end a name) refl s
 
-pub only-missing : OnlyMissing
-only-missing h end a name text comment e s =
-    let f : FoundIn h name = each-standing h end a name s in
-    let so : lookupOf h name text comment ≡ written (f .held) text comment =
-    by-cards h end a name text comment ∙ ap (λ (o : Option Held). given o text comment) (f .is) in
-    not-12 (f .held) text comment (sym (ap (λ (o : LookupOutcome). o .answer .answer) so) ∙ e)
-
-pub same-refusal : SameRefusal
-unfolding listOf lookupOf
-same-refusal h s e =
-    let roles = rolesOf h in (
-      ap (λ (x : Header). byHeader x roles) e,
-      λ name text comment. ap (λ (x : Header). lookedUp x roles name text comment) e,
-    )
+-- all places of a refused header's list are free
+pub refused-list : (h : List ℕ) (s : Stop) → headerOf h ≡ Refused s → listOf h ≡ tabled (Refused s) empty
+unfolding listOf
+refused-list h s e = ap (λ (x : Header). byHeader x (rolesOf h)) e
 
 -- the list answers a header as it is read
 pub same-header : (h : List ℕ) → listOf h .header ≡ headerOf h
@@ -275,4 +228,4 @@ same-header h = go (headerOf h) refl
   where
     go : (x : Header) → headerOf h ≡ x → listOf h .header ≡ x
     go (Accepted end) e = ap (λ (l : Listing). l .header) (contents h end e)
-    go (Refused s) e = ap (λ (l : Listing). l .header) (same-refusal h s e .0)
+    go (Refused s) e = ap (λ (l : Listing). l .header) (refused-list h s e)

@@ -2,22 +2,22 @@
 use Prim.Native.Nat.{ℕ, zero, suc, _+_, _≤_}
 use native.Mathlib.Nat.{zero-add}
 use native.Mathlib.Omega.{arith}
-use mathlib.Core.Path.{_≡_, refl, sym, ap, subst, _∙_}
+use mathlib.Core.Path.{_≡_, refl, sym, ap, _∙_}
 use mathlib.Core.Bool.{Bool, cond}
 use mathlib.Core.List.{List, [], _∷_}
 use mathlib.Core.Option.{Option, none}
-use lib.ListN.{length, drop}
+use lib.ListN.{drop}
 use Rattle.refusal.specs.declared.Refusal.the-variants as R
 use Rattle.refusal.specs.Numbers.{faultOf}
 use Rattle.roles.specs.Roles.{Role, entry, more, neutral, last, refused}
-use Rattle.roles.specs.Cards.{rolesOf, isBadLength}
+use Rattle.roles.specs.Cards.{rolesOf}
 use Rattle.finding.specs.declared.Stop.{Stop}
-use Rattle.finding.specs.declared.Header.{Header}
 use Rattle.finding.specs.declared.Header.the-variants.{Accepted, Refused}
 use Rattle.finding.specs.Finding.{stopAt, headerFrom, headerOf}
-use Rattle.entries.specs.Answers.{given, entryHead, metHead, unlessMet, entryFrom, entryOf}
+use Rattle.entries.specs.Answers.{entryHead, metHead}
+use Rattle.entries.specs.Halves.{unlessStopped, numbered}
 use Rattle.entries.proofs.Looking.{accepted-good, accepted-unmet}
-use Rattle.agreeing.specs.Agreeing.{UnmetToEnd}
+use Rattle.agreeing.specs.Halves.{UnmetNumbered}
 
 apart : (s : Stop) (k : ℕ) → Refused s ≡ Accepted k → ⊥
 apart s k d = let z : _≡_ {A = ℕ} 0 1 = cc in omega arith
@@ -44,12 +44,12 @@ unmet (neutral ∷ rs) i end a = refl
 unmet (last ∷ rs) i end a = refl
 unmet (refused f ∷ rs) i end a = absurd (apart (stopAt f i) end a)
 
-pub unmet-to-end : UnmetToEnd
-unfolding headerOf entryOf
-unmet-to-end h end a i p text comment =
+pub unmet-numbered : UnmetNumbered
+unfolding headerOf numbered
+unmet-numbered h end a i p =
     let roles = rolesOf h in
     let good = accepted-good h end a in
     let read : headerFrom roles 0 ≡ Accepted end =
     sym (ap (λ (b : Bool). cond b (Refused (stopAt (faultOf R.HeaderLength) 0)) (headerFrom roles 0)) good) ∙ a in
     let met : metHead (drop i roles) i ≡ none = unmet (drop i roles) i end (later roles i 0 i end read (sym (zero-add i)) p) in
-    rw good (ap (λ (m : Option Stop). unlessMet m (given (entryHead (drop i roles)) text comment) text comment) met)
+    rw good (ap (λ (m : Option Stop). unlessStopped m (entryHead (drop i roles))) met)

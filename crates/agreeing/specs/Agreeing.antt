@@ -1,6 +1,6 @@
 -- The list of a header's names agrees with lookup: for every header that is accepted both give the same answers, and any other is
--- refused by both alike. Stated over the definitions that the promises of `list`, `entry` and `lookup` cite. Arrays that a caller
--- made up are not spoken of: `placeOfEntry` reads whatever number stands in them.
+-- refused by both alike. Stated over the answer of both halves at once, for a lookup and for an entry by its card; `Halves` states it
+-- of each. Arrays that a caller made up are not spoken of: `placeOfEntry` reads whatever number stands in them.
 use Prim.Native.Nat.{ℕ, _<_, _≤_}
 use mathlib.Core.Path.{_≡_}
 use mathlib.Core.List.{List, [], map}

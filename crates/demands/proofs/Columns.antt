@@ -37,16 +37,25 @@ use Rattle.finding.specs.declared.Stop.{Stop}
 use Rattle.finding.specs.declared.Header.{Header}
 use Rattle.finding.specs.declared.Header.the-variants.{Accepted, Refused}
 use Rattle.finding.specs.Finding.{stopAt, headerFrom, headerOf, lastFrom, lastOf, findBy, findOf}
-use Rattle.entries.specs.declared.LookupAnswer.the-variants as L
-use Rattle.entries.specs.Answers.{LookupOutcome, leftBy, bytesIn, foundAs, untouched, written, given, lookedUp, lookupOf}
-use Rattle.entries.specs.Answers.{entryHead, metOn, metHead, unlessMet, entryFrom, entryOf}
+use Rattle.entries.specs.Answers.{LookupOutcome, bytesIn, written, entryHead, metOn, metHead}
+use Rattle.entries.specs.Halves.{Sought, stops, missing, holds, heldIn, soughtIn, named, unlessStopped, numberedFrom, numbered}
+use Rattle.entries.specs.Halves.{ValueOutcome, valueIn, CommentOutcome, commentIn}
 use Rattle.listing.specs.Listing.{Table, nameOf, placeIn, put, putRole, listFrom, tabled, empty, byHeader, listOf}
 use Rattle.naming.specs.declared.Named.the-variants as N
 use Rattle.naming.specs.Naming.{NameOutcome, namingBy, unnamed, nameWritten, nameBy, nameAt}
-use Rattle.demands.specs.Columns.{alone, stopAlone, headerAlone, foundAlone, outcomeAlone, listAlone, namingAlone, unplacedRoles}
-use Rattle.demands.specs.Columns.{CardAlone, HeaderAlone, FindAlone, LookupAlone, EntryAlone, ListAlone, NameAlone}
-use Rattle.demands.specs.Columns.{OnCard, ColumnAt, headerColumn, foundColumn, answerColumn, nameColumn}
-use Rattle.demands.specs.Columns.{CardColumn, HeaderColumn, FindColumn, LookupColumn, EntryColumn, NameColumn}
+use Rattle.agreeing.proofs.Both.{bothIn, looked-both, entry-by-both, lookup-both, entry-both}
+use Rattle.demands.specs.Columns.{alone, stopAlone, headerAlone, foundAlone, outcomeAlone, soughtAlone, valueAlone, commentAlone}
+use Rattle.demands.specs.Columns.{listAlone, namingAlone, unplacedRoles, unplacedHeader}
+use Rattle.demands.specs.Columns.{CardAlone, HeaderAlone, FindAlone, LookupAlone, EntryAlone, NamedAlone, NumberedAlone}
+use Rattle.demands.specs.Columns.{ValueAlone, CommentAlone, ListAlone, NameAlone}
+use Rattle.demands.specs.Columns.{OnCard, ColumnAt, headerColumn, foundColumn, answerColumn, soughtColumn, nameColumn}
+use Rattle.demands.specs.Columns.{CardColumn, HeaderColumn, FindColumn, LookupColumn, EntryColumn, NamedColumn, NumberedColumn}
+use Rattle.demands.specs.Columns.{NameColumn}
+
+-- what holds of both cases
+either : {A : Type 0} (P : A → Type 0) (b : Bool) (x y : A) → P x → P y → P (cond b x y)
+either P true x y d e = d
+either P false x y d e = e
 
 -- ---- a card
 
@@ -138,35 +147,49 @@ lookup-bare name (neutral ∷ rs) = lookup-bare name rs
 lookup-bare name (last ∷ rs) = refl
 lookup-bare name (refused x ∷ rs) = lookup-bare name rs
 
--- 12 and 13 have no column
-given-alone : (o : Option Held) (text comment : List ℕ) → outcomeAlone (given o text comment) ≡ given o text comment
-unfolding written
-given-alone none text comment = refl
-given-alone (some v) text comment =
-    go (leb (length (v .words .text)) (length text) && leb (length (bytesIn (v .words .comment))) (length comment))
+held-alone : (o : Option Held) → soughtAlone (heldIn o) ≡ heldIn o
+held-alone none = refl
+held-alone (some v) = refl
+
+pub named-alone : NamedAlone
+unfolding named
+named-alone h name =
+    go (headerOf h)
+    ∙ ap₂ soughtIn (header-alone h) (sym (lookup-bare name (rolesOf h)) ∙ ap (lookup name) (sym (roles-bare (cardsOf h))))
   where
-    here : LookupOutcome
-    here = leftBy (foundAs v) (sets text 0 (v .words .text)) (sets comment 0 (bytesIn (v .words .comment)))
+    go : (x : Header) → soughtAlone (soughtIn x (lookup name (rolesOf h))) ≡ soughtIn (headerAlone x) (lookup name (rolesOf h))
+    go (Accepted end) = held-alone (lookup name (rolesOf h))
+    go (Refused s) = refl
 
-    short : LookupOutcome
-    short = untouched (L.Refused (faultOf R.BufferShort)) text comment
+-- 12 and 13 have no column
+pub value-alone : ValueAlone
+unfolding valueIn
+value-alone (stops s) text = refl
+value-alone missing text = refl
+value-alone (holds v) text =
+    either (λ (o : ValueOutcome). valueAlone o ≡ o) (leb (length (v .words .text)) (length text)) _ _ refl refl
 
-    go : (b : Bool) → outcomeAlone (cond b here short) ≡ cond b here short
-    go true = refl
-    go false = refl
+pub comment-alone : CommentAlone
+unfolding commentIn
+comment-alone (stops s) comment = refl
+comment-alone missing comment = refl
+comment-alone (holds v) comment =
+    either (λ (o : CommentOutcome). commentAlone o ≡ o) (leb (length (bytesIn (v .words .comment))) (length comment)) _ _ refl refl
+
+both-alone : (x : Sought) (text comment : List ℕ) → outcomeAlone (bothIn x text comment) ≡ bothIn (soughtAlone x) text comment
+unfolding written
+both-alone (stops s) text comment = refl
+both-alone missing text comment = refl
+both-alone (holds v) text comment =
+    either (λ (o : LookupOutcome). outcomeAlone o ≡ o)
+    (leb (length (v .words .text)) (length text) && leb (length (bytesIn (v .words .comment))) (length comment)) _ _ refl refl
 
 pub lookup-alone : LookupAlone
-unfolding lookupOf
 lookup-alone h name text comment =
-    go (headerOf h)
-    ∙ ap₂ (λ (x : Header) (rs : List Role). lookedUp x rs name text comment) (header-alone h) (sym (roles-bare (cardsOf h)))
-  where
-    go : (x : Header)
-        → outcomeAlone (lookedUp x (rolesOf h) name text comment) ≡ lookedUp (headerAlone x) (map bare (rolesOf h)) name text comment
-    go (Accepted end) =
-        given-alone (lookup name (rolesOf h)) text comment
-        ∙ ap (λ (o : Option Held). given o text comment) (sym (lookup-bare name (rolesOf h)))
-    go (Refused s) = refl
+    ap outcomeAlone (lookup-both h name text comment)
+    ∙ both-alone (named h name) text comment
+    ∙ ap (λ (x : Sought). bothIn x text comment) (named-alone h name)
+    ∙ sym (looked-both text comment (unplacedHeader h) (unplacedRoles h) name)
 
 -- ---- an entry by its card
 
@@ -205,34 +228,34 @@ met-bare (neutral ∷ rs) i = refl
 met-bare (last ∷ rs) i = refl
 met-bare (refused x ∷ rs) i = refl
 
-entry-bare : (rs : List Role) (i : ℕ) (text comment : List ℕ)
-    → outcomeAlone (entryFrom rs i text comment) ≡ entryFrom (map bare rs) i text comment
-entry-bare rs i text comment =
-    go (metHead rs i)
-    ∙ ap₂ (λ (m : Option Stop) (o : Option Held). unlessMet m (given o text comment) text comment)
-    (sym (met-bare rs i)) (sym (head-bare rs))
+from-bare : (rs : List Role) (i : ℕ) → soughtAlone (numberedFrom rs i) ≡ numberedFrom (map bare rs) i
+from-bare rs i = go (metHead rs i) ∙ ap₂ unlessStopped (sym (met-bare rs i)) (sym (head-bare rs))
   where
-    go : (m : Option Stop)
-        → outcomeAlone (unlessMet m (given (entryHead rs) text comment) text comment)
-        ≡ unlessMet (metAlone m) (given (entryHead rs) text comment) text comment
-    go none = given-alone (entryHead rs) text comment
+    go : (m : Option Stop) → soughtAlone (unlessStopped m (entryHead rs)) ≡ unlessStopped (metAlone m) (entryHead rs)
+    go none = held-alone (entryHead rs)
     go (some s) = refl
 
-pub entry-alone : EntryAlone
-unfolding entryOf
-entry-alone h i text comment = go (isBadLength (length h))
+pub numbered-alone : NumberedAlone
+unfolding numbered
+numbered-alone h i = go (isBadLength (length h))
   where
-    bad : LookupOutcome
-    bad = untouched (L.Header (stopAt (faultOf R.HeaderLength) 0)) text comment
+    bad : Sought
+    bad = stops (stopAt (faultOf R.HeaderLength) 0)
 
     go : (b : Bool)
-        → outcomeAlone (cond b bad (entryFrom (drop i (rolesOf h)) i text comment))
-        ≡ cond b bad (entryFrom (drop i (unplacedRoles h)) i text comment)
+        → soughtAlone (cond b bad (numberedFrom (drop i (rolesOf h)) i)) ≡ cond b bad (numberedFrom (drop i (unplacedRoles h)) i)
     go true = refl
     go false =
-        entry-bare (drop i (rolesOf h)) i text comment
-        ∙ ap (λ (rs : List Role). entryFrom rs i text comment)
+        from-bare (drop i (rolesOf h)) i
+        ∙ ap (λ (rs : List Role). numberedFrom rs i)
         (sym (drop-map bare (rolesOf h) i) ∙ ap (drop i) (sym (roles-bare (cardsOf h))))
+
+pub entry-alone : EntryAlone
+entry-alone h i text comment =
+    ap outcomeAlone (entry-both h i text comment)
+    ∙ both-alone (numbered h i) text comment
+    ∙ ap (λ (x : Sought). bothIn x text comment) (numbered-alone h i)
+    ∙ sym (entry-by-both text comment (length h) (unplacedRoles h) i)
 
 -- ---- the list, and a name
 
@@ -290,13 +313,8 @@ pub name-alone : NameAlone
 unfolding nameAt nameWritten
 name-alone h i name = go (isBadLength (length h))
   where
-    written-alone : (b : Bool) (o p : NameOutcome) → namingAlone o ≡ o → namingAlone p ≡ p
-        → namingAlone (cond b o p) ≡ cond b o p
-    written-alone true o p d e = d
-    written-alone false o p d e = e
-
     by : (r : Role) → namingAlone (nameBy r name) ≡ nameBy (bare r) name
-    by (entry own v) = written-alone (leb (length own) (length name)) _ _ refl refl
+    by (entry own v) = either (λ (o : NameOutcome). namingAlone o ≡ o) (leb (length own) (length name)) _ _ refl refl
     by (more t c) = refl
     by neutral = refl
     by last = refl
@@ -397,20 +415,16 @@ module _ (h : List ℕ) where
   metColumn none = Unit {0}
   metColumn (some s) = ColumnAt (cardNo h (s .card)) (s .fault)
 
-  met-either : (b : Bool) (m : Option Stop) → metColumn m → metColumn (cond b m none)
-  met-either true m told = told
-  met-either false m told = tt
-
   met-on-told : (w : Words) (rs : List Role) (j : ℕ) → drop j (rolesOf h) ≡ rs → metColumn (metOn w rs j)
   unfolding metOn
   met-on-told w [] j e = tt
   met-on-told w (entry n v ∷ rs) j e = tt
   met-on-told w (more t c ∷ rs) j e =
-      met-either (opens w) (metOn (joinWords w t c) rs (suc j))
-      (met-on-told (joinWords w t c) rs (suc j) (follow j (more t c) rs e))
+      either metColumn (opens w) (metOn (joinWords w t c) rs (suc j)) none
+      (met-on-told (joinWords w t c) rs (suc j) (follow j (more t c) rs e)) tt
   met-on-told w (neutral ∷ rs) j e = met-on-told w rs (suc j) (follow j neutral rs e)
   met-on-told w (last ∷ rs) j e = tt
-  met-on-told w (refused x ∷ rs) j e = met-either (opens w) (some (stopAt x j)) (first-told j (refused x) rs e)
+  met-on-told w (refused x ∷ rs) j e = either metColumn (opens w) (some (stopAt x j)) none (first-told j (refused x) rs e) tt
 
   met-told : (rs : List Role) (i : ℕ) → drop i (rolesOf h) ≡ rs → metColumn (metHead rs i)
   met-told [] i e = tt
@@ -448,41 +462,48 @@ find-column h name = go (headerOf h) (header-column h)
     go (Accepted end) told = tt
     go (Refused s) told = told
 
-given-told : (h : List ℕ) (o : Option Held) (text comment : List ℕ) → answerColumn h (given o text comment .answer .answer)
-unfolding written
-given-told h none text comment = refl
-given-told h (some v) text comment =
-    go (leb (length (v .words .text)) (length text) && leb (length (bytesIn (v .words .comment))) (length comment))
-    (leftBy (foundAs v) (sets text 0 (v .words .text)) (sets comment 0 (bytesIn (v .words .comment)))) tt
-  where
-    go : (b : Bool) (o : LookupOutcome) → answerColumn h (o .answer .answer)
-        → answerColumn h (cond b o (untouched (L.Refused (faultOf R.BufferShort)) text comment) .answer .answer)
-    go true o told = told
-    go false o told = refl
+held-told : (h : List ℕ) (o : Option Held) → soughtColumn h (heldIn o)
+held-told h none = tt
+held-told h (some v) = tt
 
-pub lookup-column : LookupColumn
-unfolding lookupOf
-lookup-column h name text comment = go (headerOf h) (header-column h)
+pub named-column : NamedColumn
+unfolding named
+named-column h name = go (headerOf h) (header-column h)
   where
-    go : (x : Header) → headerColumn h x → answerColumn h (lookedUp x (rolesOf h) name text comment .answer .answer)
-    go (Accepted end) told = given-told h (lookup name (rolesOf h)) text comment
+    go : (x : Header) → headerColumn h x → soughtColumn h (soughtIn x (lookup name (rolesOf h)))
+    go (Accepted end) told = held-told h (lookup name (rolesOf h))
     go (Refused s) told = told
 
-pub entry-column : EntryColumn
-unfolding entryOf
-entry-column h i text comment = go (isBadLength (length h))
+pub numbered-column : NumberedColumn
+unfolding numbered
+numbered-column h i = go (isBadLength (length h))
   where
-    by : (m : Option Stop) (o : Option Held) → metColumn h m
-        → answerColumn h (unlessMet m (given o text comment) text comment .answer .answer)
-    by none o told = given-told h o text comment
-    by (some s) o told = told
+    by : (m : Option Stop) → metColumn h m → soughtColumn h (unlessStopped m (entryHead (drop i (rolesOf h))))
+    by none told = held-told h (entryHead (drop i (rolesOf h)))
+    by (some s) told = told
 
     go : (b : Bool)
-        → answerColumn h
-        ((cond b (untouched (L.Header (stopAt (faultOf R.HeaderLength) 0)) text comment)
-        (entryFrom (drop i (rolesOf h)) i text comment)) .answer .answer)
+        → soughtColumn h (cond b (stops (stopAt (faultOf R.HeaderLength) 0)) (numberedFrom (drop i (rolesOf h)) i))
     go true = length-told h
-    go false = by (metHead (drop i (rolesOf h)) i) (entryHead (drop i (rolesOf h))) (met-told h (drop i (rolesOf h)) i refl)
+    go false = by (metHead (drop i (rolesOf h)) i) (met-told h (drop i (rolesOf h)) i refl)
+
+both-told : (h : List ℕ) (x : Sought) (text comment : List ℕ) → soughtColumn h x → answerColumn h (bothIn x text comment .answer .answer)
+unfolding written
+both-told h (stops s) text comment told = told
+both-told h missing text comment told = refl
+both-told h (holds v) text comment told =
+    either (λ (o : LookupOutcome). answerColumn h (o .answer .answer))
+    (leb (length (v .words .text)) (length text) && leb (length (bytesIn (v .words .comment))) (length comment)) _ _ tt refl
+
+pub lookup-column : LookupColumn
+lookup-column h name text comment =
+    subst (λ (o : LookupOutcome). answerColumn h (o .answer .answer)) (sym (lookup-both h name text comment))
+    (both-told h (named h name) text comment (named-column h name))
+
+pub entry-column : EntryColumn
+entry-column h i text comment =
+    subst (λ (o : LookupOutcome). answerColumn h (o .answer .answer)) (sym (entry-both h i text comment))
+    (both-told h (numbered h i) text comment (numbered-column h i))
 
 pub name-column : NameColumn
 unfolding nameAt nameWritten

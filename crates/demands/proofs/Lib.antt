@@ -2,4 +2,5 @@
 pub mod Ending
 pub mod Naming
 pub mod Isolated
+pub mod Halves
 pub mod Columns

@@ -21,10 +21,14 @@ use Rattle.finding.specs.declared.Header.the-variants.{Accepted, Refused}
 use Rattle.finding.specs.declared.Found.{Found}
 use Rattle.finding.specs.declared.Found.the-variants as F
 use Rattle.finding.specs.Finding.{stopAt, headerBy, headerOf, lastOf, findBy, findOf}
+use Rattle.joining.specs.Lookup.{lookup}
 use Rattle.entries.specs.declared.LookupAnswer.{LookupAnswer}
 use Rattle.entries.specs.declared.LookupAnswer.the-variants as L
-use Rattle.entries.specs.declared.Looked.{Looked}
-use Rattle.entries.specs.Answers.{LookupOutcome, leftBy, lookedUp, lookupOf, entryBy, entryOf}
+use Rattle.entries.specs.Answers.{Looked, LookupOutcome, leftBy, lookedUp, lookupOf, entryBy, entryOf}
+use Rattle.entries.specs.declared.CommentAnswer.{CommentAnswer}
+use Rattle.entries.specs.declared.CommentAnswer.the-variants as H
+use Rattle.entries.specs.Halves.{Sought, stops, missing, holds, soughtIn, named, numberedBy, numbered}
+use Rattle.entries.specs.Halves.{ValueOutcome, valueLeft, valueIn, CommentOutcome, commentLeft, commentHalf, commentIn}
 use Rattle.listing.specs.declared.Listing.{Listing}
 use Rattle.listing.specs.Listing.{byHeader, listOf}
 use Rattle.naming.specs.declared.Named.{Named}
@@ -66,6 +70,24 @@ lookedAlone r =
 
 abbrev pub outcomeAlone : LookupOutcome → LookupOutcome
 outcomeAlone o = leftBy (lookedAlone (o .answer)) (o .text) (o .comment)
+
+-- of what a header holds for its reader, and of the two halves by it
+abbrev pub soughtAlone : Sought → Sought
+soughtAlone (stops s) = stops (stopAlone s)
+soughtAlone missing = missing
+soughtAlone (holds v) = holds v
+
+abbrev pub valueAlone : ValueOutcome → ValueOutcome
+valueAlone o =
+    valueLeft (record { answer = answerAlone (o .answer .answer); digits = o .answer .digits; text = o .answer .text }) (o .text)
+
+abbrev pub commentAnswerAlone : CommentAnswer → CommentAnswer
+commentAnswerAlone (H.Found there) = H.Found there
+commentAnswerAlone (H.Header s) = H.Header (stopAlone s)
+commentAnswerAlone (H.Refused x) = H.Refused (unplaced x)
+
+abbrev pub commentAlone : CommentOutcome → CommentOutcome
+commentAlone o = commentLeft (commentHalf (commentAnswerAlone (o .answer .answer)) (o .answer .comment)) (o .comment)
 
 -- of a list
 abbrev pub listAlone : Listing → Listing
@@ -116,6 +138,20 @@ abbrev pub EntryAlone : Type 0
 EntryAlone =
     (h : List ℕ) (i : ℕ) (text comment : List ℕ)
     → outcomeAlone (entryOf h i text comment) ≡ entryBy (length h) (unplacedRoles h) i text comment
+
+-- what the header holds for its reader, by which both halves of a lookup and of an entry are given
+abbrev pub NamedAlone : Type 0
+NamedAlone = (h name : List ℕ) → soughtAlone (named h name) ≡ soughtIn (unplacedHeader h) (lookup name (unplacedRoles h))
+
+abbrev pub NumberedAlone : Type 0
+NumberedAlone = (h : List ℕ) (i : ℕ) → soughtAlone (numbered h i) ≡ numberedBy (length h) (unplacedRoles h) i
+
+-- and the halves by it
+abbrev pub ValueAlone : Type 0
+ValueAlone = (x : Sought) (text : List ℕ) → valueAlone (valueIn x text) ≡ valueIn (soughtAlone x) text
+
+abbrev pub CommentAlone : Type 0
+CommentAlone = (x : Sought) (comment : List ℕ) → commentAlone (commentIn x comment) ≡ commentIn (soughtAlone x) comment
 
 -- listing the names
 abbrev pub ListAlone : Type 0
@@ -170,6 +206,18 @@ LookupColumn = (h name text comment : List ℕ) → answerColumn h (lookupOf h n
 
 abbrev pub EntryColumn : Type 0
 EntryColumn = (h : List ℕ) (i : ℕ) (text comment : List ℕ) → answerColumn h (entryOf h i text comment .answer .answer)
+
+-- of what a header holds for its reader: either half gives the refusal that stops it, and 12 and 13 have no column
+abbrev pub soughtColumn : List ℕ → Sought → Type 0
+soughtColumn h (stops s) = ColumnAt (cardNo h (s .card)) (s .fault)
+soughtColumn h missing = Unit {0}
+soughtColumn h (holds v) = Unit {0}
+
+abbrev pub NamedColumn : Type 0
+NamedColumn = (h name : List ℕ) → soughtColumn h (named h name)
+
+abbrev pub NumberedColumn : Type 0
+NumberedColumn = (h : List ℕ) (i : ℕ) → soughtColumn h (numbered h i)
 
 -- of the name at card i
 abbrev pub nameColumn : List ℕ → Named → Type 0

@@ -1,12 +1,14 @@
 -- The three demands.
 --
 -- 1. Every header, name, tile and buffer, however damaged, gets an answer that ends. No public function has a `requires`, and a
---    check proves of each that it returns and stays within its slices: `entries::lookup`, `entries::read_entry`, `card::read_card`,
---    `rice::decode` and the others that docs/PROMISES.md lists.
--- 2. Each answer, and each lent buffer after it, is a definition's: `lookupOf` for a lookup (crates/entries/specs/Answers.antt), whose
---    contract is one equation for the answer and the two buffers. `Columns` beside this file says that the column of a refusal stands
---    beside the answer and changes nothing of it.
--- 3. Isolation, stated here: no card of K touches what another name is answered, nor the names of the list and their order.
+--    check proves of each that it returns and stays within its slices: `entries::lookup_value`, `entries::lookup_comment`,
+--    `entries::value_at`, `entries::comment_at`, `card::read_card`, `rice::decode` and the others that docs/PROMISES.md lists.
+-- 2. Each answer, and each lent buffer after it, is a definition's. A lookup has two halves, with `valueNamed` and `commentNamed` for
+--    them (crates/entries/specs/Halves.antt); the contract of each is one equation for the answer and the buffer. `Halves` beside this
+--    file says that the pair of them is `lookupOf`, the answer with both buffers at once. `Columns` says that the column of a refusal
+--    stands beside the answer and changes nothing of it.
+-- 3. Isolation, stated here over `lookupOf`, and in `Halves` of each half: no card of K touches what another name is answered, nor the
+--    names of the list and their order.
 use Prim.Native.Nat.{ℕ, suc, _≤_}
 use mathlib.Core.Path.{_≡_}
 use mathlib.Core.Bool.{Bool, false}

@@ -1,3 +1,4 @@
 -- What is certain: open `Demands` first.
 pub mod Demands
+pub mod Halves
 pub mod Columns

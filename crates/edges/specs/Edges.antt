@@ -1,11 +1,11 @@
 -- The starred rows of SPECIFICATION 15: one table and one statement, proved by computing.
 -- A row is a card, a header of several cards in which KIT is looked up, or a tile. Beside them stand rows of an entry by its card's
--- number, and rows of each refusal of a card with its column (SPECIFICATION 2.4).
+-- number, rows of each refusal of a card with its column (SPECIFICATION 2.4), and rows of both halves of a lookup (SPECIFICATION 10).
 use Prim.Native.Nat.{ℕ}
 use Prim.Native.Char.{code}
 use Prim.Native.String.{String}
 use mathlib.Core.Path.{_≡_, refl}
-use mathlib.Core.Bool.{Bool, false}
+use mathlib.Core.Bool.{Bool, true, false}
 use mathlib.Core.List.{List, [], _∷_, _++_, map}
 use lib.IntN.{ℤ, pos}
 use lib.ListN.{replicate, take}
@@ -13,7 +13,7 @@ use Rattle.refusal.specs.declared.Column.{Column}
 use Rattle.refusal.specs.declared.Column.the-variants.{At, Absent}
 use Rattle.refusal.specs.declared.Fault.{Fault}
 use Rattle.refusal.specs.Numbers.{numberOf}
-use Rattle.text.specs.Bytes.{ascii, tab, isSpace, isBlank, isPrintable, isDigit, isZero, shown, dToE}
+use Rattle.text.specs.Bytes.{ascii, tab, lineFeed, isSpace, isBlank, isPrintable, isDigit, isZero, shown, dToE}
 use Rattle.text.specs.Trim.{trimStart, leading, consTrimmed, trimEnd, trim}
 use Rattle.text.specs.Same.{same}
 use Rattle.text.specs.Ends.{stem, endsWith}
@@ -47,7 +47,11 @@ use Rattle.roles.specs.Cards.{cardsIn, isBadLength}
 use Rattle.finding.specs.Finding.{headerFrom, headerOf}
 use Rattle.entries.specs.declared.LookupAnswer.{LookupAnswer}
 use Rattle.entries.specs.declared.LookupAnswer.the-variants as L
-use Rattle.entries.specs.Answers.{LookupOutcome, written, lookupOf, metOn, entryOf}
+use Rattle.entries.specs.declared.CommentAnswer.{CommentAnswer}
+use Rattle.entries.specs.declared.CommentAnswer.the-variants as N
+use Rattle.entries.specs.Answers.{metOn}
+use Rattle.entries.specs.Halves.{named, numbered, ValueOutcome, valueIn, valueNamed, valueNumbered}
+use Rattle.entries.specs.Halves.{CommentOutcome, commentIn, commentNamed}
 use Rattle.rice.specs.declared.Decoded.{Decoded}
 use Rattle.rice.specs.declared.Decoded.the-variants as D
 use Rattle.rice.specs.Tile.{bitAt, fieldAt, zerosAt}
@@ -59,12 +63,14 @@ use Rattle.rice.specs.Steps.{inLimits, widthOf, planOf, stands, stepOf, openOf,
 -- ---- what is read
 
 -- a card by its keyword and its value text, by its text from byte 0 on, or by bytes that have no character between two texts; a header
--- by the texts of its cards; an entry by its card's number and these texts; a tile by its width, its number of pixels and its bytes
+-- by the texts of its cards, for both halves after the bytes that are lent to each; an entry by its card's number and these texts; a
+-- tile by its width, its number of pixels and its bytes
 pub data Input : Type 0 where
   card : String → String → Input
   line : String → Input
   withBytes : String → List ℕ → String → Input
   header : List String → Input
+  bothHalves : ℕ → ℕ → List String → Input
   entryNo : ℕ → List String → Input
   tile : ℕ → ℕ → List ℕ → Input
 
@@ -89,7 +95,8 @@ verticalTab = 11
 
 -- in the terms of SPECIFICATION 15: a string by its text, an integer, a decimal by its sign, digits and power of ten, a refusal without
 -- a column by its number, a refused card by the number and the column, a refused header by the number, the card and the column or that
--- there is none, a tile by its pixels and the bits used, a refused tile by the number, the pixels written and the pixels lent
+-- there is none, both halves of a lookup each by its reading and the length beside it, a comment as a string by its text, a tile by its
+-- pixels and the bits used, a refused tile by the number, the pixels written and the pixels lent
 pub data Reading : Type 0 where
   string : List ℕ → Reading
   integer : ℤ → Reading
@@ -97,6 +104,7 @@ pub data Reading : Type 0 where
   refusal : ℕ → Reading
   refusedAt : ℕ → ℕ → Reading
   refusedIn : ℕ → ℕ → Column → Reading
+  halves : Reading → ℕ → Reading → ℕ → Reading
   pixels : List ℤ → ℕ → Reading
   stopped : ℕ → ℕ → List ℤ → Reading
   other : Reading
@@ -143,14 +151,29 @@ byCardAnswer (Refused fault) text = byFault fault
 abbrev pub ofCard : CardRead → Reading
 ofCard r = byCardAnswer (r .answer) (bytesOf (r .text))
 
--- a lookup's or an entry's, with its text in the lent buffer
+-- the value's half of a lookup or of an entry, with its text in the lent buffer
 abbrev pub byLookup : LookupAnswer → List ℕ → Reading
 byLookup (L.Found v) text = byValue v text
 byLookup (L.Header stop) text = refusedIn (numberOf (stop .fault .why)) (stop .card) (stop .fault .column)
 byLookup (L.Refused fault) text = byFault fault
 
-abbrev pub ofLookup : LookupOutcome → Reading
-ofLookup o = byLookup (o .answer .answer) (take (o .answer .text) (o .text))
+abbrev pub ofValue : ValueOutcome → Reading
+ofValue o = byLookup (o .answer .answer) (take (o .answer .text) (o .text))
+
+-- the comment's half
+abbrev pub byThere : Bool → List ℕ → Reading
+byThere true comment = string comment
+byThere false comment = other
+
+abbrev pub byCommentAnswer : CommentAnswer → List ℕ → Reading
+byCommentAnswer (N.Found there) comment = byThere there comment
+byCommentAnswer (N.Header stop) comment = refusedIn (numberOf (stop .fault .why)) (stop .card) (stop .fault .column)
+byCommentAnswer (N.Refused fault) comment = byFault fault
+
+abbrev pub ofHalves : ValueOutcome → CommentOutcome → Reading
+ofHalves v c =
+    halves (ofValue v) (v .answer .text) (byCommentAnswer (c .answer .answer) (take (c .answer .comment) (c .comment)))
+    (c .answer .comment)
 
 -- a tile's, with its pixels in the lent slice; its refusals have no column
 abbrev pub byTileColumn : Column → ℕ → ℕ → List ℤ → Reading
@@ -169,8 +192,11 @@ abbrev pub reading : Input → Reading
 reading (card keyword text) = ofCard (cardOf (cardBytes keyword text))
 reading (line text) = ofCard (cardOf (spacesTo 80 (ascii text)))
 reading (withBytes before bytes behind) = ofCard (cardOf (spacesTo 80 (ascii before ++ bytes ++ ascii behind)))
-reading (header texts) = ofLookup (lookupOf (headerBytes texts) (ascii "KIT") (replicate 80 0) (replicate 80 0))
-reading (entryNo i texts) = ofLookup (entryOf (headerBytes texts) i (replicate 80 0) (replicate 80 0))
+reading (header texts) = ofValue (valueNamed (headerBytes texts) (ascii "KIT") (replicate 80 0))
+reading (bothHalves m n texts) =
+    ofHalves (valueNamed (headerBytes texts) (ascii "KIT") (replicate m 0))
+    (commentNamed (headerBytes texts) (ascii "KIT") (replicate n 0))
+reading (entryNo i texts) = ofValue (valueNumbered (headerBytes texts) i (replicate 80 0))
 reading (tile bits nx bytes) = ofDecoding (decodeOf bytes nx 32 bits (replicate nx (pos 7)))
 
 -- ---- the table
@@ -280,15 +306,39 @@ columnTable =
     (refusal 13)
     ∷ []
 
+-- both halves of a lookup; beside 13 stands the room that is wanted
+abbrev pub halfTable : List Row
+halfTable =
+    -- each half has its own buffer
+    row (bothHalves 6 6 ("KIT     = 'FKM-75' /a seal" ∷ "END" ∷ [])) (halves (string (ascii "FKM-75")) 6 (string (ascii "a seal")) 6)
+    ∷ row (bothHalves 5 6 ("KIT     = 'FKM-75' /a seal" ∷ "END" ∷ [])) (halves (refusal 13) 6 (string (ascii "a seal")) 6)
+    ∷ row (bothHalves 6 5 ("KIT     = 'FKM-75' /a seal" ∷ "END" ∷ [])) (halves (string (ascii "FKM-75")) 6 (refusal 13) 6)
+    ∷ row (bothHalves 0 0 ("KIT     = 5" ∷ "END" ∷ [])) (halves (integer (pos 5)) 0 other 0)
+    -- an empty CONTINUE card takes the last &, and the one before it leaves the string open
+    ∷ row
+    (bothHalves 80 80 ("KIT     = 'a&&' /one" ∷ "CONTINUE  '' /two" ∷ "CONTINUE  'b' /three" ∷ "CONTINUE  'c' /four" ∷ "END" ∷ []))
+    (halves (string (ascii "ab")) 2 (string (ascii "one" ++ (lineFeed ∷ ascii "two") ++ (lineFeed ∷ ascii "three"))) 13)
+    ∷ row (bothHalves 1 12 ("KIT     = 'a&&' /one" ∷ "CONTINUE  '' /two" ∷ "CONTINUE  'b' /three" ∷ "END" ∷ []))
+    (halves (refusal 13) 2 (refusal 13) 13)
+    -- 12, and the header's refusals
+    ∷ row (bothHalves 0 0 ("END" ∷ [])) (halves (refusal 12) 0 (refusal 12) 0)
+    ∷ row (bothHalves 80 80 ("KIT     = 'a' /b" ∷ "WCS     =  (1" ∷ "END" ∷ []))
+    (halves (refusedIn 5 1 (At 11)) 0 (refusedIn 5 1 (At 11)) 0)
+    ∷ row (bothHalves 80 80 []) (halves (refusedIn 9 0 Absent) 0 (refusedIn 9 0 Absent) 0)
+    ∷ []
+
+abbrev pub rows : List Row
+rows = table ++ columnTable ++ halfTable
+
 -- each input has its row's reading
-pub edges : map (λ (r : Row). reading (r .input)) (table ++ columnTable) ≡ map (λ (r : Row). r .reading) (table ++ columnTable)
+pub edges : map (λ (r : Row). reading (r .input)) rows ≡ map (λ (r : Row). r .reading) rows
 unfolding isSpace isBlank isPrintable isDigit isZero shown dToE trimStart leading consTrimmed trimEnd trim same stem endsWith filled
     placeFrom after scanFrom byteClass splitOf settledOf opened unopened stringOf firstByte isSign isNegative unsigned isDigits
     digitsValueFrom integerOf fractionOf afterFraction isMark writtenOf exponentOf scaled finiteOf lowered isWord decimalOf readNumber
     startsNumber startOf ofString ofNumber valueWith valueOf hasHigh classOf namePieces joinPieces highFrom otherOf continuationOf
     isWithinQuotes quotedCard extensionOf hierarchOf unplacedOf cardOf
-    endsOpen addsNothing joinText joinComment opens joinWords joinOn lookup cardsIn isBadLength headerFrom headerOf written lookupOf
-    metOn entryOf
+    endsOpen addsNothing joinText joinComment opens joinWords joinOn lookup cardsIn isBadLength headerFrom headerOf named numbered
+    metOn valueIn commentIn
     decodeOf stepsOf stepOf openOf planOf inLimits widthOf stands blockOf codeOf runOf diffRead runRead fieldRead pixelOf inWidth modulo
     wrap difference bitAt fieldAt zerosAt
 edges = refl

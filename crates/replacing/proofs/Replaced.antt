@@ -18,12 +18,12 @@ use Rattle.finding.specs.declared.Header.the-variants.{Refused}
 use Rattle.finding.specs.Finding.{stopAt, headerOf}
 use Rattle.writing.specs.Written.{writtenCards}
 use Rattle.demands.specs.Demands.{IsAccepted, isOf}
-use Rattle.demands.proofs.Isolated.{isolation}
+use Rattle.demands.proofs.Isolated.{isolation, sought-isolated}
 use Rattle.rereading.specs.ReadsBack.{MayWrite, StandIn}
 use Rattle.rereading.proofs.Owning.{Owns}
 use Rattle.rereading.proofs.Answering.{written-owned}
 use Rattle.rereading.proofs.Counting.{few-cards}
-use Rattle.rereading.proofs.Headers.{reads-back}
+use Rattle.rereading.proofs.Headers.{reads-back, halves-read-back}
 use Rattle.replacing.specs.Replacing.{Replaces, Together, Replacing}
 use Rattle.replacing.proofs.Walking.{Begins, same-places, same-header, stands}
 use Rattle.replacing.proofs.Choosing.{its-within, Grouped, begins}
@@ -70,9 +70,13 @@ pub replacing : Replacing
 replacing k v text c may g h a t r =
     let b = accepts k v text c may g h t r a in
     let places : (p : ℕ) → isOf k g p ≡ isOf k h p = same-places k (begun k v text c may g h t r) in
+    let counts : length (cardsOf g) ≡ length (cardsOf h) = sym (counted k v text c may g h t r) in
+    let stand = standing k v text c may g h t r in
     record {
       accepted = b;
       places = places;
-      others = isolation g h k a b (sym (counted k v text c may g h t r)) places (λ p e. sym (r .kept p e));
-      back = reads-back k v text c may h b (standing k v text c may g h t r);
+      others = isolation g h k a b counts places (λ p e. sym (r .kept p e));
+      back = reads-back k v text c may h b stand;
+      others-named = sought-isolated g h k a b counts places (λ p e. sym (r .kept p e));
+      back-named = halves-read-back k v text c may h b stand;
     }

@@ -10,10 +10,11 @@ use Rattle.roles.specs.Roles.{Comment, Words, Held, Role, entry, more, neutral,
 use Rattle.roles.specs.Cards.{rolesOf}
 use Rattle.joining.specs.Words.{opens, joinWords}
 use Rattle.joining.specs.Lookup.{joinOn, orElse, ifSame, lookup}
-use Rattle.finding.specs.declared.Header.{Header}
-use Rattle.entries.specs.Answers.{given, lookedUp, lookupOf}
+use Rattle.entries.specs.Halves.{holds, heldIn}
+use Rattle.agreeing.proofs.Agreed.{by-cards}
+use Rattle.agreeing.proofs.Both.{both-told}
 use Rattle.writing.specs.Written.{writtenCards, heldFor}
-use Rattle.rereading.specs.ReadsBack.{MayWrite, spoken, goesOn, StandIn, ReadsBack}
+use Rattle.rereading.specs.ReadsBack.{MayWrite, spoken, goesOn, StandIn, ReadsBack, HalvesReadBack}
 use Rattle.rereading.proofs.Answering.{written-back}
 
 -- ---- commentary counts for nothing
@@ -56,8 +57,10 @@ answered-among name v text c may h stand =
     ∙ lookup-behind name (stand .before) (map roleOf (writtenCards v name text c) ++ stand .behind) (heldFor v text c) (stand .reached)
     (written-back name (may .named) text c (stand .behind) (stand .latest) v (may .allowed))
 
+pub halves-read-back : HalvesReadBack
+halves-read-back name v text c may h accepted stand =
+    by-cards h (accepted .end) (accepted .accepted) name ∙ ap heldIn (answered-among name v text c may h stand)
+
 pub reads-back : ReadsBack
-unfolding lookupOf
 reads-back name v text c may h accepted stand lent-text lent-comment =
-    ap (λ (x : Header). lookedUp x (rolesOf h) name lent-text lent-comment) (accepted .accepted)
-    ∙ ap (λ (x : Option Held). given x lent-text lent-comment) (answered-among name v text c may h stand)
+    both-told lent-text lent-comment h name (holds (heldFor v text c)) (halves-read-back name v text c may h accepted stand)

@@ -15,6 +15,7 @@ use Rattle.roles.specs.Roles.{Comment, Role, entry, more, neutral, last, refuse
 use Rattle.roles.specs.Cards.{cardsIn, rolesOf}
 use Rattle.joining.specs.Lookup.{lookup}
 use Rattle.entries.specs.Answers.{given, lookupOf}
+use Rattle.entries.specs.Halves.{holds, named}
 use Rattle.writing.specs.declared.WriteAnswer.the-variants.{Cards}
 use Rattle.writing.specs.Written.{writtenCards, heldFor}
 use Rattle.writing.specs.Rules.{every, isName, isWritable}
@@ -95,3 +96,9 @@ ReadsBack =
     (name : List ℕ) (v : Value) (text : List ℕ) (c : Comment) → MayWrite name v text c
     → (h : List ℕ) → IsAccepted h → StandIn h name (writtenCards v name text c)
     → (lent-text lent-comment : List ℕ) → lookupOf h name lent-text lent-comment ≡ given (some (heldFor v text c)) lent-text lent-comment
+
+-- The header holds for its reader what is written, so each half of the lookup answers it, with its own lent buffer.
+abbrev pub HalvesReadBack : Type 0
+HalvesReadBack =
+    (name : List ℕ) (v : Value) (text : List ℕ) (c : Comment) → MayWrite name v text c
+    → (h : List ℕ) → IsAccepted h → StandIn h name (writtenCards v name text c) → named h name ≡ holds (heldFor v text c)
