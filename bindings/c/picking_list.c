@@ -19,7 +19,7 @@ static uint8_t comment[WIDREKAS_ROOM];
 static uint8_t digits[WIDREKAS_DIGITS];
 static size_t out[WIDREKAS_NUMBERS];
 static int64_t number;
-static size_t column;
+static size_t commented, comment_length, card, column;
 
 /* Bytes of a header or of a file's name on one line: control characters as \xNN. */
 static void print_shown(FILE *to, const uint8_t *bytes, size_t length)
@@ -96,7 +96,7 @@ static void print_comment(void)
 {
     static uint8_t shown[WIDREKAS_ROOM];
     size_t start = 0;
-    size_t end = out[WIDREKAS_ENTRY_COMMENT_LENGTH];
+    size_t end = comment_length;
     for (size_t i = 0; i < end; i++) {
         shown[i] = comment[i] == '\n' ? ' ' : comment[i];
     }
@@ -112,7 +112,7 @@ static void print_comment(void)
 /* The unit that the comment names, if any. */
 static void print_unit(void)
 {
-    size_t end = widrekas_unit(comment, out[WIDREKAS_ENTRY_COMMENT_LENGTH]);
+    size_t end = widrekas_unit(comment, comment_length);
     if (end > 1) {
         print_shown(stdout, comment + 1, end - 1);
     }
@@ -137,8 +137,14 @@ static int print_line(const char *file, const char *name)
     if (!read_front(file, &length)) {
         return 0;
     }
-    uint8_t answer = widrekas_lookup(header, length, (const uint8_t *)name, strlen(name), text, sizeof text, comment,
-                                     sizeof comment, digits, sizeof digits, out, WIDREKAS_NUMBERS, &number, &column);
+    const uint8_t *asked = (const uint8_t *)name;
+    size_t long_name = strlen(name);
+    uint8_t answer = widrekas_lookup_value(header, length, asked, long_name, text, sizeof text, digits, sizeof digits, out,
+                                           WIDREKAS_NUMBERS, &number, &column);
+    if (answer == 0) {
+        answer = widrekas_lookup_comment(header, length, asked, long_name, comment, sizeof comment, &commented, &comment_length,
+                                         &card, &column);
+    }
     if (answer != 0) {
         print_refusal(file, answer);
         return 0;

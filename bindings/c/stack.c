@@ -47,10 +47,13 @@ CALL(unit, widrekas_unit(header, length))
 CALL(header, widrekas_header(header, length, &count, &column))
 CALL(list, widrekas_list(header, length, first, WIDREKAS_PLACES, last, WIDREKAS_PLACES, &count, &column))
 CALL(name, widrekas_name(header, length, card, name, sizeof name, &count, &column))
-CALL(entry, widrekas_entry(header, length, card, text, sizeof text, comment, sizeof comment, digits, sizeof digits, out,
-                           WIDREKAS_NUMBERS, &number, &column))
-CALL(lookup, widrekas_lookup(header, length, (const uint8_t *)"KIT", 3, text, sizeof text, comment, sizeof comment, digits,
-                             sizeof digits, out, WIDREKAS_NUMBERS, &number, &column))
+CALL(entry_value, widrekas_entry_value(header, length, card, text, sizeof text, digits, sizeof digits, out, WIDREKAS_NUMBERS,
+                                       &number, &column))
+CALL(entry_comment, widrekas_entry_comment(header, length, card, comment, sizeof comment, &bit, &count, &done, &column))
+CALL(lookup_value, widrekas_lookup_value(header, length, (const uint8_t *)"KIT", 3, text, sizeof text, digits, sizeof digits, out,
+                                         WIDREKAS_NUMBERS, &number, &column))
+CALL(lookup_comment, widrekas_lookup_comment(header, length, (const uint8_t *)"KIT", 3, comment, sizeof comment, &bit, &count,
+                                             &done, &column))
 CALL(write, widrekas_write((const uint8_t *)"KIT", 3, kind, 1, number, text, length, 1, comment, remark, block, room, &count))
 CALL(open, widrekas_open(tile, length, 1000, 32, bits, &bit, &done, &last_pixel))
 CALL(step, widrekas_step(tile, length, 1000, 32, bits, &bit, &done, &last_pixel, pixels, 1000, &count))
@@ -69,7 +72,10 @@ static struct function of_headers[] = {
     {"widrekas_version", call_version, 4 * KIB, 0}, {"widrekas_card", call_card, 4 * KIB, 0},
     {"widrekas_unit", call_unit, 4 * KIB, 0},       {"widrekas_header", call_header, 4 * KIB, 0},
     {"widrekas_list", call_list, 80 * KIB, 0},      {"widrekas_name", call_name, 4 * KIB, 0},
-    {"widrekas_entry", call_entry, 64 * KIB, 0},    {"widrekas_lookup", call_lookup, 64 * KIB, 0},
+    {"widrekas_entry_value", call_entry_value, 64 * KIB, 0},
+    {"widrekas_entry_comment", call_entry_comment, 64 * KIB, 0},
+    {"widrekas_lookup_value", call_lookup_value, 64 * KIB, 0},
+    {"widrekas_lookup_comment", call_lookup_comment, 64 * KIB, 0},
 };
 
 static struct function of_values[] = {{"widrekas_write", call_write, 4 * KIB, 0}};

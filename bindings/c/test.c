@@ -209,14 +209,18 @@ static void is_refused_header(const char *const *fronts, size_t many, int refusa
     CHECK(list(header, many, &first, &last, &count, &told) == refusal && count == card && told == column);
     free(first);
     free(last);
-    /* Lookup refuses it alike. */
+    /* Both halves of a lookup refuse it alike. */
     uint8_t text[1], comment[1], digits[WIDREKAS_DIGITS];
-    size_t out[WIDREKAS_NUMBERS] = {7, 7, 7, 7, 7, 7, 7};
+    size_t out[WIDREKAS_NUMBERS] = {7, 7, 7, 7, 7}, commented = 7, length = 7, at = 7;
     int64_t number = -1;
     told = KEPT;
-    uint8_t answer = widrekas_lookup(header, many * WIDREKAS_CARD, (const uint8_t *)"K", 1, text, 1, comment, 1, digits,
-                                     WIDREKAS_DIGITS, out, WIDREKAS_NUMBERS, &number, &told);
-    CHECK(answer == refusal && out[0] == card && out[1] == 7 && number == -1 && told == column);
+    uint8_t answer = widrekas_lookup_value(header, many * WIDREKAS_CARD, (const uint8_t *)"K", 1, text, 1, digits, WIDREKAS_DIGITS,
+                                           out, WIDREKAS_NUMBERS, &number, &told);
+    CHECK(answer == refusal && out[0] == card && out[1] == 7 && out[3] == 7 && number == -1 && told == column);
+    told = KEPT;
+    answer = widrekas_lookup_comment(header, many * WIDREKAS_CARD, (const uint8_t *)"K", 1, comment, 1, &commented, &length, &at,
+                                     &told);
+    CHECK(answer == refusal && at == card && commented == 7 && length == 7 && told == column);
     free(header);
 }
 
@@ -430,7 +434,7 @@ static void test_names(void)
 
 /* ---- entries */
 
-/* What an entry is asked by, and what it was laid into. */
+/* What an entry is asked by, and what its halves were laid into. */
 struct asked {
     const uint8_t *header;
     size_t length;
@@ -440,78 +444,116 @@ struct asked {
     size_t *out;
     int64_t number;
     size_t column;
+    size_t commented, comment_length, comment_card, comment_column;
 };
 
-static uint8_t ask(struct asked *a, size_t text, size_t comment)
+/* The value's half. */
+static uint8_t ask_value(struct asked *a, size_t text)
 {
     a->text = lent(text);
-    a->comment = lent(comment);
     a->digits = lent(WIDREKAS_DIGITS);
     a->out = lent(WIDREKAS_NUMBERS * sizeof(size_t));
     a->number = -1;
     a->column = KEPT;
     uint8_t answer;
     if (a->name != NULL) {
-        answer = widrekas_lookup(a->header, a->length, (const uint8_t *)a->name, strlen(a->name), a->text, text, a->comment,
-                                 comment, a->digits, WIDREKAS_DIGITS, a->out, WIDREKAS_NUMBERS, &a->number, &a->column);
+        answer = widrekas_lookup_value(a->header, a->length, (const uint8_t *)a->name, strlen(a->name), a->text, text, a->digits,
+                                       WIDREKAS_DIGITS, a->out, WIDREKAS_NUMBERS, &a->number, &a->column);
     } else {
-        answer = widrekas_entry(a->header, a->length, a->card, a->text, text, a->comment, comment, a->digits,
-                                WIDREKAS_DIGITS, a->out, WIDREKAS_NUMBERS, &a->number, &a->column);
+        answer = widrekas_entry_value(a->header, a->length, a->card, a->text, text, a->digits, WIDREKAS_DIGITS, a->out,
+                                      WIDREKAS_NUMBERS, &a->number, &a->column);
     }
     CHECK(told_or_kept(answer, a->column));
     return answer;
 }
 
-static void give_back(struct asked *a)
+/* The comment's half. */
+static uint8_t ask_comment(struct asked *a, size_t comment)
+{
+    a->comment = lent(comment);
+    a->commented = a->comment_length = a->comment_card = a->comment_column = KEPT;
+    uint8_t answer;
+    if (a->name != NULL) {
+        answer = widrekas_lookup_comment(a->header, a->length, (const uint8_t *)a->name, strlen(a->name), a->comment, comment,
+                                         &a->commented, &a->comment_length, &a->comment_card, &a->comment_column);
+    } else {
+        answer = widrekas_entry_comment(a->header, a->length, a->card, a->comment, comment, &a->commented, &a->comment_length,
+                                        &a->comment_card, &a->comment_column);
+    }
+    CHECK(told_or_kept(answer, a->comment_column));
+    return answer;
+}
+
+static void give_back_value(struct asked *a)
 {
     free(a->text);
-    free(a->comment);
     free(a->digits);
     free(a->out);
 }
 
-/* A refusal without a card leaves all lent memory as it was. */
-static void is_refused_entry(struct asked a, size_t text, size_t comment, int refusal)
+/* A value that is refused with 12 or 13 leaves the room that is wanted, and nothing else. */
+static void is_refused_value(struct asked a, size_t text, int refusal, size_t wanted)
 {
-    CHECK(ask(&a, text, comment) == refusal);
-    CHECK(untouched(a.text, text) && untouched(a.comment, comment) && untouched(a.digits, WIDREKAS_DIGITS));
-    CHECK(untouched(a.out, WIDREKAS_NUMBERS * sizeof(size_t)) && a.number == -1);
-    give_back(&a);
+    CHECK(ask_value(&a, text) == refusal && a.out[WIDREKAS_ENTRY_TEXT_LENGTH] == wanted);
+    CHECK(untouched(a.text, text) && untouched(a.digits, WIDREKAS_DIGITS) && a.number == -1);
+    CHECK(untouched(a.out, 3 * sizeof(size_t)) && untouched(a.out + 4, sizeof(size_t)));
+    give_back_value(&a);
 }
 
-/* A refused card that is met leaves its number, its column and nothing else, also where there is no room. */
+static void is_refused_comment(struct asked a, size_t comment, int refusal, size_t wanted)
+{
+    CHECK(ask_comment(&a, comment) == refusal && a.comment_length == wanted);
+    CHECK(untouched(a.comment, comment) && a.commented == KEPT && a.comment_card == KEPT);
+    free(a.comment);
+}
+
+/* No entry: both halves give 12. */
+static void is_missing(struct asked a)
+{
+    is_refused_value(a, 80, WIDREKAS_NAME_NOT_FOUND, 0);
+    is_refused_comment(a, 80, WIDREKAS_NAME_NOT_FOUND, 0);
+}
+
+/* A refused card that is met leaves its number, its column and nothing else, in both halves, also where there is no room. */
 static void meets_refused(struct asked a, int refusal, size_t card, size_t column)
 {
     for (size_t room = 0; room <= 80; room += 40) {
-        CHECK(ask(&a, room, room) == refusal && a.out[WIDREKAS_ENTRY_CARD] == card && a.column == column);
-        CHECK(untouched(a.text, room) && untouched(a.comment, room) && untouched(a.digits, WIDREKAS_DIGITS));
+        CHECK(ask_value(&a, room) == refusal && a.out[WIDREKAS_ENTRY_CARD] == card && a.column == column);
+        CHECK(untouched(a.text, room) && untouched(a.digits, WIDREKAS_DIGITS));
         CHECK(untouched(a.out + 1, (WIDREKAS_NUMBERS - 1) * sizeof(size_t)) && a.number == -1);
-        give_back(&a);
+        give_back_value(&a);
+        CHECK(ask_comment(&a, room) == refusal && a.comment_card == card && a.comment_column == column);
+        CHECK(untouched(a.comment, room) && a.commented == KEPT && a.comment_length == KEPT);
+        free(a.comment);
     }
 }
 
-/* An entry, with room to spare, with room that is just enough, and with a byte too little. */
+/* An entry by its halves, each with room to spare, with room that is just enough, with a byte too little and with none. */
 static void is_entry(struct asked a, size_t kind, size_t flag, int64_t number, const char *digits, const char *text,
                      const char *comment)
 {
     size_t text_length = strlen(text);
     size_t comment_length = comment != NULL ? strlen(comment) : 0;
     for (size_t spare = 0; spare <= 30; spare += 10) {
-        CHECK(ask(&a, text_length + spare, comment_length + spare) == 0);
+        CHECK(ask_value(&a, text_length + spare) == 0);
         CHECK(a.out[WIDREKAS_ENTRY_CARD] == 0 && a.out[WIDREKAS_ENTRY_KIND] == kind && a.out[WIDREKAS_ENTRY_FLAG] == flag);
-        CHECK(a.out[WIDREKAS_ENTRY_COMMENTED] == (comment != NULL) && a.number == number);
         CHECK(a.out[WIDREKAS_ENTRY_TEXT_LENGTH] == text_length && memcmp(a.text, text, text_length) == 0);
-        CHECK(a.out[WIDREKAS_ENTRY_COMMENT_LENGTH] == comment_length);
-        CHECK(comment_length == 0 || memcmp(a.comment, comment, comment_length) == 0);
         CHECK(a.out[WIDREKAS_ENTRY_DIGITS_LENGTH] == strlen(digits) && strncmp((char *)a.digits, digits, WIDREKAS_DIGITS) == 0);
-        CHECK(untouched(a.text + text_length, spare) && untouched(a.comment + comment_length, spare));
-        give_back(&a);
+        CHECK(a.number == number && untouched(a.text + text_length, spare));
+        give_back_value(&a);
+        CHECK(ask_comment(&a, comment_length + spare) == 0);
+        CHECK(a.commented == (comment != NULL) && a.comment_length == comment_length && a.comment_card == KEPT);
+        CHECK(comment_length == 0 || memcmp(a.comment, comment, comment_length) == 0);
+        CHECK(untouched(a.comment + comment_length, spare));
+        free(a.comment);
     }
     if (text_length > 0) {
-        is_refused_entry(a, text_length - 1, comment_length, WIDREKAS_BUFFER_SHORT);
+        is_refused_value(a, text_length - 1, WIDREKAS_BUFFER_SHORT, text_length);
+        is_refused_value(a, 0, WIDREKAS_BUFFER_SHORT, text_length);
     }
     if (comment_length > 0) {
-        is_refused_entry(a, text_length, comment_length - 1, WIDREKAS_BUFFER_SHORT);
+        is_refused_comment(a, comment_length - 1, WIDREKAS_BUFFER_SHORT, comment_length);
+        is_refused_comment(a, 0, WIDREKAS_BUFFER_SHORT, comment_length);
     }
 }
 
@@ -519,21 +561,21 @@ static void test_entries(void)
 {
     static const char *const example[] = {"SIZE    = 12", "KIT     = 'FKM-&'", "CONTINUE  '75' / ring", "END"};
     uint8_t *header = cards(example, 4);
-    struct asked a = {header, 320, "KIT", 0, NULL, NULL, NULL, NULL, 0, KEPT};
+    struct asked a = {header, 320, "KIT", 0, NULL, NULL, NULL, NULL, 0, KEPT, 0, 0, 0, 0};
     is_entry(a, WIDREKAS_STRING, 0, 0, "", "FKM-75", " ring");
     a.name = "SIZE";
     is_entry(a, WIDREKAS_INTEGER, 0, 12, "", "", NULL);
     a.name = "size";
-    is_refused_entry(a, 80, 80, WIDREKAS_NAME_NOT_FOUND);
+    is_missing(a);
     a.name = "";
-    is_refused_entry(a, 80, 80, WIDREKAS_NAME_NOT_FOUND);
+    is_missing(a);
     a.name = NULL;
     a.card = 1;
     is_entry(a, WIDREKAS_STRING, 0, 0, "", "FKM-75", " ring");
     a.card = 2;
-    is_refused_entry(a, 80, 80, WIDREKAS_NAME_NOT_FOUND);
+    is_missing(a);
     a.card = (size_t)-1;
-    is_refused_entry(a, 80, 80, WIDREKAS_NAME_NOT_FOUND);
+    is_missing(a);
     free(header);
 
     static const char *const edges[] = {"A       = 'FKM-&'",       "COMMENT",        "CONTINUE  '75'",  "B       = 'FKM &'",
@@ -541,7 +583,7 @@ static void test_entries(void)
                                         "E       = 'a&' /[mm]",    "CONTINUE '&'",   "CONTINUE 'b' / c", "F       = -1.5D3",
                                         "G       = what",          "D       = 6 /",  "END"};
     header = cards(edges, 15);
-    struct asked b = {header, 15 * WIDREKAS_CARD, "A", 0, NULL, NULL, NULL, NULL, 0, KEPT};
+    struct asked b = {header, 15 * WIDREKAS_CARD, "A", 0, NULL, NULL, NULL, NULL, 0, KEPT, 0, 0, 0, 0};
     is_entry(b, WIDREKAS_STRING, 0, 0, "", "FKM-75", NULL);
     b.name = "B";
     is_entry(b, WIDREKAS_STRING, 0, 0, "", "FKM", NULL);
@@ -562,14 +604,19 @@ static void test_entries(void)
     size_t out[WIDREKAS_NUMBERS] = {0};
     int64_t number = -1;
     size_t column = KEPT;
-    CHECK(widrekas_entry(few, 0, 0, few, 0, few, 0, few + 1, WIDREKAS_DIGITS - 1, out, WIDREKAS_NUMBERS, &number, &column) == 255);
-    CHECK(widrekas_entry(few, 0, 0, few, 0, few, 0, few, WIDREKAS_DIGITS, out, WIDREKAS_NUMBERS - 1, &number, &column) == 255);
-    CHECK(widrekas_lookup(few, 0, few, 0, few, 0, few, 0, few, 0, out, WIDREKAS_NUMBERS, &number, &column) == 255);
+    CHECK(widrekas_entry_value(few, 0, 0, few, 0, few + 1, WIDREKAS_DIGITS - 1, out, WIDREKAS_NUMBERS, &number, &column) == 255);
+    CHECK(widrekas_entry_value(few, 0, 0, few, 0, few, WIDREKAS_DIGITS, out, WIDREKAS_NUMBERS - 1, &number, &column) == 255);
+    CHECK(widrekas_lookup_value(few, 0, few, 0, few, 0, few, 0, out, WIDREKAS_NUMBERS, &number, &column) == 255);
     out[0] = 5;
-    CHECK(widrekas_entry(few, 79, 0, few, 0, few, 0, few, 0, out, WIDREKAS_NUMBERS, &number, &column) == 255 && out[0] == 5);
+    CHECK(widrekas_entry_value(few, 79, 0, few, 0, few, 0, out, WIDREKAS_NUMBERS, &number, &column) == 255 && out[0] == 5);
     uint8_t digits[WIDREKAS_DIGITS];
-    CHECK(widrekas_entry(few, 79, 0, few, 0, few, 0, digits, WIDREKAS_DIGITS, out, WIDREKAS_NUMBERS, &number, &column) == 9);
+    CHECK(widrekas_entry_value(few, 79, 0, few, 0, digits, WIDREKAS_DIGITS, out, WIDREKAS_NUMBERS, &number, &column) == 9);
     CHECK(out[0] == 0 && number == -1 && column == KEPT);
+    size_t commented = KEPT, length = KEPT, at = 5;
+    CHECK(widrekas_entry_comment(few, 79, 0, few, 0, &commented, &length, &at, &column) == 9 && at == 0);
+    at = 5;
+    CHECK(widrekas_lookup_comment(few, 79, few, 0, few, 0, &commented, &length, &at, &column) == 9 && at == 0);
+    CHECK(commented == KEPT && length == KEPT && column == KEPT);
 }
 
 /* Entries by their cards' numbers, where refused cards and END stand around them. */
@@ -577,14 +624,14 @@ static void test_met(void)
 {
     static const char *const broken[] = {"KIT     = 'a&'", "WCS     = (1", "CONTINUE  'b'", "END"};
     uint8_t *header = cards(broken, 4);
-    struct asked a = {header, 320, NULL, 0, NULL, NULL, NULL, NULL, 0, KEPT};
+    struct asked a = {header, 320, NULL, 0, NULL, NULL, NULL, NULL, 0, KEPT, 0, 0, 0, 0};
     meets_refused(a, WIDREKAS_COMPLEX, 1, 10);
     a.card = 1;
     meets_refused(a, WIDREKAS_COMPLEX, 1, 10);
     a.card = 2;
-    is_refused_entry(a, 80, 80, WIDREKAS_NAME_NOT_FOUND);
+    is_missing(a);
     a.card = 3;
-    is_refused_entry(a, 80, 80, WIDREKAS_NAME_NOT_FOUND);
+    is_missing(a);
     a.name = "KIT";
     meets_refused(a, WIDREKAS_COMPLEX, 1, 10);
     free(header);
@@ -594,7 +641,7 @@ static void test_met(void)
                                            "CONTINUE  'e",      "C       = 5",  "CONTINUE  f'",   "D       = '&'", "COMMENT",
                                            "CONTINUE  'g",      "CONTINUE  h'", "E       = '&'",  "END",       "F       = '"};
     header = cards(complete, 15);
-    struct asked b = {header, 15 * WIDREKAS_CARD, NULL, 0, NULL, NULL, NULL, NULL, 0, KEPT};
+    struct asked b = {header, 15 * WIDREKAS_CARD, NULL, 0, NULL, NULL, NULL, NULL, 0, KEPT, 0, 0, 0, 0};
     is_entry(b, WIDREKAS_STRING, 0, 0, "", "a", " b");
     b.card = 2;
     is_entry(b, WIDREKAS_STRING, 0, 0, "", "cd", NULL);
@@ -611,12 +658,12 @@ static void test_met(void)
     /* Behind END an entry is read by its number, and has no name for the others. */
     static const char *const behind[] = {"END", "KIT     = 'a&'", "CONTINUE  'b'", "END", "WCS     = (1"};
     header = cards(behind, 5);
-    struct asked c = {header, 5 * WIDREKAS_CARD, NULL, 1, NULL, NULL, NULL, NULL, 0, KEPT};
+    struct asked c = {header, 5 * WIDREKAS_CARD, NULL, 1, NULL, NULL, NULL, NULL, 0, KEPT, 0, 0, 0, 0};
     is_entry(c, WIDREKAS_STRING, 0, 0, "", "ab", NULL);
     c.card = 4;
     meets_refused(c, WIDREKAS_COMPLEX, 4, 10);
     c.name = "KIT";
-    is_refused_entry(c, 80, 80, WIDREKAS_NAME_NOT_FOUND);
+    is_missing(c);
     size_t *first, *last, count, column;
     CHECK(list(header, 5, &first, &last, &count, &column) == 0 && count == 0);
     free(first);
@@ -712,7 +759,7 @@ static void test_columns(void)
         is_refused_header(fronts, 4, refusal, 1, column);
         uint8_t *header = cards(fronts, 4);
         /* By a name; by the card itself; by the entry whose string is open before it. */
-        struct asked a = {header, 4 * WIDREKAS_CARD, "A", 0, NULL, NULL, NULL, NULL, 0, KEPT};
+        struct asked a = {header, 4 * WIDREKAS_CARD, "A", 0, NULL, NULL, NULL, NULL, 0, KEPT, 0, 0, 0, 0};
         meets_refused(a, refusal, 1, column);
         a.name = NULL;
         meets_refused(a, refusal, 1, column);
@@ -739,7 +786,7 @@ static void test_columns(void)
     is_refused((const char *)card, WIDREKAS_NO_NAME, 79);
     static const char *const joined[] = {"A       = 'a&'", "COMMENT", "CONTINUE  '&'", "CONTINUE   'b", "K       = (", "END"};
     uint8_t *header = cards(joined, 6);
-    struct asked a = {header, 6 * WIDREKAS_CARD, NULL, 0, NULL, NULL, NULL, NULL, 0, KEPT};
+    struct asked a = {header, 6 * WIDREKAS_CARD, NULL, 0, NULL, NULL, NULL, NULL, 0, KEPT, 0, 0, 0, 0};
     meets_refused(a, WIDREKAS_STRING_NOT_CLOSED, 3, 11);
     a.card = 4;
     meets_refused(a, WIDREKAS_COMPLEX, 4, 10);
@@ -837,7 +884,7 @@ static void reads_back(const struct wanted *w, const uint8_t *block, size_t coun
     memcpy(header + many++ * WIDREKAS_CARD, "OTHER   = 5", 11);
     memcpy(header + many++ * WIDREKAS_CARD, "END", 3);
     CHECK(many * WIDREKAS_CARD == length);
-    struct asked a = {header, length, w->name, 0, NULL, NULL, NULL, NULL, 0, KEPT};
+    struct asked a = {header, length, w->name, 0, NULL, NULL, NULL, NULL, 0, KEPT, 0, 0, 0, 0};
     int is_string = w->kind == WIDREKAS_STRING, is_decimal = w->kind == WIDREKAS_FINITE;
     size_t flag = w->kind == WIDREKAS_LOGICAL || is_decimal ? w->flag != 0 : 0;
     int64_t number = w->kind == WIDREKAS_INTEGER || is_decimal ? w->number : 0;
@@ -1130,10 +1177,10 @@ static double double_of(const char *value)
     CHECK(snprintf(front, sizeof front, "K       = %s", value) <= WIDREKAS_CARD);
     const char *fronts = front;
     uint8_t *header = cards(&fronts, 1);
-    struct asked a = {header, WIDREKAS_CARD, NULL, 0, NULL, NULL, NULL, NULL, 0, KEPT};
-    CHECK(ask(&a, 80, 80) == 0);
+    struct asked a = {header, WIDREKAS_CARD, NULL, 0, NULL, NULL, NULL, NULL, 0, KEPT, 0, 0, 0, 0};
+    CHECK(ask_value(&a, 80) == 0);
     double read = widrekas_double(a.out, a.digits, a.number);
-    give_back(&a);
+    give_back_value(&a);
     free(header);
     return read;
 }
@@ -1201,7 +1248,7 @@ static void test_doubles(void)
     }
 
     /* All 80 digits, and powers that no card has. */
-    size_t out[WIDREKAS_NUMBERS] = {0, WIDREKAS_FINITE, 1, 0, 0, 0, WIDREKAS_DIGITS};
+    size_t out[WIDREKAS_NUMBERS] = {0, WIDREKAS_FINITE, 1, 0, WIDREKAS_DIGITS};
     uint8_t digits[WIDREKAS_DIGITS];
     for (size_t i = 0; i < WIDREKAS_DIGITS; i++) {
         digits[i] = (uint8_t)('0' + (i + 1) % 10);
@@ -1370,11 +1417,25 @@ static void test_random(void)
         if (column != KEPT) {
             is_column(header + count * WIDREKAS_CARD, listed, column);
         }
-        struct asked a = {header, length, "KIT", 0, NULL, NULL, NULL, NULL, 0, KEPT};
-        int looked = ask(&a, below(100), below(100));
+        struct asked a = {header, length, "KIT", 0, NULL, NULL, NULL, NULL, 0, KEPT, 0, 0, 0, 0};
+        int looked = ask_value(&a, below(100)), remarked = ask_comment(&a, below(100));
         CHECK(listed <= 10 && (listed == 0 ? looked == 0 || looked == 12 || looked == 13 : looked == listed));
-        CHECK(a.column == column);
-        give_back(&a);
+        CHECK(listed == 0 ? remarked == 0 || remarked == 12 || remarked == 13 : remarked == listed);
+        CHECK((looked == 12) == (remarked == 12) && a.column == column && a.comment_column == column);
+
+        /* A second call that lends the room that is wanted is answered. */
+        size_t wanted = looked == 13 ? a.out[WIDREKAS_ENTRY_TEXT_LENGTH] : 0;
+        free(a.comment);
+        give_back_value(&a);
+        if (looked == 13) {
+            CHECK(ask_value(&a, wanted) == 0 && a.out[WIDREKAS_ENTRY_TEXT_LENGTH] == wanted);
+            give_back_value(&a);
+        }
+        if (remarked == 13) {
+            wanted = a.comment_length;
+            CHECK(ask_comment(&a, wanted) == 0 && a.comment_length == wanted && a.commented == 1);
+            free(a.comment);
+        }
 
         /* Where END stands is refused as the list is; each name of the list is found, and no other number of a card bears it first. */
         size_t card = 777, at = KEPT;
@@ -1382,11 +1443,13 @@ static void test_random(void)
         CHECK(at == column);
         for (size_t k = 0; listed == 0 && k < count; k++) {
             uint8_t name[WIDREKAS_LONGEST_NAME], text[1], comment[1], digits[WIDREKAS_DIGITS];
-            size_t told = 0, out[WIDREKAS_NUMBERS];
+            size_t told = 0, out[WIDREKAS_NUMBERS], commented, remark, none;
             int64_t number;
             CHECK(widrekas_name(header, length, first[k], name, sizeof name, &told, &at) == 0 && first[k] < card);
-            int found = widrekas_lookup(header, length, name, told, text, 1, comment, 1, digits, WIDREKAS_DIGITS, out, WIDREKAS_NUMBERS,
-                                        &number, &at);
+            int found = widrekas_lookup_value(header, length, name, told, text, 1, digits, WIDREKAS_DIGITS, out, WIDREKAS_NUMBERS,
+                                              &number, &at);
+            CHECK((found == 0 || found == WIDREKAS_BUFFER_SHORT) && at == KEPT);
+            found = widrekas_lookup_comment(header, length, name, told, comment, 1, &commented, &remark, &none, &at);
             CHECK((found == 0 || found == WIDREKAS_BUFFER_SHORT) && at == KEPT);
         }
         free(first);
@@ -1519,7 +1582,7 @@ static void test_random_writing(void)
 
 int main(void)
 {
-    CHECK(widrekas_version() == 2);
+    CHECK(widrekas_version() == 3);
     test_cards();
     test_units();
     test_lists();

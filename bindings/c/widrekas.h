@@ -15,15 +15,15 @@
  * - 255 is tested first. A function that can answer it looks at no byte before the lengths are right, so with a wrong length no refusal
  *   is given. Refusals are tested in the order in which the comment names them; on one card that is 1, then 6 and 7, then 2, then the rest.
  * - Whatever the comment does not name stays as it was.
- * - *column, which six functions have last, is where a card is refused: enum widrekas_refusal has the rule. Answers 1 to 8 set it, and
+ * - *column, which eight functions have last, is where a card is refused: enum widrekas_refusal has the rule. Answers 1 to 8 set it, and
  *   every other answer leaves it as it was.
  *
- * Stack. What a call takes of its caller's stack, as measured, up to the next hundred bytes: widrekas_list 79,200, widrekas_lookup
- * 62,600, widrekas_entry 62,200, widrekas_header 3,300, widrekas_name 3,200, widrekas_card 3,100, widrekas_decode and widrekas_step
- * 1,000, widrekas_write 800, the others 200. stack.c measures it on x86-64 Linux: each call runs in a thread whose stack was painted
- * before, over strings of up to 720 cards, 1,000 headers and 400 values at random and tiles of each width. It holds the list below
- * 80 KiB, lookup and entry below 64, and the others below 4. valgrind's massif sees the same of a lookup and a list. The loader takes
- * some 2 KiB more where it binds memcpy at the first call.
+ * Stack. What a call takes of its caller's stack, as measured, up to the next hundred bytes: widrekas_list 79,200, the two lookups 62,200,
+ * the two entries 62,100, widrekas_header 3,300, widrekas_name 3,200, widrekas_card 3,100, widrekas_decode and widrekas_step 1,000,
+ * widrekas_write 800, the others 200. stack.c measures it on x86-64 Linux: each call runs in a thread whose stack was painted before, over
+ * strings of up to 720 cards, 1,000 headers and 400 values at random and tiles of each width. It holds the list below 80 KiB, lookups and
+ * entries below 64, and the others below 4. valgrind's massif sees the same of a lookup and a list. The loader takes some 2 KiB more where
+ * it binds memcpy at the first call.
  */
 #ifndef WIDREKAS_H
 #define WIDREKAS_H
@@ -40,9 +40,9 @@ extern "C" {
 #define WIDREKAS_CARD 80
 #define WIDREKAS_LONGEST 57600
 
-/* The bytes of a card's record, the numbers of an entry, the bytes of its digits, the places of a list. */
+/* The bytes of a card's record, the numbers of an entry's value, the bytes of its digits, the places of a list. */
 #define WIDREKAS_RECORD 248
-#define WIDREKAS_NUMBERS 7
+#define WIDREKAS_NUMBERS 5
 #define WIDREKAS_DIGITS 80
 #define WIDREKAS_PLACES 720
 
@@ -68,7 +68,7 @@ extern "C" {
  * The refusals, in words by widrekas_meaning.
  *
  * 1 to 8 refuse a card. They have a column: the byte of that card, 0 to 79, at which it is refused. widrekas_card, widrekas_header,
- * widrekas_list, widrekas_name, widrekas_entry and widrekas_lookup write it to *column. The others have none.
+ * widrekas_list, widrekas_name, the two entries and the two lookups write it to *column. The others have none.
  *
  *     1           the first byte of 128 or more
  *     2           the byte outside 32..126 at which the scan for the slash stops
@@ -142,18 +142,16 @@ enum widrekas_record {
     WIDREKAS_RECORD_COMMENT = 168
 };
 
-/* The numbers of an entry. */
+/* The numbers of an entry's value. */
 enum widrekas_number {
     WIDREKAS_ENTRY_CARD = 0, /* 0; with the header's refusals, 1 to 10, the card's number */
     WIDREKAS_ENTRY_KIND = 1,
     WIDREKAS_ENTRY_FLAG = 2,
-    WIDREKAS_ENTRY_COMMENTED = 3, /* 1 where there is a comment, which may be empty */
-    WIDREKAS_ENTRY_TEXT_LENGTH = 4,
-    WIDREKAS_ENTRY_COMMENT_LENGTH = 5,
-    WIDREKAS_ENTRY_DIGITS_LENGTH = 6
+    WIDREKAS_ENTRY_TEXT_LENGTH = 3, /* with 13, the room that is wanted; with 12, 0 */
+    WIDREKAS_ENTRY_DIGITS_LENGTH = 4
 };
 
-/* The version of this boundary: 2. Functions may join without a change of it. */
+/* The version of this boundary: 3. Functions may join without a change of it. */
 uint32_t widrekas_version(void);
 
 /*
@@ -203,7 +201,7 @@ uint8_t widrekas_list(const uint8_t *header, size_t header_length, size_t *first
 
 /*
  * Reads the name that the entry at a card's number bears. The name at place k of a list is that at card first[k]. No other card is
- * looked at, as in widrekas_entry.
+ * looked at, as in widrekas_entry_value.
  *
  * 0: name begins with the name, what is beyond stays, and *length is the name's length. There is no zero behind it. Its bytes are the
  * card's, each below 128; control characters may stand among them.
@@ -215,49 +213,74 @@ uint8_t widrekas_name(const uint8_t *header, size_t header_length, size_t card, 
                       size_t *length, size_t *column);
 
 /*
- * Reads the entry at a card's number, joined with the CONTINUE cards behind it. The header's length is tested. Of its cards that one
- * is read and those behind it, up to where the entry ends; others are not looked at. So an entry behind END is read if its number is
- * asked for, and whether the header is accepted is for widrekas_header or widrekas_list to say.
+ * An entry is read by halves: its value with its text, and its comment. Each half has a buffer of its own and gives 13 for that buffer
+ * alone, so a caller that wants the text asks for no comment. Each reads the entry's cards for itself. Who wants both of every entry reads
+ * its card by widrekas_card, which has both, and asks the halves only where the value is a string that ends in &.
  *
- * 0: out, 7 numbers, is the entry (enum widrekas_number); text begins with the string or invalid text, comment with the comment,
- * by their lengths, and what is beyond stays; digits, 80 bytes, is the decimal's digits, then zeros; *number is the integer or
- * the power of ten, or 0.
- * 255: digits_length is not 80 or out_length not 7. 9: out[0] is 0.
+ * Reads the value of the entry at a card's number, its text joined with the CONTINUE cards behind it. The header's length is tested. Of
+ * its cards that one is read and those behind it, up to where the entry ends; others are not looked at. So an entry behind END is read if
+ * its number is asked for, and whether the header is accepted is for widrekas_header or widrekas_list to say.
+ *
+ * 0: out, 5 numbers, is the value (enum widrekas_number); text begins with the string or invalid text, by its length, and what is beyond
+ * stays; digits, 80 bytes, is the decimal's digits, then zeros; *number is the integer or the power of ten, or 0.
+ * 255: digits_length is not 80 or out_length not 5. 9: out[0] is 0.
  * 1 to 8: a refused card is met. out[0] is that card's number, and *column the byte of it at which it is refused. It is the card
  * itself, or the first one that is refused while the entry's string is open. A string that is complete before a refused card is read, as
  * is any other value.
- * 12: there is no such card, or it is no entry. 13: text or comment is too short; the answer does not say by how much, and
- * WIDREKAS_ROOM is always enough.
- * All leave the rest as it was: text, comment, digits, *number and out[1] to out[6], and but for 9 and 1 to 8 out[0] too. 0, 255, 9, 12
- * and 13 leave *column.
+ * 12: there is no such card, or it is no entry; out[3] is 0. 13: text is shorter than the text for it, and out[3] is the room that is
+ * wanted: a second call that lends so much is not answered 13. WIDREKAS_ROOM is always enough.
+ * All leave the rest as it was: text, digits, *number and the numbers in out that are not named. 0, 255, 9, 12 and 13 leave *column.
  */
-uint8_t widrekas_entry(const uint8_t *header, size_t header_length, size_t card, uint8_t *text, size_t text_length,
-                       uint8_t *comment, size_t comment_length, uint8_t *digits, size_t digits_length, size_t *out,
-                       size_t out_length, int64_t *number, size_t *column);
+uint8_t widrekas_entry_value(const uint8_t *header, size_t header_length, size_t card, uint8_t *text, size_t text_length,
+                             uint8_t *digits, size_t digits_length, size_t *out, size_t out_length, int64_t *number,
+                             size_t *column);
 
 /*
- * Looks a name up: the last entry that bears it, joined. Names are compared byte for byte.
+ * Reads the comment of the entry at a card's number, joined with those of the CONTINUE cards behind it, a line feed between them.
  *
- * 0: as widrekas_entry. 255: as widrekas_entry. 9, 1 to 8, 10: the header's refusal, and out[0] is the card's number, as in
- * widrekas_header, and with 1 to 8 *column is the byte of that card. 12: no entry bears the name. 13: as widrekas_entry. All leave the
- * rest as it was, as in widrekas_entry. 0, 255, 9, 10, 12 and 13 leave *column.
+ * 0: *commented is 1 where there is a comment, which may be empty, or 0; comment begins with it, *length is its length, and what is
+ * beyond stays.
+ * 9: *card is 0. 1 to 8: as in widrekas_entry_value, and *card is the refused card's number. 12: as in widrekas_entry_value, and *length is
+ * 0. 13: comment is shorter than the comment, and *length is the room that is wanted.
+ * All leave the rest as it was. 0, 9, 12 and 13 leave *column; 0, 12 and 13 leave *card.
  */
-uint8_t widrekas_lookup(const uint8_t *header, size_t header_length, const uint8_t *name, size_t name_length,
-                        uint8_t *text, size_t text_length, uint8_t *comment, size_t comment_length, uint8_t *digits,
-                        size_t digits_length, size_t *out, size_t out_length, int64_t *number, size_t *column);
+uint8_t widrekas_entry_comment(const uint8_t *header, size_t header_length, size_t number, uint8_t *comment,
+                               size_t comment_length, size_t *commented, size_t *length, size_t *card, size_t *column);
+
+/*
+ * Looks a name's value up: that of the last entry that bears the name, joined. Names are compared byte for byte.
+ *
+ * 0: as widrekas_entry_value. 255: as widrekas_entry_value. 9, 1 to 8, 10: the header's refusal, and out[0] is the card's number, as in
+ * widrekas_header, and with 1 to 8 *column is the byte of that card. 12: no entry bears the name; out[3] is 0. 13: as
+ * widrekas_entry_value. All leave the rest as it was, as in widrekas_entry_value. 0, 255, 9, 10, 12 and 13 leave *column.
+ */
+uint8_t widrekas_lookup_value(const uint8_t *header, size_t header_length, const uint8_t *name, size_t name_length,
+                              uint8_t *text, size_t text_length, uint8_t *digits, size_t digits_length, size_t *out,
+                              size_t out_length, int64_t *number, size_t *column);
+
+/*
+ * Looks a name's comment up: that of the last entry that bears the name, joined.
+ *
+ * 0: as widrekas_entry_comment. 9, 1 to 8, 10: the header's refusal, *card is the card's number, and with 1 to 8 *column is the byte of
+ * that card. 12: no entry bears the name; *length is 0. 13: as widrekas_entry_comment. All leave the rest as it was, as in
+ * widrekas_entry_comment. 0, 9, 10, 12 and 13 leave *column; 0, 12 and 13 leave *card.
+ */
+uint8_t widrekas_lookup_comment(const uint8_t *header, size_t header_length, const uint8_t *name, size_t name_length,
+                                uint8_t *comment, size_t comment_length, size_t *commented, size_t *length, size_t *card,
+                                size_t *column);
 
 /*
  * Writes the cards of a name and its value at the front of block, 80 bytes each, one behind the other.
  *
- * The value has the form in which widrekas_lookup gives it back: kind is one of enum widrekas_kind; number is the integer or a decimal's
+ * The value has the form in which widrekas_lookup_value gives it back: kind is one of enum widrekas_kind; number is the integer or a decimal's
  * power of ten; flag is a logical's truth or a decimal's minus; text is a string's text or a decimal's digits. What a kind does not have
  * is not looked at. commented says whether there is a comment, which may be empty; without one, comment is not looked at. flag and
  * commented are false where they are 0, and any other number is true.
  *
  * 0: *count is the number of cards, 1 to 62, and what follows them in block stays. The first card bears the name, the others are
  * CONTINUE cards of a string; the last has the comment, directly behind the slash. In an accepted header where these cards stand in order
- * before END, with at most commentary between them, and no later card bears the name, widrekas_lookup answers the same kind, the same
- * comment, and what the kind has of flag, number, digits and text.
+ * before END, with at most commentary between them, and no later card bears the name, widrekas_lookup_value answers the same kind and what
+ * the kind has of flag, number, digits and text, and widrekas_lookup_comment the same comment.
  * In a header the cards may take the places of all cards of the name, equally many and in their order: its entries, and the CONTINUE
  * cards joined to them. If between these places stands commentary alone, every other name is answered as before.
  * 19: the name is not 1 to 8 bytes of A to Z, 0 to 9, hyphen and underscore, or is COMMENT, HISTORY, END, CONTINUE, XTENSION or HIERARCH.
@@ -336,7 +359,8 @@ static inline const char *widrekas_meaning(uint8_t answer)
 }
 
 /*
- * The double of an entry's integer or decimal, from out, digits and *number as widrekas_entry or widrekas_lookup left them with 0.
+ * The double of an entry's integer or decimal, from out, digits and *number as widrekas_entry_value or widrekas_lookup_value left
+ * them with 0.
  *
  * An integer is converted, and a finite decimal is given to strtod as its sign, digits, e and power, with no decimal point: the locale
  * has no say, and the double is the nearest one if the C library rounds right, as glibc does. One that is too large becomes an

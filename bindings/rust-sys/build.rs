@@ -11,17 +11,19 @@ const ARCHIVE: &str = "libwidrekas.a";
 const STAMP: &str = "libwidrekas.sources";
 
 /// The version of the boundary that this crate declares.
-const VERSION: &str = "2";
+const VERSION: &str = "3";
 
 /// What the archive must have beside `widrekas_version`.
-const FUNCTIONS: [&str; 11] = [
+const FUNCTIONS: [&str; 13] = [
     "widrekas_card",
     "widrekas_unit",
     "widrekas_header",
     "widrekas_list",
     "widrekas_name",
-    "widrekas_entry",
-    "widrekas_lookup",
+    "widrekas_entry_value",
+    "widrekas_entry_comment",
+    "widrekas_lookup_value",
+    "widrekas_lookup_comment",
     "widrekas_write",
     "widrekas_open",
     "widrekas_step",

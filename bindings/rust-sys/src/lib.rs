@@ -22,8 +22,8 @@ pub const RECORD: usize = 248;
 /// The places of a list.
 pub const PLACES: usize = 720;
 
-/// The numbers of an entry.
-pub const NUMBERS: usize = 7;
+/// The numbers of an entry's value.
+pub const NUMBERS: usize = 5;
 
 /// The bytes of an entry's digits.
 pub const DIGITS: usize = 80;
@@ -71,14 +71,12 @@ pub mod raw {
             length: *mut usize,
             column: *mut usize,
         ) -> u8;
-        pub fn widrekas_entry(
+        pub fn widrekas_entry_value(
             header: *const u8,
             len: usize,
             card: usize,
             text: *mut u8,
             text_room: usize,
-            comment: *mut u8,
-            comment_room: usize,
             digits: *mut u8,
             digits_room: usize,
             out: *mut usize,
@@ -86,20 +84,41 @@ pub mod raw {
             number: *mut i64,
             column: *mut usize,
         ) -> u8;
-        pub fn widrekas_lookup(
+        pub fn widrekas_entry_comment(
+            header: *const u8,
+            len: usize,
+            number: usize,
+            comment: *mut u8,
+            room: usize,
+            commented: *mut usize,
+            length: *mut usize,
+            card: *mut usize,
+            column: *mut usize,
+        ) -> u8;
+        pub fn widrekas_lookup_value(
             header: *const u8,
             len: usize,
             name: *const u8,
             name_len: usize,
             text: *mut u8,
             text_room: usize,
-            comment: *mut u8,
-            comment_room: usize,
             digits: *mut u8,
             digits_room: usize,
             out: *mut usize,
             out_room: usize,
             number: *mut i64,
+            column: *mut usize,
+        ) -> u8;
+        pub fn widrekas_lookup_comment(
+            header: *const u8,
+            len: usize,
+            name: *const u8,
+            name_len: usize,
+            comment: *mut u8,
+            room: usize,
+            commented: *mut usize,
+            length: *mut usize,
+            card: *mut usize,
             column: *mut usize,
         ) -> u8;
         pub fn widrekas_write(
@@ -153,11 +172,12 @@ pub mod raw {
     }
 }
 
-/// What an entry's numbers and digits are laid into.
+/// What the numbers and digits of an entry's value are laid into.
 pub struct Told {
     /// The digits of a decimal.
     pub digits: [u8; DIGITS],
-    /// The card of a refused header, the kind, the flag, whether there is a comment, and the lengths of text, comment and digits.
+    /// The card of a refused header, the kind, the flag, and the lengths of text and digits. Where the text's buffer is too short
+    /// (13), its length is the room that is wanted.
     pub out: [usize; NUMBERS],
     /// The integer, or a decimal's power of ten.
     pub number: i64,
@@ -169,6 +189,19 @@ impl Default for Told {
     fn default() -> Self {
         Told { digits: [0; DIGITS], out: [0; NUMBERS], number: 0, column: 0 }
     }
+}
+
+/// What is told of an entry's comment.
+#[derive(Default)]
+pub struct Remark {
+    /// 1 where there is a comment, which may be empty, or 0.
+    pub commented: usize,
+    /// The length of the comment; where its buffer is too short (13), the room that is wanted.
+    pub length: usize,
+    /// The card of a refused header.
+    pub card: usize,
+    /// The byte of a refused card at which it is refused.
+    pub column: usize,
 }
 
 /// The boundary's version.
@@ -214,19 +247,17 @@ pub fn name(header: &[u8], card: usize, name: &mut [u8], length: &mut usize, col
     unsafe { raw::widrekas_name(header.as_ptr(), header.len(), card, name.as_mut_ptr(), name.len(), length, column) }
 }
 
-/// Reads the entry at a card's number.
-pub fn entry(header: &[u8], card: usize, text: &mut [u8], comment: &mut [u8], told: &mut Told) -> u8 {
+/// Reads the value of the entry at a card's number.
+pub fn entry_value(header: &[u8], card: usize, text: &mut [u8], told: &mut Told) -> u8 {
     // SAFETY: live slices and arrays with their lengths and two live numbers, all but the header lent alone; the parts of `told`
     // are apart from each other.
     unsafe {
-        raw::widrekas_entry(
+        raw::widrekas_entry_value(
             header.as_ptr(),
             header.len(),
             card,
             text.as_mut_ptr(),
             text.len(),
-            comment.as_mut_ptr(),
-            comment.len(),
             told.digits.as_mut_ptr(),
             DIGITS,
             told.out.as_mut_ptr(),
@@ -237,19 +268,36 @@ pub fn entry(header: &[u8], card: usize, text: &mut [u8], comment: &mut [u8], to
     }
 }
 
-/// Looks a name up.
-pub fn lookup(header: &[u8], name: &[u8], text: &mut [u8], comment: &mut [u8], told: &mut Told) -> u8 {
-    // SAFETY: as for `entry`; the name is a live slice that is only read.
+/// Reads the comment of the entry at a card's number.
+pub fn entry_comment(header: &[u8], number: usize, comment: &mut [u8], told: &mut Remark) -> u8 {
+    // SAFETY: two live slices with their lengths, the first only read, and four live numbers; all that is written is lent alone, and
+    // the parts of `told` are apart from each other.
     unsafe {
-        raw::widrekas_lookup(
+        raw::widrekas_entry_comment(
+            header.as_ptr(),
+            header.len(),
+            number,
+            comment.as_mut_ptr(),
+            comment.len(),
+            &mut told.commented,
+            &mut told.length,
+            &mut told.card,
+            &mut told.column,
+        )
+    }
+}
+
+/// Looks a name's value up.
+pub fn lookup_value(header: &[u8], name: &[u8], text: &mut [u8], told: &mut Told) -> u8 {
+    // SAFETY: as for `entry_value`; the name is a live slice that is only read.
+    unsafe {
+        raw::widrekas_lookup_value(
             header.as_ptr(),
             header.len(),
             name.as_ptr(),
             name.len(),
             text.as_mut_ptr(),
             text.len(),
-            comment.as_mut_ptr(),
-            comment.len(),
             told.digits.as_mut_ptr(),
             DIGITS,
             told.out.as_mut_ptr(),
@@ -260,7 +308,26 @@ pub fn lookup(header: &[u8], name: &[u8], text: &mut [u8], comment: &mut [u8], t
     }
 }
 
-/// A value that is to be written, as `lookup` gives it back.
+/// Looks a name's comment up.
+pub fn lookup_comment(header: &[u8], name: &[u8], comment: &mut [u8], told: &mut Remark) -> u8 {
+    // SAFETY: as for `entry_comment`; the name is a live slice that is only read.
+    unsafe {
+        raw::widrekas_lookup_comment(
+            header.as_ptr(),
+            header.len(),
+            name.as_ptr(),
+            name.len(),
+            comment.as_mut_ptr(),
+            comment.len(),
+            &mut told.commented,
+            &mut told.length,
+            &mut told.card,
+            &mut told.column,
+        )
+    }
+}
+
+/// A value that is to be written, as `lookup_value` gives it back.
 #[derive(Clone, Copy, Debug)]
 pub struct Asked<'a> {
     /// The kind: 1 an integer, 2 a decimal, 5 a logical, 6 a string. Any other is refused by 20.

@@ -1,6 +1,8 @@
 //! Every function of the boundary answers, and leaves what it says it leaves.
 
-use widrekas_sys::{self as boundary, Asked, Stepping, Told, BLOCK, CARD, NOTHING_LEFT, PLACES, RECORD, WRONG_LENGTH};
+use widrekas_sys::{
+    self as boundary, Asked, Remark, Stepping, Told, BLOCK, CARD, NOTHING_LEFT, PLACES, RECORD, WRONG_LENGTH,
+};
 
 /// No byte of a card: a column that is left as it was.
 const KEPT: usize = 1000;
@@ -11,8 +13,8 @@ fn cards(fronts: &[&str]) -> Vec<u8> {
 }
 
 #[test]
-fn the_version_is_2() {
-    assert_eq!(boundary::version(), 2);
+fn the_version_is_3() {
+    assert_eq!(boundary::version(), 3);
 }
 
 #[test]
@@ -61,11 +63,17 @@ fn a_refused_card_of_a_header_has_a_column() {
     assert_eq!((&name, length, column), (b"....", 7, 9));
     let (mut text, mut comment) = ([b'.'; 8], [b'.'; 8]);
     let mut told = Told { column: KEPT, ..Told::default() };
-    assert_eq!(boundary::lookup(&header, b"SIZE", &mut text, &mut comment, &mut told), 3);
-    assert_eq!((told.out, told.number, told.column), ([2, 0, 0, 0, 0, 0, 0], 0, 9));
+    assert_eq!(boundary::lookup_value(&header, b"SIZE", &mut text, &mut told), 3);
+    assert_eq!((told.out, told.number, told.column), ([2, 0, 0, 0, 0], 0, 9));
     let mut told = Told { column: KEPT, ..Told::default() };
-    assert_eq!(boundary::entry(&header, 1, &mut text, &mut comment, &mut told), 3);
-    assert_eq!((told.out, told.number, told.column), ([2, 0, 0, 0, 0, 0, 0], 0, 9));
+    assert_eq!(boundary::entry_value(&header, 1, &mut text, &mut told), 3);
+    assert_eq!((told.out, told.number, told.column), ([2, 0, 0, 0, 0], 0, 9));
+    let mut said = Remark { commented: 7, length: 7, card: 7, column: KEPT };
+    assert_eq!(boundary::lookup_comment(&header, b"SIZE", &mut comment, &mut said), 3);
+    assert_eq!((said.commented, said.length, said.card, said.column), (7, 7, 2, 9));
+    let mut said = Remark { commented: 7, length: 7, card: 7, column: KEPT };
+    assert_eq!(boundary::entry_comment(&header, 1, &mut comment, &mut said), 3);
+    assert_eq!((said.commented, said.length, said.card, said.column), (7, 7, 2, 9));
     assert_eq!((&text, &comment), (b"........", b"........"));
 }
 
@@ -80,16 +88,26 @@ fn a_list_a_lookup_and_an_entry() {
     let (mut first, mut last, mut count, mut column) = ([0; PLACES], [0; PLACES], 0, KEPT);
     assert_eq!(boundary::list(&header, &mut first, &mut last, &mut count, &mut column), 0);
     assert_eq!((count, &first[..3], &last[..3]), (2, &[0, 1, 720][..], &[3, 1, 720][..]));
-    let (mut text, mut comment, mut told) = ([b'.'; 8], [b'.'; 8], Told { column: KEPT, ..Told::default() });
-    assert_eq!(boundary::lookup(&header, b"KIT", &mut text, &mut comment, &mut told), 0);
-    assert_eq!((&text, &comment, told.out), (b"FKM-75..", b"r.......", [0, 6, 0, 1, 6, 1, 0]));
-    assert_eq!(boundary::entry(&header, 3, &mut text, &mut comment, &mut told), 0);
-    assert_eq!((told.out, told.number), ([0, 1, 0, 0, 0, 0, 0], 13));
-    assert_eq!(boundary::entry(&header, 2, &mut text, &mut comment, &mut told), 12);
-    assert_eq!(boundary::lookup(&header, b"KIT", &mut text[..5], &mut comment, &mut told), 13);
-    assert_eq!(boundary::lookup(&header[1..], b"KIT", &mut text, &mut comment, &mut told), 9);
-    assert_eq!(boundary::lookup(&header[..80], b"KIT", &mut text, &mut comment, &mut told), 10);
+    let (mut text, mut told) = ([b'.'; 8], Told { column: KEPT, ..Told::default() });
+    assert_eq!(boundary::lookup_value(&header, b"KIT", &mut text, &mut told), 0);
+    assert_eq!((&text, told.out), (b"FKM-75..", [0, 6, 0, 6, 0]));
+    assert_eq!(boundary::entry_value(&header, 3, &mut text, &mut told), 0);
+    assert_eq!((told.out, told.number), ([0, 1, 0, 0, 0], 13));
+    assert_eq!((boundary::entry_value(&header, 2, &mut text, &mut told), told.out), (12, [0, 1, 0, 0, 0]));
+    assert_eq!((boundary::lookup_value(&header, b"KIT", &mut text[..5], &mut told), told.out), (13, [0, 1, 0, 6, 0]));
+    assert_eq!((boundary::lookup_value(&header, b"KIT", &mut text[..6], &mut told), told.out), (0, [0, 6, 0, 6, 0]));
+    assert_eq!(boundary::lookup_value(&header[1..], b"KIT", &mut text, &mut told), 9);
+    assert_eq!(boundary::lookup_value(&header[..80], b"KIT", &mut text, &mut told), 10);
     assert_eq!(told.column, KEPT);
+    let (mut comment, mut said) = ([b'.'; 4], Remark { column: KEPT, ..Remark::default() });
+    assert_eq!(boundary::lookup_comment(&header, b"KIT", &mut comment, &mut said), 0);
+    assert_eq!((&comment, said.commented, said.length), (b"r...", 1, 1));
+    assert_eq!((boundary::entry_comment(&header, 3, &mut comment, &mut said), said.commented, said.length), (0, 0, 0));
+    assert_eq!((boundary::lookup_comment(&header, b"KIT", &mut [], &mut said), said.length), (13, 1));
+    assert_eq!((boundary::entry_comment(&header, 2, &mut comment, &mut said), said.length), (12, 0));
+    assert_eq!((boundary::entry_comment(&header[1..], 2, &mut comment, &mut said), said.card), (9, 0));
+    assert_eq!((boundary::lookup_comment(&header[..80], b"KIT", &mut comment, &mut said), said.card), (10, 1));
+    assert_eq!((&comment, said.column), (b"r...", KEPT));
     assert_eq!(boundary::list(&header[..80], &mut first, &mut last, &mut count, &mut column), 10);
     assert_eq!((count, column), (1, KEPT));
 }
@@ -127,9 +145,11 @@ fn cards_are_written_and_read_back() {
     assert_eq!((boundary::write(b"KIT", quotes, Some(&[b'c'; 65]), &mut block, &mut count), count), (0, 62));
     assert_eq!(block[BLOCK], 7);
     let header = [&block[..BLOCK], &cards(&["END"])].concat();
-    let (mut text, mut comment, mut told) = ([0; 2000], [0; 65], Told::default());
-    assert_eq!(boundary::lookup(&header, b"KIT", &mut text, &mut comment, &mut told), 0);
-    assert_eq!((text, comment, told.out), ([b'\''; 2000], [b'c'; 65], [0, 6, 0, 1, 2000, 65, 0]));
+    let (mut text, mut comment, mut told, mut said) = ([0; 2000], [0; 65], Told::default(), Remark::default());
+    assert_eq!(boundary::lookup_value(&header, b"KIT", &mut text, &mut told), 0);
+    assert_eq!(boundary::lookup_comment(&header, b"KIT", &mut comment, &mut said), 0);
+    assert_eq!((text, comment), ([b'\''; 2000], [b'c'; 65]));
+    assert_eq!((told.out, said.commented, said.length), ([0, 6, 0, 2000, 0], 1, 65));
 }
 
 #[test]

@@ -27,7 +27,7 @@ fn entry(file: &Path, name: &str) -> Result<Entry, Box<dyn std::error::Error>> {
     let mut bytes = Vec::new();
     File::open(file)?.take(LONGEST as u64).read_to_end(&mut bytes)?;
     let header = Header::parse_file(&bytes).map_err(in_words)?;
-    let entry = header.get(name).ok_or(Reason::NameNotFound)?;
+    let entry = header.entry(name).ok_or(Reason::NameNotFound)?;
     match entry.value {
         Value::Undefined => Err(format!("{name} has no value").into()),
         Value::Invalid(text) => Err(format!("{name} has an invalid value: {}", text.trim_end()).into()),

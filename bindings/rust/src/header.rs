@@ -7,7 +7,7 @@ use crate::value::{Entry, Value};
 use std::iter::Zip;
 use std::sync::OnceLock;
 use std::{fmt, slice};
-use widrekas_sys::{self as boundary, Told, CARD, PLACES};
+use widrekas_sys::{self as boundary, Remark, Told, CARD, PLACES};
 
 mod read_on;
 mod replacing;
@@ -21,16 +21,13 @@ pub const LONGEST: usize = PLACES * CARD;
 /// The bytes of the keyword field.
 const KEYWORD: usize = 8;
 
-/// The room that is lent for an entry's text and comment at first: enough for a string over seven cards.
+/// The room that is lent for a text or a comment at first: enough for a string over seven cards.
 const USUAL: usize = 560;
 
 /// The bytes of a FITS block: a header and its data each fill whole ones (FITS Standard 4.0, section 3.1).
 const BLOCK: usize = 2_880;
 
-/// The most that a card adds to a text or a comment, the seam included.
-const ADDED: usize = CARD + 1;
-
-/// The refusal that says that a text wants more room.
+/// The refusal that says that a text or a comment wants more room.
 const BUFFER_SHORT: u8 = 13;
 
 /// Where a name stands: the first card that bears it, and that of its last entry.
@@ -38,6 +35,13 @@ const BUFFER_SHORT: u8 = 13;
 struct Place {
     first: usize,
     last: usize,
+}
+
+/// What an entry is asked for by: a name that is sought in the cards, or a card's number.
+#[derive(Clone, Copy)]
+enum Spot<'a> {
+    Name(&'a [u8]),
+    Card(usize),
 }
 
 /// The names in the order of their first cards.
@@ -50,8 +54,9 @@ struct Names {
 
 /// A header that was accepted: its cards up to END.
 ///
-/// Parsing tests every card and numbers the names, in one pass. A value is read when it is asked for: the first name that is asked
-/// for is looked up in another pass, and with the second the names are read, by which every further one is found at once.
+/// Parsing tests every card and numbers the names, in one pass. A value or a comment is read when it is asked for, neither with the
+/// other: the first name that is asked for is looked up in another pass, and with the second the names are read, by which every further
+/// one is found at once.
 ///
 /// ```
 /// # fn main() -> Result<(), widrekas::Refusal> {
@@ -60,10 +65,10 @@ struct Names {
 ///     bytes.extend(format!("{card:80}").bytes());
 /// }
 /// let header = widrekas::Header::parse(&bytes)?;
-/// let kit = header.get("KIT").unwrap();
-/// assert_eq!(kit.value.as_str(), Some("FKM-75"));
-/// assert_eq!(kit.comment.unwrap(), " ring");
-/// assert_eq!(header.get("SIZE").unwrap().value, widrekas::Value::Integer(12));
+/// assert_eq!(header.get("KIT").unwrap().as_str(), Some("FKM-75"));
+/// assert_eq!(header.comment("KIT").unwrap(), " ring");
+/// assert_eq!(header.get("SIZE"), Some(widrekas::Value::Integer(12)));
+/// assert_eq!(header.comment("SIZE"), None);
 /// assert_eq!(header.get("size"), None);
 /// # Ok(())
 /// # }
@@ -126,16 +131,19 @@ impl Header {
         ReadOn::of(front_of(file))
     }
 
-    /// The entry of a name, joined; of equal names the last one's. Names are compared byte for byte.
-    pub fn get(&self, name: impl AsRef<[u8]>) -> Option<Entry> {
-        let name = name.as_ref();
-        if self.names.get().is_none() && self.asked.set(()).is_ok() {
-            return self.with_room(0, |text, comment, told| boundary::lookup(&self.cards, name, text, comment, told));
-        }
-        let Names { names, sorted } = self.names();
-        let name_of = |&place: &usize| names.get(place).map(Text::as_bytes);
-        let at = sorted.binary_search_by(|place| name_of(place).cmp(&Some(name))).ok()?;
-        self.entry_at(self.places.get(*sorted.get(at)?)?.last)
+    /// The value of a name, a string joined; of equal names the last one's. Names are compared byte for byte. No comment is read.
+    pub fn get(&self, name: impl AsRef<[u8]>) -> Option<Value> {
+        self.value_of(self.spot(name.as_ref())?)
+    }
+
+    /// The comment of a name, joined: none where it has none or where there is no such name. No value is read.
+    pub fn comment(&self, name: impl AsRef<[u8]>) -> Option<Text> {
+        self.comment_of(self.spot(name.as_ref())?)
+    }
+
+    /// The value of a name with its comment.
+    pub fn entry(&self, name: impl AsRef<[u8]>) -> Option<Entry> {
+        self.entry_of(self.spot(name.as_ref())?)
     }
 
     /// The names, in the order of their first cards.
@@ -207,27 +215,64 @@ impl Header {
         })
     }
 
-    /// The entry at a card's number, joined with the cards behind it; none where the card is no entry.
-    fn entry_at(&self, number: usize) -> Option<Entry> {
-        self.with_room(number, |text, comment, told| boundary::entry(&self.cards, number, text, comment, told))
+    /// Where the last entry of a name is read: the first name that is asked for is sought in the cards, every further one in the names.
+    fn spot<'a>(&self, name: &'a [u8]) -> Option<Spot<'a>> {
+        if self.names.get().is_none() && self.asked.set(()).is_ok() {
+            return Some(Spot::Name(name));
+        }
+        let Names { names, sorted } = self.names();
+        let name_of = |&place: &usize| names.get(place).map(Text::as_bytes);
+        let at = sorted.binary_search_by(|place| name_of(place).cmp(&Some(name))).ok()?;
+        Some(Spot::Card(self.places.get(*sorted.get(at)?)?.last))
     }
 
-    /// What a call lays into lent room; none where it is refused. The entry stands at a card's number or behind it.
-    ///
-    /// Nearly every text fits the room that is lent at first. A refusal for want of room does not say how much is wanted, so the
-    /// second call lends what the cards from there on can fill at most.
-    fn with_room(&self, number: usize, call: impl Fn(&mut [u8], &mut [u8], &mut Told) -> u8) -> Option<Entry> {
-        let mut told = Told::default();
-        let (mut text, mut comment) = ([0; USUAL], [0; USUAL]);
-        match call(&mut text, &mut comment, &mut told) {
-            0 => Some(read(&told, &text, &comment)),
+    /// The value that is read there; none where there is no entry. Nearly every text fits the room that is lent at first. Where it
+    /// does not, the answer says how much is wanted.
+    fn value_of(&self, spot: Spot) -> Option<Value> {
+        let call = |text: &mut [u8], told: &mut Told| match spot {
+            Spot::Name(name) => boundary::lookup_value(&self.cards, name, text, told),
+            Spot::Card(number) => boundary::entry_value(&self.cards, number, text, told),
+        };
+        let (mut text, mut told) = ([0; USUAL], Told::default());
+        match call(&mut text, &mut told) {
+            0 => Some(value_in(&told, &text)),
             BUFFER_SHORT => {
-                let room = ADDED * (self.cards.len() / CARD).saturating_sub(number);
-                let (mut text, mut comment) = (vec![0; room], vec![0; room]);
-                (call(&mut text, &mut comment, &mut told) == 0).then(|| read(&told, &text, &comment))
+                let [_, _, _, wanted, _] = told.out;
+                let mut text = vec![0; wanted];
+                (call(&mut text, &mut told) == 0).then(|| value_in(&told, &text))
             }
             _ => None,
         }
+    }
+
+    /// The comment that is read there; none where there is none.
+    fn comment_of(&self, spot: Spot) -> Option<Text> {
+        let call = |comment: &mut [u8], told: &mut Remark| match spot {
+            Spot::Name(name) => boundary::lookup_comment(&self.cards, name, comment, told),
+            Spot::Card(number) => boundary::entry_comment(&self.cards, number, comment, told),
+        };
+        let (mut comment, mut told) = ([0; USUAL], Remark::default());
+        match call(&mut comment, &mut told) {
+            0 => comment_in(&told, &comment),
+            BUFFER_SHORT => {
+                let mut comment = vec![0; told.length];
+                (call(&mut comment, &mut told) == 0).then(|| comment_in(&told, &comment)).flatten()
+            }
+            _ => None,
+        }
+    }
+
+    /// Both of them. A card's number is answered from that card alone, read once, unless it holds a string that ends in &: more may be
+    /// joined to that.
+    fn entry_of(&self, spot: Spot) -> Option<Entry> {
+        if let Spot::Card(number) = spot {
+            if let Ok(Card::Value { entry, .. } | Card::Hierarch { entry, .. }) = Card::read(self.card_at(number)?) {
+                if !entry.value.as_str().is_some_and(|text| text.ends_with('&')) {
+                    return Some(entry);
+                }
+            }
+        }
+        Some(Entry { value: self.value_of(spot)?, comment: self.comment_of(spot) })
     }
 }
 
@@ -243,7 +288,7 @@ impl<'a> Iterator for Entries<'a> {
 
     fn next(&mut self) -> Option<Self::Item> {
         let header = self.header;
-        self.left.find_map(|(name, place)| Some((name, header.entry_at(place.last)?)))
+        self.left.find_map(|(name, place)| Some((name, header.entry_of(Spot::Card(place.last))?)))
     }
 
     fn size_hint(&self) -> (usize, Option<usize>) {
@@ -284,14 +329,17 @@ impl fmt::Debug for Header {
     }
 }
 
-/// An entry of what was laid into lent memory.
-fn read(told: &Told, text: &[u8], comment: &[u8]) -> Entry {
-    let [_, kind, flag, commented, text_len, comment_len, digits_len] = told.out;
+/// The value that was laid into lent memory.
+fn value_in(told: &Told, text: &[u8]) -> Value {
+    let [_, kind, flag, text_len, digits_len] = told.out;
     let text = text.get(..text_len).unwrap_or_default();
-    let comment = comment.get(..comment_len).unwrap_or_default();
     let digits = told.digits.get(..digits_len).unwrap_or_default();
-    let value = Value::told(kind, flag == 1, told.number, digits, text);
-    Entry { value, comment: (commented == 1).then(|| Text::new(comment)) }
+    Value::told(kind, flag == 1, told.number, digits, text)
+}
+
+/// The comment that was laid into lent memory, if there is one.
+fn comment_in(told: &Remark, comment: &[u8]) -> Option<Text> {
+    (told.commented == 1).then(|| Text::new(comment.get(..told.length).unwrap_or_default()))
 }
 
 #[cfg(test)]

@@ -4,9 +4,9 @@
 //! gets a reading or one numbered [`Refusal`]. What is proved of the functions behind the C boundary stands in docs/PROMISES.md.
 //! This crate is not proved. It lends memory and takes the answers apart, and decides nothing of what a card says, which are joined
 //! in an answer or how they are written. [`ReadOn`] adds one rule: which names a refused card touches. [`Header::replaced`] adds
-//! another: which cards belong to a name.
+//! another: which cards belong to a name. [`Header::entry`] adds a third: nothing is joined to a value that is no string ending in &.
 //!
-//! - [`Header`]: the names of a header and the [`Entry`] of each, strings joined over CONTINUE cards.
+//! - [`Header`]: the names of a header, the [`Value`] of each, strings joined over CONTINUE cards, and its comment.
 //! - [`ReadOn`]: the same of a header with refused cards, where the names that they could touch are errors.
 //! - [`Card`]: one card of 80 bytes.
 //! - [`write()`]: the cards of a name and its value. [`Header::replaced`]: a header with another value of a name.
@@ -35,7 +35,7 @@ pub use text::Text;
 pub use value::{Entry, Value};
 pub use writing::write;
 
-/// The version of the C boundary, which is 2.
+/// The version of the C boundary, which is 3.
 pub fn version() -> u32 {
     widrekas_sys::version()
 }

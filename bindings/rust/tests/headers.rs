@@ -11,10 +11,10 @@ fn the_example_of_the_specification() {
     let lines: Vec<String> = header.entries().map(|(name, entry)| format!("{name} {}", entry.value)).collect();
     assert_eq!(lines, ["SIZE 12", "KIT FKM-75"]);
     assert_eq!((header.len(), header.is_empty()), (2, false));
-    let kit = header.get("KIT").unwrap();
+    let kit = header.entry("KIT").unwrap();
     assert_eq!(kit.value.as_str(), Some("FKM-75"));
     assert_eq!(kit.comment.unwrap(), " ring");
-    assert_eq!(header.get("SIZE").unwrap().comment, None);
+    assert_eq!(header.comment("SIZE"), None);
     let shown = format!("{header:?}");
     assert!(shown.starts_with('{') && shown.contains("\"KIT\": ") && shown.contains("\"FKM-75\""), "{shown}");
     assert!(common::header(&[]).is_empty());
@@ -46,7 +46,7 @@ fn numbers_at_the_edges() {
 
 #[test]
 fn strings_joined_at_the_edges() {
-    let kit = |cards: &[&str]| header(cards).get("KIT").unwrap().value;
+    let kit = |cards: &[&str]| header(cards).get("KIT").unwrap();
     assert_eq!(kit(&["KIT     = 'FKM-&'", "COMMENT", "CONTINUE  '75'"]).as_str(), Some("FKM-75"));
     assert_eq!(kit(&["KIT     = 'FKM &'", "CONTINUE  ''"]).as_str(), Some("FKM"));
     assert_eq!(kit(&["KIT     = 'FKM-&'", "SIZE    = 5", "CONTINUE  '75'"]).as_str(), Some("FKM-&"));
@@ -82,7 +82,7 @@ fn comments_and_units() {
     assert_eq!((unit("4.2E1 /"), unit("4.2E1")), (None, None));
     // Comments are joined by byte 10.
     let header = header(&["KIT     = 'a&' /[mm]", "CONTINUE  'b&'", "CONTINUE  'c' / d"]);
-    let kit = header.get("KIT").unwrap();
+    let kit = header.entry("KIT").unwrap();
     assert_eq!(kit.comment.as_ref().unwrap(), "[mm]\n d");
     assert_eq!(kit.unit().unwrap(), "mm");
 }
@@ -95,7 +95,7 @@ fn replaced_bytes_are_kept_as_127() {
             *byte = 9;
         }
     }
-    let entry = Header::parse(&bytes).unwrap().get("K").unwrap();
+    let entry = Header::parse(&bytes).unwrap().entry("K").unwrap();
     assert_eq!(entry.value.as_str(), Some("a\u{7f}b"));
     assert_eq!(entry.comment.unwrap().as_bytes(), b"c\x7fd");
 }
@@ -108,9 +108,9 @@ fn names_in_their_order() {
     assert_eq!(names, ["B", "ESO.DET", "A", "XTENSION"]);
     assert_eq!(header.keywords().len(), 4);
     // Of equal names the last entry counts.
-    assert_eq!(header.get("B").unwrap().value, Value::Integer(4));
-    assert_eq!(header.get(b"ESO.DET").unwrap().value, Value::Integer(2));
-    assert_eq!(header.get(String::from("XTENSION")).unwrap().value.as_str(), Some("IMAGE"));
+    assert_eq!(header.get("B").unwrap(), Value::Integer(4));
+    assert_eq!(header.get(b"ESO.DET").unwrap(), Value::Integer(2));
+    assert_eq!(header.get(String::from("XTENSION")).unwrap().as_str(), Some("IMAGE"));
     assert_eq!((header.get("ESO DET"), header.get("a"), header.get("")), (None, None, None));
 }
 
@@ -173,7 +173,7 @@ fn whole_files() {
     file.extend(vec![0xff; 3 * LONGEST + 17]);
     assert_eq!(Header::parse(&file).unwrap_err().reason(), Reason::HeaderLength);
     let header = Header::parse_file(&file).unwrap();
-    assert_eq!((header.get("SIZE").unwrap().value, header.as_bytes().len()), (Value::Integer(12), 160));
+    assert_eq!((header.get("SIZE").unwrap(), header.as_bytes().len()), (Value::Integer(12), 160));
     // What is left of a card at the end is cut off.
     assert_eq!(Header::parse_file(&file[..160 + 79]), Ok(header));
     assert_eq!(Header::parse_file(&file[..159]).map_err(told), Err(of_header(10, 1)));
@@ -249,13 +249,13 @@ fn the_longest_joined_string() {
         fronts.push(format!("CONTINUE  '{}&' /{}", "c".repeat(59), "d".repeat(6)));
     }
     let header = header(&fronts.iter().map(String::as_str).collect::<Vec<_>>());
-    let long = header.get("LONG").unwrap();
+    let long = header.entry("LONG").unwrap();
     assert_eq!(long.value.as_str(), Some(format!("{}{}&", "a".repeat(59), "c".repeat(59 * 718)).as_str()));
     assert_eq!(long.comment.unwrap(), *format!("bbbbbb{}", "\ndddddd".repeat(718)));
     // A long comment beside a short text, too.
     let mut fronts = vec!["LONG    = '&'".to_string()];
     fronts.extend((0..20).map(|_| format!("CONTINUE  '&' /{}", "e".repeat(64))));
-    let long = common::header(&fronts.iter().map(String::as_str).collect::<Vec<_>>()).get("LONG").unwrap();
+    let long = common::header(&fronts.iter().map(String::as_str).collect::<Vec<_>>()).entry("LONG").unwrap();
     assert_eq!(long.value.as_str(), Some("&"));
     assert_eq!(long.comment.unwrap().as_bytes().len(), 20 * 65 - 1);
 }
@@ -270,5 +270,37 @@ fn headers_go_between_threads() {
     assert!(one == other && one == one.clone() && one != header(&["KIT     = 'b'"]));
     let kit = std::thread::spawn(move || other.get("KIT")).join().unwrap();
     assert_eq!(kit, one.get("KIT"));
-    assert_eq!(widrekas::version(), 2);
+    assert_eq!(widrekas::version(), 3);
+}
+
+#[test]
+fn a_value_and_a_comment_are_read_apart() {
+    // Texts and comments longer than the room that is lent at first, neither in the other's way.
+    for (text, comment) in [(1, 30), (30, 1), (30, 30), (1, 1)] {
+        let card = |at: usize| {
+            let open = if at < 30 { "&" } else { "" };
+            let (text, remark) = (if at < text { "x".repeat(40) } else { String::new() }, "y".repeat(20));
+            let keyword = if at == 0 { "KIT     = " } else { "CONTINUE  " };
+            if at < comment {
+                format!("{keyword}'{text}{open}' /{remark}")
+            } else {
+                format!("{keyword}'{text}{open}'")
+            }
+        };
+        let fronts: Vec<String> = (0..=30).map(card).collect();
+        let fronts: Vec<&str> = fronts.iter().map(String::as_str).collect();
+        let remark = vec!["y".repeat(20); comment].join("\n");
+        for first in [true, false] {
+            let header = common::header(&fronts);
+            if !first {
+                assert_eq!(header.get("NONE"), None);
+            }
+            assert_eq!(header.get("KIT").unwrap().as_str(), Some(&*"x".repeat(40 * text)), "{text} {comment}");
+            assert_eq!(header.comment("KIT").unwrap(), *remark);
+            let entry = common::header(&fronts).entry("KIT").unwrap();
+            assert_eq!((Some(entry.value), entry.comment), (header.get("KIT"), header.comment("KIT")));
+        }
+    }
+    let header = header(&["A       = 5 /", "B       = 'b'"]);
+    assert_eq!((header.comment("A").as_deref(), header.comment("B"), header.comment("NONE")), (Some(""), None, None));
 }

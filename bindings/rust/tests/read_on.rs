@@ -17,7 +17,7 @@ fn read_on(fronts: &[&str]) -> ReadOn {
 
 /// What a name answers.
 fn get(read: &ReadOn, name: &str) -> Result<Option<Entry>, Told> {
-    read.get(name).map_err(told)
+    read.entry(name).map_err(told)
 }
 
 /// What the refusals tell.
@@ -27,12 +27,12 @@ fn refusals(read: &ReadOn) -> Vec<Told> {
 
 /// The text of a string, where the name answers.
 fn string(read: &ReadOn, name: &str) -> String {
-    read.get(name).unwrap().unwrap().value.as_str().unwrap().to_string()
+    read.get(name).unwrap().unwrap().as_str().unwrap().to_string()
 }
 
 /// The number of an integer, where the name answers.
 fn integer(read: &ReadOn, name: &str) -> i64 {
-    read.get(name).unwrap().unwrap().value.as_i64().unwrap()
+    read.get(name).unwrap().unwrap().as_i64().unwrap()
 }
 
 /// The names with what they answer, in the list's order.
@@ -50,7 +50,7 @@ fn a_kit_with_a_damaged_card_inside_is_an_error_and_no_other_kit() {
     assert_eq!((get(&read, "NONE"), refusals(&read)), (Ok(None), vec![at(3, 2, 10)]));
     // The header that is not damaged has the kit.
     let good = header(&["KIT     = 'FKM-&'", "CONTINUE  '75-&'", "CONTINUE  'A2'"]);
-    assert_eq!(good.get("KIT").unwrap().value.as_str(), Some("FKM-75-A2"));
+    assert_eq!(good.get("KIT").unwrap().as_str(), Some("FKM-75-A2"));
 }
 
 #[test]
@@ -68,7 +68,7 @@ fn names_before_between_and_behind_answer() {
         "HIERARCH E F = 7",
     ]);
     assert_eq!(string(&read, "A"), "before!");
-    assert_eq!(read.get("A").unwrap().unwrap().comment.unwrap(), " joined");
+    assert_eq!(read.comment("A").unwrap().unwrap(), " joined");
     assert_eq!((get(&read, "B"), get(&read, "C")), (Err(at(5, 4, 10)), Err(at(5, 4, 10))));
     assert_eq!((string(&read, "D"), get(&read, "C2")), ("behind".to_string(), Err(at(2, 8, 12))));
     assert_eq!(integer(&read, "E.F"), 7);
@@ -190,7 +190,7 @@ fn names_are_listed_by_their_first_cards_refused_ones_too() {
 fn a_header_without_refused_cards_answers_as_ever() {
     let fronts = ["A       = 1", "KIT     = 'FKM-&'", "CONTINUE  '75' / ring", "A       = 2"];
     let (read, good) = (read_on(&fronts), header(&fronts));
-    assert_eq!((read.refusals().len(), read.get("KIT"), read.get("B")), (0, Ok(good.get("KIT")), Ok(None)));
+    assert_eq!((read.refusals().len(), read.entry("KIT"), read.entry("B")), (0, Ok(good.entry("KIT")), Ok(None)));
     assert!(read.keywords().unwrap().eq(good.keywords()));
     assert!(read.entries().unwrap().eq(good.entries().map(|(name, entry)| (name, Ok(entry)))));
     assert!(read == read_on(&fronts) && read.clone() == read && read != read_on(&["A       = (1"]));
@@ -369,11 +369,11 @@ fn a_name_that_answers_answers_as_without_the_damage() {
         assert_eq!(numbers, refused);
         let touched = touched(&made, &refused);
         for name in NAMES.into_iter().chain(["NONE", "CONTINUE"]) {
-            let answer = read.get(name);
+            let answer = read.entry(name);
             assert_eq!(answer.is_err(), every || touched.contains(name), "{name}: {}", bytes.escape_ascii());
             match answer {
                 Ok(answer) => {
-                    assert_eq!(answer, good.get(name), "{name}: {}", bytes.escape_ascii());
+                    assert_eq!(answer, good.entry(name), "{name}: {}", bytes.escape_ascii());
                     right += usize::from(answer.is_some());
                     absent += usize::from(answer.is_none());
                     let joined = |entry: &Entry| matches!(&entry.value, Value::String(_));

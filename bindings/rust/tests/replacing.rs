@@ -25,7 +25,7 @@ fn with_end(fronts: &[&str]) -> Vec<u8> {
 
 /// The string of a name.
 fn string(header: &Header, name: &str) -> String {
-    header.get(name).unwrap().value.as_str().unwrap().to_string()
+    header.get(name).unwrap().as_str().unwrap().to_string()
 }
 
 #[test]
@@ -173,7 +173,7 @@ fn a_kit_is_replaced_by_one_that_is_nearly_the_same() {
         assert_eq!(changed.len(), bytes.len());
         let changed = Header::parse(&changed).unwrap();
         assert_eq!(string(&changed, "KIT"), new);
-        assert_eq!(changed.get("KIT").unwrap().comment.as_deref(), Some(" ring"));
+        assert_eq!(changed.comment("KIT").as_deref(), Some(" ring"));
         assert!(changed.keywords().eq(header.keywords()));
         for ((name, entry), before) in changed.entries().zip(header.entries()) {
             assert!(name == "KIT" || (name, entry) == before);
@@ -226,7 +226,7 @@ fn every_other_name_answers_as_before() {
             Ok(bytes) => {
                 let new = Header::parse(&bytes).unwrap();
                 assert_eq!((bytes.len(), new.as_bytes()), (header.as_bytes().len(), &bytes[..]));
-                let entry = new.get(name).unwrap();
+                let entry = new.entry(name).unwrap();
                 assert_eq!((&entry.value, entry.comment.as_deref()), (&value, comment));
                 assert!(new.keywords().eq(header.keywords()), "{fronts:?}");
                 for ((other, entry), before) in new.entries().zip(header.entries()) {

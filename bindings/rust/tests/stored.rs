@@ -72,7 +72,7 @@ fn lines(bytes: &[u8]) -> String {
         let reading = entry.value.to_string();
         let space = if reading.is_empty() { "" } else { " " };
         all += &format!("{name} {}{space}{reading}\n{}", letter(&entry.value), more(&entry));
-        assert_eq!(header.get(name), Some(entry));
+        assert_eq!((header.get(name).as_ref(), header.comment(name)), (Some(&entry.value), entry.comment));
     }
     all + &format!("{} keywords\n", header.len())
 }

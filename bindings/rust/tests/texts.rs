@@ -45,7 +45,7 @@ fn a_text_is_a_str() {
         (HashMap::from([(kit.clone(), 1)]).get("FKM-75"), BTreeMap::from([(kit, 2)]).get("FKM-75")),
         (Some(&1), Some(&2))
     );
-    let entry = header(&["KIT     = 'a' /[mm] ring"]).get("KIT").unwrap();
+    let entry = header(&["KIT     = 'a' /[mm] ring"]).entry("KIT").unwrap();
     assert_eq!((entry.comment.as_deref(), entry.unit().as_deref()), (Some("[mm] ring"), Some("mm")));
 }
 
@@ -55,7 +55,7 @@ fn control_characters_are_kept_and_escaped_where_asked() {
     let names: Vec<&str> = header.keywords().map(|name| name.as_str()).collect();
     assert_eq!(names, ["A\nKIT S", "B"]);
     assert_eq!(format!("{:?}", header.keywords().next().unwrap()), r#""A\nKIT S""#);
-    let Value::Invalid(text) = header.get("B").unwrap().value else { panic!("invalid") };
+    let Value::Invalid(text) = header.get("B").unwrap() else { panic!("invalid") };
     assert!(text.starts_with("what / \u{1b}[2J ") && format!("{text:?}").starts_with(r#""what / \x1b[2J "#));
 }
 

@@ -11,7 +11,7 @@ fn is_written<const N: usize>(value: impl Into<Value>, comment: Option<&str>, fr
     let value = value.into();
     let written = write("KIT", &value, comment).unwrap_or_else(|refusal| panic!("{value:?}: {refusal}"));
     assert_eq!(written.concat(), cards(&fronts), "{value:?}");
-    let entry = among(&written, 0).get("KIT").unwrap();
+    let entry = among(&written, 0).entry("KIT").unwrap();
     assert_eq!((&entry.value, entry.comment.as_deref()), (&value, comment));
 }
 
@@ -105,7 +105,7 @@ fn strings_over_one_card_and_several() {
         (62, card(&format!("CONTINUE  '{}&'", "'".repeat(40))), card(&format!("CONTINUE  '' /{comment}")))
     );
     assert!(written[1..60].iter().all(|one| *one == card(&format!("CONTINUE  '{}&'", "'".repeat(66)))));
-    assert_eq!(among(&written, 2).get("KIT").unwrap().value.as_str(), Some(&*quotes));
+    assert_eq!(among(&written, 2).get("KIT").unwrap().as_str(), Some(&*quotes));
 
     for odd in ["a ", "  ", "a&", "&", " &", "\n", "a\tb", "\u{7f}", "FKM \u{b0}C", "\0"] {
         is_refused(odd, None);
@@ -126,7 +126,7 @@ fn names() {
     for name in ["A", "0", "-", "_", "END1", "DATE-OBS", "COMMENTS", "ABCDEFGH"] {
         let written = write(name, &12.into(), None).unwrap();
         assert_eq!(written, [card(&format!("{name:8}=                   12"))]);
-        assert_eq!(among(&written, 1).get(name).unwrap().value, Value::Integer(12));
+        assert_eq!(among(&written, 1).get(name).unwrap(), Value::Integer(12));
     }
     for name in [
         "",
@@ -182,7 +182,7 @@ fn floats_become_the_shortest_decimal() {
         assert_eq!(decimal.is_nan(), float.is_nan());
         if float.is_finite() {
             assert_eq!(decimal.to_f64().to_bits(), float.to_bits());
-            let entry = among(&write("KIT", &float.into(), None).unwrap(), 1).get("KIT").unwrap();
+            let entry = among(&write("KIT", &float.into(), None).unwrap(), 1).entry("KIT").unwrap();
             assert_eq!(entry.value.as_f64().map(f64::to_bits), Some(float.to_bits()), "{float:e}");
         }
     }
@@ -249,9 +249,9 @@ fn what_is_written_at_random_reads_back() {
         match write("KIT", &value, comment) {
             Ok(all) => {
                 let header = among(&all, random.below(3));
-                let entry = header.get("KIT").unwrap();
+                let entry = header.entry("KIT").unwrap();
                 assert_eq!((&entry.value, entry.comment.as_deref()), (&value, comment));
-                assert_eq!(header.get("OTHER").unwrap().value, Value::Integer(5));
+                assert_eq!(header.get("OTHER").unwrap(), Value::Integer(5));
                 assert!((1..=62).contains(&all.len()));
                 written += 1;
             }

@@ -4,7 +4,7 @@ use super::{Header, KEYWORD};
 use crate::card::{self, Card};
 use crate::refusal::{Reason, Refusal};
 use crate::text::Text;
-use crate::value::Entry;
+use crate::value::{Entry, Value};
 use std::collections::{BTreeMap, BTreeSet};
 use std::fmt;
 use widrekas_sys::{self as boundary, Told, CARD};
@@ -33,7 +33,7 @@ use widrekas_sys::{self as boundary, Told, CARD};
 /// let read = Header::read_on(&file)?;
 /// let refusal = read.get("KIT").unwrap_err();
 /// assert_eq!((refusal.reason(), refusal.card(), refusal.column()), (Reason::StringNotClosed, Some(2), Some(10)));
-/// assert_eq!(read.get("SIZE")?.unwrap().value.as_i64(), Some(12));
+/// assert_eq!(read.get("SIZE")?.unwrap().as_i64(), Some(12));
 /// assert_eq!(read.get("NONE")?, None);
 /// # Ok(())
 /// # }
@@ -97,7 +97,7 @@ fn dotted(card: &[u8; CARD]) -> Keyword {
 /// Whether a refused card is met while the first of these cards, an entry, is joined. This is asked before there is a want of room, and of
 /// no more cards than stand between the two: what joining takes goes with their number.
 fn meets_refused(cards: &[u8]) -> bool {
-    matches!(boundary::entry(cards, 0, &mut [], &mut [], &mut Told::default()), 1..=8)
+    matches!(boundary::entry_value(cards, 0, &mut [], &mut Told::default()), 1..=8)
 }
 
 impl Touched {
@@ -161,14 +161,31 @@ impl ReadOn {
         Ok(ReadOn { blanked: Header::parse(&blanked)?, touched })
     }
 
-    /// The entry of a name, as [`Header::get`] gives it. An error is the refusal of the first card that touches the name, with that
-    /// card's number and column.
-    pub fn get(&self, name: impl AsRef<[u8]>) -> Result<Option<Entry>, Refusal> {
-        let name = name.as_ref();
+    /// The header in which a name is asked for; an error is the refusal of the first card that touches the name.
+    fn untouched(&self, name: &[u8]) -> Result<&Header, Refusal> {
         match self.touched.first(name) {
             Some(refusal) => Err(refusal),
-            None => Ok(self.blanked.get(name)),
+            None => Ok(&self.blanked),
         }
+    }
+
+    /// The value of a name, as [`Header::get`] gives it. An error is the refusal of the first card that touches the name, with that
+    /// card's number and column.
+    pub fn get(&self, name: impl AsRef<[u8]>) -> Result<Option<Value>, Refusal> {
+        let name = name.as_ref();
+        Ok(self.untouched(name)?.get(name))
+    }
+
+    /// The comment of a name, as [`Header::comment`] gives it; an error as for [`ReadOn::get`].
+    pub fn comment(&self, name: impl AsRef<[u8]>) -> Result<Option<Text>, Refusal> {
+        let name = name.as_ref();
+        Ok(self.untouched(name)?.comment(name))
+    }
+
+    /// The value of a name with its comment, as [`Header::entry`] gives them; an error as for [`ReadOn::get`].
+    pub fn entry(&self, name: impl AsRef<[u8]>) -> Result<Option<Entry>, Refusal> {
+        let name = name.as_ref();
+        Ok(self.untouched(name)?.entry(name))
     }
 
     /// The names, those of refused cards too, in the order of their first cards. An error where a name cannot be read, since the
@@ -188,7 +205,7 @@ impl ReadOn {
 
     /// The names with their entries or errors, in the same order; an error as for [`ReadOn::keywords`].
     pub fn entries(&self) -> Result<impl Iterator<Item = (&Text, Result<Entry, Refusal>)>, Refusal> {
-        Ok(self.keywords()?.filter_map(|name| Some((name, self.get(name).transpose()?))))
+        Ok(self.keywords()?.filter_map(|name| Some((name, self.entry(name).transpose()?))))
     }
 
     /// The number of the END card, as [`Header::end`].

@@ -119,7 +119,7 @@ pub(super) fn parts(header: &Header, name: &[u8]) -> Vec<Part> {
 /// Whether a header of these bytes answers a value and a comment.
 pub(super) fn answers(bytes: &[u8], name: &[u8], value: &Value, comment: Option<&str>) -> bool {
     let entry = Entry { value: value.clone(), comment: comment.map(Text::from) };
-    Header::parse(bytes).is_ok_and(|header| header.as_bytes() == bytes && header.get(name) == Some(entry))
+    Header::parse(bytes).is_ok_and(|header| header.as_bytes() == bytes && header.entry(name) == Some(entry))
 }
 
 impl Header {

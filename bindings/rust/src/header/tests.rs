@@ -48,13 +48,28 @@ fn some_cards(random: &mut Random, fewer: usize) -> Vec<u8> {
     (0..random.below(fewer)).flat_map(|_| padded(CARDS[random.below(CARDS.len())])).collect()
 }
 
-/// The boundary's lookup, with all the room there can be.
-fn looked_up(bytes: &[u8], name: &[u8]) -> Result<Entry, u8> {
-    let (mut text, mut comment, mut told) = (vec![0; 59_000], vec![0; 59_000], Told::default());
-    match boundary::lookup(bytes, name, &mut text, &mut comment, &mut told) {
-        0 => Ok(read(&told, &text, &comment)),
-        refused => Err(refused),
+/// The two halves that calls lay into all the room there can be, or the number of the refusal that both give.
+fn both(
+    value: impl Fn(&mut [u8], &mut Told) -> u8,
+    comment: impl Fn(&mut [u8], &mut Remark) -> u8,
+) -> Result<Entry, u8> {
+    let (mut text, mut remark, mut told, mut said) =
+        (vec![0; 59_000], vec![0; 59_000], Told::default(), Remark::default());
+    match (value(&mut text, &mut told), comment(&mut remark, &mut said)) {
+        (0, 0) => Ok(Entry { value: value_in(&told, &text), comment: comment_in(&said, &remark) }),
+        (refused, other) => {
+            assert_eq!(refused, other, "both halves refuse alike");
+            Err(refused)
+        }
     }
+}
+
+/// The boundary's lookup.
+fn looked_up(bytes: &[u8], name: &[u8]) -> Result<Entry, u8> {
+    both(
+        |text, told| boundary::lookup_value(bytes, name, text, told),
+        |comment, told| boundary::lookup_comment(bytes, name, comment, told),
+    )
 }
 
 #[test]
@@ -78,12 +93,14 @@ fn the_list_finds_what_a_lookup_finds() {
         for ((name, entry), listed) in header.entries().zip(&names) {
             assert_eq!(name, listed);
             assert_eq!(looked_up(&bytes, name.as_bytes()).as_ref(), Ok(&entry));
-            assert_eq!(header.get(name), Some(entry));
+            assert_eq!(header.get(name).as_ref(), Some(&entry.value));
+            assert_eq!(header.comment(name), entry.comment);
+            assert_eq!(header.entry(name), Some(entry));
         }
         for name in ["KIT", "SIZE", "A.B", "A&", "XTENSION", "CONTINUE", "END", "", "\u{1}\u{2}", "KI", "kit"] {
             let found = looked_up(&bytes, name.as_bytes());
             assert_eq!(found.as_ref().err(), header.get(name).is_none().then_some(&12));
-            assert_eq!(found.ok(), header.get(name));
+            assert_eq!(found.ok(), header.entry(name));
         }
     }
 }
@@ -95,12 +112,12 @@ fn nothing_behind_the_end_is_kept_or_looked_at() {
         let header = Header::parse(&bytes).unwrap();
         assert_eq!(header.as_bytes().len(), 2 * CARD);
         assert_eq!(header.cards().count(), 2);
-        assert_eq!(header.get("A").unwrap().value, Value::Integer(1));
+        assert_eq!(header.get("A").unwrap(), Value::Integer(1));
         assert_eq!(header.entries().count(), 1);
     }
     // A keyword that begins with END is no END.
     let bytes = [padded(b"END A   = 1"), padded(b"KIT     = 2"), padded(b"END")].concat();
-    assert_eq!(Header::parse(&bytes).unwrap().get("KIT").unwrap().value, Value::Integer(2));
+    assert_eq!(Header::parse(&bytes).unwrap().get("KIT").unwrap(), Value::Integer(2));
 }
 
 #[test]
@@ -109,7 +126,7 @@ fn a_name_is_found_the_same_at_the_first_call_and_later() {
         [padded(b"KIT     = 'FKM-&'"), padded(b"CONTINUE  '75'"), padded(b"SIZE    = 5"), padded(b"END")].concat();
     let header = Header::parse(&bytes).unwrap();
     for _ in 0..3 {
-        assert_eq!(header.get("KIT").unwrap().value.as_str(), Some("FKM-75"));
+        assert_eq!(header.get("KIT").unwrap().as_str(), Some("FKM-75"));
     }
     assert_eq!((header.get("NONE"), header.clone().get("NONE")), (None, None));
     let other = Header::parse(&bytes).unwrap();
@@ -164,9 +181,11 @@ fn name_at(bytes: &[u8], number: usize) -> Option<Vec<u8>> {
 
 /// The entry at a card, by the boundary.
 fn entry_at(bytes: &[u8], number: usize) -> Entry {
-    let (mut text, mut comment, mut told) = (vec![0; 3_000], vec![0; 3_000], Told::default());
-    assert_eq!(boundary::entry(bytes, number, &mut text, &mut comment, &mut told), 0);
-    read(&told, &text, &comment)
+    both(
+        |text, told| boundary::entry_value(bytes, number, text, told),
+        |comment, told| boundary::entry_comment(bytes, number, comment, told),
+    )
+    .unwrap()
 }
 
 /// The entry that a card belongs to, by the boundary alone: the card bears it, or its own comment shows up in it.

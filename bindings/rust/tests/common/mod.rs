@@ -26,7 +26,7 @@ pub fn header(fronts: &[&str]) -> Header {
 
 /// The entry of a card K with a text from byte 10 on.
 pub fn entry(text: &str) -> Entry {
-    header(&[&format!("K       = {text}")]).get("K").unwrap()
+    header(&[&format!("K       = {text}")]).entry("K").unwrap()
 }
 
 /// Its value.
