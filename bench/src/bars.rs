@@ -31,7 +31,7 @@ const PICTURES: [Picture; 2] = [
             ("lookups", "720 cards, bytes to a joined string", "720 cards, bytes to one string"),
             ("headers", "36 cards, list", "36 cards, list of names"),
             ("headers", "720 cards, list", "720 cards, list of names"),
-            ("headers", "720 cards, all entries", "720 cards, all entries"),
+            ("headers", "720 cards, all values", "720 cards, all values"),
             ("lookups", "720 cards, joined string of a read header", "720 cards, string of a read header"),
         ],
     ),

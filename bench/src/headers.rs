@@ -68,12 +68,16 @@ pub fn blocks(cards: &[String]) -> Vec<u8> {
 pub enum Work {
     /// From bytes to the list of names: ours is one call of the boundary.
     List,
-    /// From bytes to all entries, over the boundary.
+    /// From bytes to all values, over the boundary.
+    Values,
+    /// From bytes to all entries, values and comments, over the boundary.
     Entries,
     /// From bytes to all entries, by the Rust binding.
     Bound,
     /// From bytes to one joined string, over the boundary.
     FromBytes,
+    /// The same with its comment.
+    BothFromBytes,
     /// From bytes to one joined string, by the Rust binding.
     BoundFromBytes,
     /// The last name in a header that is read already, by the Rust binding.
@@ -178,6 +182,10 @@ impl Headers {
                 assert!(self.lent.list(black_box(&self.bytes)) == 0);
                 Said::Names(self.lent.told().2)
             }
+            Work::Values => {
+                assert!(self.lent.values(black_box(&self.bytes)) == 0);
+                Said::Names(self.lent.told().2)
+            }
             Work::Entries => {
                 assert!(self.lent.entries(black_box(&self.bytes)) == 0);
                 Said::Names(self.lent.told().2)
@@ -187,12 +195,17 @@ impl Headers {
                 assert!(self.lent.lookup(black_box(&self.bytes), JOINED) == 0);
                 Said::Text(self.lent.told().1.to_vec())
             }
+            Work::BothFromBytes => {
+                assert!(self.lent.lookup_both(black_box(&self.bytes), JOINED) == 0);
+                black_box(self.lent.comment());
+                Said::Text(self.lent.told().1.to_vec())
+            }
             Work::BoundFromBytes => {
                 let header = ours::header(black_box(&self.bytes));
-                Said::Text(ours::entry(&header, JOINED).value.to_string().into_bytes())
+                Said::Text(ours::value(&header, JOINED).to_string().into_bytes())
             }
-            Work::Last => Said::Number(ours::entry(black_box(&self.ours), LAST).value.as_i64().expect("an integer")),
-            Work::Joined => Said::Text(match ours::entry(black_box(&self.ours), JOINED).value {
+            Work::Last => Said::Number(ours::value(black_box(&self.ours), LAST).as_i64().expect("an integer")),
+            Work::Joined => Said::Text(match ours::value(black_box(&self.ours), JOINED) {
                 Value::String(text) => text.into_bytes(),
                 other => panic!("{other:?}"),
             }),
@@ -201,10 +214,10 @@ impl Headers {
 
     fn theirs(&mut self) -> Said {
         match self.work {
-            Work::List | Work::Entries | Work::Bound => {
+            Work::List | Work::Values | Work::Entries | Work::Bound => {
                 Said::Names(black_box(theirs::header(black_box(&self.bytes))).keywords().len())
             }
-            Work::FromBytes | Work::BoundFromBytes => {
+            Work::FromBytes | Work::BothFromBytes | Work::BoundFromBytes => {
                 Said::Text(text(theirs::value(&theirs::header(black_box(&self.bytes)), JOINED)))
             }
             Work::Last => Said::Number(integer(theirs::value(black_box(&self.theirs), LAST))),
@@ -214,8 +227,10 @@ impl Headers {
 
     fn cfitsio(&mut self) -> Said {
         match self.work {
-            Work::List | Work::Entries | Work::Bound => Said::Names(Opened::new(black_box(&self.bytes)).cards()),
-            Work::FromBytes | Work::BoundFromBytes => {
+            Work::List | Work::Values | Work::Entries | Work::Bound => {
+                Said::Names(Opened::new(black_box(&self.bytes)).cards())
+            }
+            Work::FromBytes | Work::BothFromBytes | Work::BoundFromBytes => {
                 Said::Text(Opened::new(black_box(&self.bytes)).string(&self.joined))
             }
             Work::Last => Said::Number(self.opened.integer(&self.last)),
@@ -288,8 +303,9 @@ pub fn specs() -> Vec<Spec> {
     for cards in [36, 200, 720] {
         let of = |what: &str| format!("{cards} cards, {what}");
         specs.push(spec("headers", of("list"), "card", Work::List, cards, 3));
-        specs.push(spec("headers", of("all entries"), "card", Work::Entries, cards, 3));
-        specs.push(spec("headers", of("all entries, Rust binding"), "card", Work::Bound, cards, 3));
+        specs.push(spec("headers", of("all values"), "card", Work::Values, cards, 3));
+        specs.push(spec("headers", of("all values and comments"), "card", Work::Entries, cards, 3));
+        specs.push(spec("headers", of("all values and comments, Rust binding"), "card", Work::Bound, cards, 3));
         specs.push(spec("lookups", of("bytes to a joined string"), "call", Work::FromBytes, cards, 3));
         specs.push(spec(
             "lookups",
@@ -307,6 +323,7 @@ pub fn specs() -> Vec<Spec> {
     }
     for more in [1, 10, 100, 700] {
         specs.push(spec("continued", format!("{more}"), "CONTINUE card", Work::FromBytes, more + 12, more));
+        specs.push(spec("commented", format!("{more}"), "CONTINUE card", Work::BothFromBytes, more + 12, more));
     }
     specs
 }

@@ -61,7 +61,7 @@ fn measure(short: bool) {
 
 /// The jobs whose instructions are counted, each with its sides; of a short run the first of each group.
 fn jobs(short: bool) {
-    for group in ["rows", "headers", "lookups", writing::GROUP, worst::GROUP] {
+    for group in ["rows", "headers", "lookups", "continued", "commented", writing::GROUP, worst::GROUP] {
         let specs = specs(COUNTED).into_iter().filter(|spec| spec.group == group);
         for spec in specs.take(if short { 1 } else { usize::MAX }) {
             let sides: Vec<&str> = (spec.make)().sides().iter().map(|side| side.name()).collect();

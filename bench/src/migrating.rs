@@ -34,7 +34,7 @@ fn headers() {
     let new = Header::parse_file(&bytes).expect("the header");
 
     let kit: Option<&Value> = old.get("KIT");
-    let entry = new.get("KIT");
+    let entry = new.entry("KIT");
     assert_eq!(kit.and_then(string), entry.as_ref().and_then(|e| e.value.as_str()));
     assert_eq!(kit.and_then(Value::unit), entry.as_ref().and_then(|e| e.unit()).as_deref());
     let comment = match kit {
@@ -44,20 +44,20 @@ fn headers() {
     assert_eq!(comment, entry.as_ref().and_then(|e| e.comment.as_deref()));
 
     let number: Result<i64, _> = old.get_parsed("BITPIX");
-    assert_eq!(number.ok(), new.get("BITPIX").and_then(|e| e.value.as_i64()));
+    assert_eq!(number.ok(), new.get("BITPIX").and_then(|value| value.as_i64()));
     let depth: Result<f64, _> = old.get_parsed("DEPTH");
-    assert_eq!(depth.ok(), new.get("DEPTH").and_then(|e| e.value.as_f64()));
+    assert_eq!(depth.ok(), new.get("DEPTH").and_then(|value| value.as_f64()));
     let cooled: Result<bool, _> = old.get_parsed("COOLED");
-    assert_eq!(cooled.ok(), new.get("COOLED").and_then(|e| e.value.as_bool()));
+    assert_eq!(cooled.ok(), new.get("COOLED").and_then(|value| value.as_bool()));
     let kit: Result<String, _> = old.get_parsed("KIT");
-    assert_eq!(kit.ok(), new.get("KIT").and_then(|e| e.value.as_str().map(String::from)));
+    assert_eq!(kit.ok(), new.get("KIT").and_then(|value| value.as_str().map(String::from)));
     let none: Result<Option<i64>, _> = old.get_parsed("NONE");
-    assert_eq!(none, Ok(new.get("NONE").and_then(|e| e.value.as_i64())));
+    assert_eq!(none, Ok(new.get("NONE").and_then(|value| value.as_i64())));
     let empty: Result<Option<i64>, _> = old.get_parsed("EMPTY");
-    assert_eq!(empty, Ok(new.get("EMPTY").and_then(|e| e.value.as_i64())));
+    assert_eq!(empty, Ok(new.get("EMPTY").and_then(|value| value.as_i64())));
     // get_parsed gives an invalid text as a string, as_str does not.
     let odd: Result<String, _> = old.get_parsed("ODD");
-    let text = match new.get("ODD").map(|e| e.value) {
+    let text = match new.get("ODD") {
         Some(widrekas::Value::String(text) | widrekas::Value::Invalid(text)) => Some(String::from(text)),
         _ => None,
     };
@@ -135,7 +135,7 @@ fn refused_cards() {
     for touched in ["KIT", "WCS", "NOTE", "TEMP"] {
         assert!(new.get(touched).is_err(), "{touched}");
     }
-    let entry = |name: &str| new.get(name).expect("a name that nothing touches");
+    let entry = |name: &str| new.entry(name).expect("a name that nothing touches");
     assert_eq!(entry("SIZE").and_then(|e| e.value.as_i64()), old.get_parsed("SIZE").ok());
     assert_eq!(entry("SEAL").as_ref().and_then(|e| e.value.as_str()), old.get("SEAL").and_then(string));
     assert_eq!((entry("NONE"), old.get("NONE").is_none()), (None, true));
@@ -151,7 +151,7 @@ fn refused_cards() {
 
 /// The bytes of a header's data, as the guide finds them.
 fn data_length(header: &Header) -> Option<usize> {
-    let number = |name: &str| header.get(name).and_then(|entry| entry.value.as_i64());
+    let number = |name: &str| header.get(name).and_then(|value| value.as_i64());
     let size = |name: &str| usize::try_from(number(name)?).ok();
     let bytes = usize::try_from(number("BITPIX")?.unsigned_abs() / 8).ok()?;
     let axes = size("NAXIS")?;

@@ -1,7 +1,7 @@
 //! Our boundary, called as it is, and the binding.
 
-use widrekas::{Entry, Header};
-use widrekas_sys::{self as boundary, Asked, Told, PLACES};
+use widrekas::{Header, Value};
+use widrekas_sys::{self as boundary, Asked, Remark, Told, PLACES};
 
 /// Room for any text.
 const ROOM: usize = 58_320;
@@ -20,12 +20,14 @@ pub struct Lent {
     text: Vec<u8>,
     comment: Vec<u8>,
     told: Told,
+    said: Remark,
 }
 
 impl Lent {
     pub fn new() -> Self {
         let (text, comment) = (vec![0; ROOM], vec![0; ROOM]);
-        Lent { first: [0; PLACES], last: [0; PLACES], count: 0, column: 0, text, comment, told: Told::default() }
+        let (told, said) = (Told::default(), Remark::default());
+        Lent { first: [0; PLACES], last: [0; PLACES], count: 0, column: 0, text, comment, told, said }
     }
 
     /// Lists a header.
@@ -33,33 +35,47 @@ impl Lent {
         boundary::list(header, &mut self.first, &mut self.last, &mut self.count, &mut self.column)
     }
 
-    /// Lists a header and reads all its entries.
-    pub fn entries(&mut self, header: &[u8]) -> u8 {
+    /// Lists a header and reads all its values.
+    pub fn values(&mut self, header: &[u8]) -> u8 {
         let mut answer = self.list(header);
         for &last in self.last.iter().take(self.count) {
-            answer |= boundary::entry(header, last, &mut self.text, &mut self.comment, &mut self.told);
+            answer |= boundary::entry_value(header, last, &mut self.text, &mut self.told);
         }
         answer
     }
 
-    /// Looks a name up.
+    /// Lists a header and reads all its entries, both halves of each.
+    pub fn entries(&mut self, header: &[u8]) -> u8 {
+        let mut answer = self.values(header);
+        for &last in self.last.iter().take(self.count) {
+            answer |= boundary::entry_comment(header, last, &mut self.comment, &mut self.said);
+        }
+        answer
+    }
+
+    /// Looks a name's value up.
     pub fn lookup(&mut self, header: &[u8], name: &str) -> u8 {
-        boundary::lookup(header, name.as_bytes(), &mut self.text, &mut self.comment, &mut self.told)
+        boundary::lookup_value(header, name.as_bytes(), &mut self.text, &mut self.told)
+    }
+
+    /// Looks both halves up.
+    pub fn lookup_both(&mut self, header: &[u8], name: &str) -> u8 {
+        self.lookup(header, name) | boundary::lookup_comment(header, name.as_bytes(), &mut self.comment, &mut self.said)
     }
 
     /// The minus and the digits of the decimal that was read last; its power is the integer.
     pub fn decimal(&self) -> (bool, &[u8]) {
-        (self.told.out[2] != 0, &self.told.digits[..self.told.out[6]])
+        (self.told.out[2] != 0, &self.told.digits[..self.told.out[4]])
     }
 
     /// The comment that was read last.
     pub fn comment(&self) -> &[u8] {
-        &self.comment[..self.told.out[5]]
+        &self.comment[..self.said.length]
     }
 
     /// The integer and the text that were read last, and how many names the list has.
     pub fn told(&self) -> (i64, &[u8], usize) {
-        (self.told.number, &self.text[..self.told.out[4]], self.count)
+        (self.told.number, &self.text[..self.told.out[3]], self.count)
     }
 }
 
@@ -78,7 +94,7 @@ pub fn header(bytes: &[u8]) -> Header {
     Header::parse(bytes).expect("our reading of a header")
 }
 
-/// An entry through the binding.
-pub fn entry(header: &Header, name: &str) -> Entry {
-    header.get(name).expect("our entry")
+/// A value through the binding.
+pub fn value(header: &Header, name: &str) -> Value {
+    header.get(name).expect("our value")
 }

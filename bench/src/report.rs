@@ -137,11 +137,15 @@ fn aims(text: &mut String, figures: &Figures) -> std::fmt::Result {
     writeln!(
         text,
         "Aimed at: noise decoded no slower than by fitsrs at every width; the slowest median is {}. A header of 720 cards read in half of fitsrs'\n\
-         time: a lookup, which tests every card, takes {} of it, the list of all names {}, and all entries {}.\n",
+         time: a lookup, which tests every card, takes {} of it, the list of all names {}, all values {}, and all values and comments {}.\n\
+         A string over 100 and 700 CONTINUE cards out of a header's bytes no slower than by fitsrs: {} and {} of its time.\n",
         shown(slowest),
         of("lookups", "720 cards, bytes to a joined string"),
         of("headers", "720 cards, list"),
-        of("headers", "720 cards, all entries"),
+        of("headers", "720 cards, all values"),
+        of("headers", "720 cards, all values and comments"),
+        of("continued", "100"),
+        of("continued", "700"),
     )
 }
 
@@ -174,7 +178,10 @@ fn ratios(text: &mut String, figures: &Figures, group: &str) -> std::fmt::Result
 
 fn growth(text: &mut String, figures: &Figures, group: &str, what: &str) -> std::fmt::Result {
     let unit = figures.of(group).next().map_or("", |row| row.unit.as_str());
-    writeln!(text, "| {what} | ours, ns a {unit} | fitsrs | CFITSIO |\n|---|---|---|---|")?;
+    writeln!(
+        text,
+        "| {what} | ours, ns a {unit} | fitsrs | CFITSIO | ours / fitsrs | ours / CFITSIO |\n|---|---|---|---|---|---|"
+    )?;
     for row in figures.of(group) {
         let size =
             row.name
@@ -182,7 +189,8 @@ fn growth(text: &mut String, figures: &Figures, group: &str, what: &str) -> std:
                 .map_or(row.name.clone(), |size: f64| if size < 1000.0 { row.name.clone() } else { counted(size) });
         let [a, b, c] =
             ["ours", "fitsrs", "cfitsio"].map(|side| row.times.get(side).map_or("-".into(), |t| counted(*t)));
-        writeln!(text, "| {size} | {a} | {b} | {c} |")?;
+        let [d, e] = ["fitsrs", "cfitsio"].map(|side| ratio(Some(row), side));
+        writeln!(text, "| {size} | {a} | {b} | {c} | {d} | {e} |")?;
     }
     writeln!(text)
 }
@@ -194,7 +202,8 @@ fn worst_cases(text: &mut String, figures: &Figures) -> std::fmt::Result {
         "## Worst cases\n\n\
          Inputs that are made to be slow, below an ordinary one of their kind. The first two columns are what ours takes over what ours takes on\n\
          the ordinary input, in time (of the medians) and in instructions. Every header has 720 cards, of which CFITSIO wants the first three.\n\
-         Open strings: every card is `'&'`. One string: over 716 cards, each full. Refused cards: every one has a complex value. Names that\n\
+         Open strings: every card is `'&'`. One string: over 716 cards, each full; one string of comments: each has `'&'` and a comment of 60\n\
+         bytes. Doubled quotes: every card is a string with one near its end. Refused cards: every one has a complex value. Names that\n\
          are slow to tell apart are made by `bench/slow_names.py`. One name is a string out of the bytes. Read on is `Header::read_on`, for fitsrs\n\
          its file reader with undefined cards, for CFITSIO the list. Write is a string of 2,000 bytes;\n\
          CFITSIO's `fits_update_key_longstr` does not return on the quotes. Tiles are rows of 4,096.\n"
@@ -227,7 +236,12 @@ fn instructions(text: &mut String, figures: &Figures) -> std::fmt::Result {
     for row in figures.rows.iter().filter(|row| !row.counts.is_empty() && row.group != worst::GROUP) {
         let [a, b, c] =
             ["ours", "fitsrs", "cfitsio"].map(|side| row.counts.get(side).map_or("-".into(), |n| counted(*n)));
-        writeln!(text, "| {} | {} | {a} | {b} | {c} |", row.name, row.unit)?;
+        let job = match row.group.as_str() {
+            "continued" => format!("a string over {} CONTINUE cards", row.name),
+            "commented" => format!("the same over {}, with its comment", row.name),
+            _ => row.name.clone(),
+        };
+        writeln!(text, "| {job} | {} | {a} | {b} | {c} |", row.unit)?;
     }
     if let Some(program) = figures.facts.get("cards") {
         let program: f64 = program.parse().unwrap_or(0.0);
@@ -267,8 +281,9 @@ fn text(figures: &Figures) -> Result<String, std::fmt::Error> {
     writeln!(
         all,
         "## Headers\n\n\
-         From bytes in memory. Ours: `widrekas_list`, which tests every card and lists the names; then the same with every entry read by\n\
-         `widrekas_entry`; then the crate `widrekas`, which also copies every name, text and comment. fitsrs: `Card::try_from` for each card and\n\
+         From bytes in memory. Ours: `widrekas_list`, which tests every card and lists the names; then the same with every value read by\n\
+         `widrekas_entry_value`; then with every comment too, by `widrekas_entry_comment`, which reads the entry's cards again; then the crate\n\
+         `widrekas`, which also copies every name, text and comment. fitsrs: `Card::try_from` for each card and\n\
          `Header::parse`, after which all values are there. CFITSIO: the bytes opened as a file (`fits_open_memfile`), every card's name, value\n\
          text and comment (`fits_read_keyn`), closed; its values are not converted.\n"
     )?;
@@ -276,7 +291,7 @@ fn text(figures: &Figures) -> Result<String, std::fmt::Error> {
     writeln!(
         all,
         "## Lookups\n\n\
-         The job of the picking list first: from bytes to one string over four cards. Ours: `widrekas_lookup`, one call; or the crate's\n\
+         The job of the picking list first: from bytes to one string over four cards. Ours: `widrekas_lookup_value`; or the crate's\n\
          `Header::parse` and `get`. fitsrs: read whole, then `get`. CFITSIO: opened, `fits_read_key_longstr`, closed. Then one name of a header\n\
          that is read (or opened) already: ours reads the entry from the cards, fitsrs finds it in a table, CFITSIO searches the cards.\n"
     )?;
@@ -292,8 +307,14 @@ fn text(figures: &Figures) -> Result<String, std::fmt::Error> {
     ratios(all, figures, writing::GROUP)?;
     writeln!(all, "## Growth\n\nA header listed (fitsrs: read whole; CFITSIO: as above), by its cards:\n")?;
     growth(all, figures, "cards", "Cards")?;
-    writeln!(all, "One string out of a header's bytes, by its CONTINUE cards, beside 11 other cards and END:\n")?;
+    writeln!(
+        all,
+        "One string out of a header's bytes, by its CONTINUE cards, each with a comment, beside 11 other cards and END. Ours: the text\n\
+         alone (`widrekas_lookup_value`). fitsrs and CFITSIO: text and comment.\n"
+    )?;
     growth(all, figures, "continued", "CONTINUE cards")?;
+    writeln!(all, "The same with the comment, by `widrekas_lookup_comment` in a second call:\n")?;
+    growth(all, figures, "commented", "CONTINUE cards")?;
     writeln!(all, "A tile of 16-bit noise, by its pixels:\n")?;
     growth(all, figures, "pixels", "Pixels")?;
     worst_cases(all, figures)?;

@@ -43,6 +43,19 @@ fn one_string() -> Vec<u8> {
     })
 }
 
+/// One string over all cards, which have little text and much comment.
+fn one_commented() -> Vec<u8> {
+    filled(|at| match at {
+        0 => format!("{JOINED:8}= 'a&' /{}", "c".repeat(60)),
+        _ => format!("CONTINUE  '{}' /{}", if at + 1 < MIDDLE { "&" } else { "b" }, "d".repeat(60)),
+    })
+}
+
+/// Every card is a string with a doubled quote near its end, so that it is scanned byte by byte after all.
+fn doubled_quotes() -> Vec<u8> {
+    filled(|at| format!("K{at:03}    = '{}''b'", "a".repeat(64)))
+}
+
 /// Every card is refused.
 fn refused() -> Vec<u8> {
     filled(|at| format!("K{at:03}    = (1.0, 2.0)"))
@@ -122,17 +135,25 @@ pub fn specs(rows: usize) -> Vec<Spec> {
     };
     push("list", "an ordinary header", Work::List, ordinary());
     push("list", "open strings", Work::List, open_strings());
+    push("list", "doubled quotes", Work::List, doubled_quotes());
     for (input, bytes) in slow_names() {
         push("list", &input, Work::List, bytes);
     }
-    for (kind, work) in [("all entries", Work::Entries), ("all entries, Rust binding", Work::Bound)] {
+    for (kind, work) in
+        [("all values and comments", Work::Entries), ("all values and comments, Rust binding", Work::Bound)]
+    {
         push(kind, "an ordinary header", work, ordinary());
         push(kind, "open strings", work, open_strings());
         push(kind, "one string", work, one_string());
     }
-    for (kind, work) in [("one name", Work::FromBytes), ("one name, Rust binding", Work::BoundFromBytes)] {
+    for (kind, work) in [
+        ("one name", Work::FromBytes),
+        ("one name and its comment", Work::BothFromBytes),
+        ("one name, Rust binding", Work::BoundFromBytes),
+    ] {
         push(kind, "an ordinary header", work, ordinary());
         push(kind, "one string", work, one_string());
+        push(kind, "one string of comments", work, one_commented());
     }
     specs.push(read_on("an ordinary header", ordinary));
     specs.push(read_on("refused cards", refused));

@@ -121,7 +121,7 @@ impl Job for Writing {
     fn check(&mut self) {
         let mut header = self.block[..self.count * 80].to_vec();
         header.extend(format!("{:80}", "END").bytes());
-        assert!(self.lent.lookup(&header, NAME) == 0, "our reading of what was written");
+        assert!(self.lent.lookup_both(&header, NAME) == 0, "our reading of what was written");
         let (number, text, _) = self.lent.told();
         let same = match &self.value {
             Value::Integer(asked) => number == *asked,

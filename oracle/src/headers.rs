@@ -300,7 +300,6 @@ impl Standing {
         }
         let named = expected.entry.as_ref().map_or(&[][..], |entry| &entry.name);
         let entry = lent.entry(header.as_flattened(), ours::Asked::Card(at), named);
-        lent.clear(0, 0);
         Standing { entry, name: ours::name(header.as_flattened(), at) }
     }
 }

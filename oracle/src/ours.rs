@@ -2,7 +2,7 @@
 
 use crate::reading::{Card, Decimal, Entry, Header, Refusal, Tile, Value};
 
-use widrekas_sys::{self as boundary, Stepping, Told, CARD, DIGITS, NUMBERS, PLACES, RECORD};
+use widrekas_sys::{self as boundary, Remark, Stepping, Told, CARD, DIGITS, NUMBERS, PLACES, RECORD};
 
 /// Where the texts of a card's record stand.
 const NAME: usize = 8;
@@ -85,11 +85,11 @@ fn check_lent_lengths() {
     }
     for (a, b) in [(DIGITS - 1, NUMBERS), (DIGITS, NUMBERS - 1)] {
         let (n, c) = (&mut number, &mut column);
-        // SAFETY: as above; the comment is lent with no byte.
-        answers.push(unsafe { boundary::raw::widrekas_entry(head, 80, 0, t, 0, t, 0, d, a, f, b, n, c) });
+        // SAFETY: as above.
+        answers.push(unsafe { boundary::raw::widrekas_entry_value(head, 80, 0, t, 0, d, a, f, b, n, c) });
         let (n, c) = (&mut number, &mut column);
         // SAFETY: as above; the name is the card's first byte, which is only read.
-        answers.push(unsafe { boundary::raw::widrekas_lookup(head, 80, head, 1, t, 0, t, 0, d, a, f, b, n, c) });
+        answers.push(unsafe { boundary::raw::widrekas_lookup_value(head, 80, head, 1, t, 0, d, a, f, b, n, c) });
     }
     assert!(answers == [255; 6], "slices of other lengths: {answers:?}");
     assert!((number, count, column) == (-1, LEFT, LEFT), "255 touches a lent number");
@@ -135,14 +135,16 @@ pub fn card(card: &[u8; 80]) -> Card {
     }
 }
 
-/// Lent memory for an entry. Its lengths are those that are lent, up to what the buffers have.
+/// Lent memory for the two halves of an entry. Its lengths are those that are lent, up to what the buffers have.
 pub struct Lent {
     text: Vec<u8>,
     comment: Vec<u8>,
     told: Told,
+    said: Remark,
 }
 
 /// What a name or a card's number is asked by.
+#[derive(Clone, Copy)]
 pub enum Asked<'a> {
     Name(&'a [u8]),
     Card(usize),
@@ -151,83 +153,126 @@ pub enum Asked<'a> {
 /// What is lent where nothing says how long a text is: no text is as long.
 const ROOM: usize = 58_400;
 
+/// Whether nothing beyond n bytes was written, as far as is looked.
+fn untouched(bytes: &[u8], n: usize) -> bool {
+    bytes[n..].iter().take(200).all(|&b| b == BEFORE)
+}
+
 impl Lent {
     pub fn new() -> Self {
         let told = Told { digits: [BEFORE; DIGITS], out: [LEFT; NUMBERS], number: -1, column: LEFT };
-        Lent { text: vec![BEFORE; ROOM], comment: vec![BEFORE; ROOM], told }
+        let said = Remark { commented: LEFT, length: LEFT, card: LEFT, column: LEFT };
+        Lent { text: vec![BEFORE; ROOM], comment: vec![BEFORE; ROOM], told, said }
     }
 
-    fn ask(&mut self, header: &[u8], asked: &Asked, text: usize, comment: usize) -> u8 {
-        let (t, c) = (&mut self.text[..text], &mut self.comment[..comment]);
+    fn ask_value(&mut self, header: &[u8], asked: Asked, room: usize) -> u8 {
+        let text = &mut self.text[..room];
         match asked {
-            Asked::Name(name) => boundary::lookup(header, name, t, c, &mut self.told),
-            Asked::Card(card) => boundary::entry(header, *card, t, c, &mut self.told),
+            Asked::Name(name) => boundary::lookup_value(header, name, text, &mut self.told),
+            Asked::Card(card) => boundary::entry_value(header, card, text, &mut self.told),
         }
     }
 
-    /// The entry that is asked for, or the refusal with what it tells beside it. Buffers that are just as long as the texts are
-    /// lent; one byte less is refused.
+    fn ask_comment(&mut self, header: &[u8], asked: Asked, room: usize) -> u8 {
+        let comment = &mut self.comment[..room];
+        match asked {
+            Asked::Name(name) => boundary::lookup_comment(header, name, comment, &mut self.said),
+            Asked::Card(card) => boundary::entry_comment(header, card, comment, &mut self.said),
+        }
+    }
+
+    /// The entry that is asked for, its two halves put together, or the refusal that both give, with what it tells beside it.
     pub fn entry(&mut self, header: &[u8], asked: Asked, name: &[u8]) -> Result<Entry, Refusal> {
-        self.told.out = [LEFT; NUMBERS];
-        (self.told.number, self.told.column) = (-1, LEFT);
-        let refused = self.ask(header, &asked, ROOM, ROOM);
+        let (value, comment) = (self.value(header, asked), self.comment(header, asked));
+        match (value, comment) {
+            (Ok(value), Ok(comment)) => Ok(Entry { name: name.to_vec(), value, unit: unit(&comment), comment }),
+            (Err(one), Err(other)) => {
+                assert!(one == other, "the halves refuse by {one:?} and by {other:?}");
+                Err(one)
+            }
+            (value, comment) => panic!("one half is refused: {value:?}, {comment:?}"),
+        }
+    }
+
+    /// The value's half. A buffer that is just as long as the text is lent; one byte less is refused, and the room wanted is told.
+    fn value(&mut self, header: &[u8], asked: Asked) -> Result<Value, Refusal> {
+        self.told = Told { digits: [BEFORE; DIGITS], out: [LEFT; NUMBERS], number: -1, column: LEFT };
+        let refused = self.ask_value(header, asked, ROOM);
         let column = column_of(refused, self.told.column);
         if refused != 0 {
-            assert!(
-                self.told.number == -1 && self.told.out[1..] == [LEFT; NUMBERS - 1],
-                "a refusal touches lent memory"
-            );
-            assert!(self.untouched(0, 0) && self.told.digits == [BEFORE; DIGITS], "a refusal touches lent memory");
-            let card = self.told.out[0];
+            let [card, one, two, wanted, four] = self.told.out;
+            assert!((one, two, four, self.told.number) == (LEFT, LEFT, LEFT, -1), "a refusal touches lent memory");
+            assert!(wanted == if refused == 12 { 0 } else { LEFT }, "a refusal wants {wanted} bytes");
+            assert!(untouched(&self.text, 0) && self.told.digits == [BEFORE; DIGITS], "a refusal touches lent memory");
             return Err(Refusal { number: refused, card: (card != LEFT).then_some(card), column });
         }
-        let [zero, kind, flag, commented, text, comment, digits] = self.told.out;
-        assert!(zero == 0 && self.untouched(text, comment), "bytes beyond a length are touched");
+        let [zero, kind, flag, text, digits] = self.told.out;
+        assert!(zero == 0 && untouched(&self.text, text), "bytes beyond a length are touched");
         let held = self.text[..text].to_vec();
-        let remark = self.comment[..comment].to_vec();
         let places = self.told.digits[..digits].to_vec();
         assert!(self.told.digits[digits..].iter().all(|&b| b == 0), "digits");
+        assert!(kind == 2 || places.is_empty(), "digits where there is no decimal");
+        assert!(kind == 6 || kind == 8 || text == 0, "a text where there is none");
+        self.text[..text].fill(BEFORE);
+        let kept = (self.told.out, self.told.number);
+        assert!(self.ask_value(header, asked, text) == 0, "room that is enough");
+        assert!((self.told.out, self.told.number) == kept, "another answer with less room");
+        assert!(self.text[..text] == held[..], "another text with less room");
+        self.text[..text].fill(BEFORE);
+        for room in [text.saturating_sub(1), 0] {
+            if text > 0 {
+                self.told.out = [LEFT; NUMBERS];
+                assert!(self.ask_value(header, asked, room) == 13, "room that is too little");
+                assert!(self.told.out == [LEFT, LEFT, LEFT, text, LEFT], "13 does not tell the room that is wanted");
+            }
+        }
+        assert!(untouched(&self.text, 0) && self.told.number == kept.1, "a refusal touches lent memory");
+        assert!(self.told.column == LEFT, "0 or 13 touches the column");
         let flag = flag == 1;
-        let value = match kind {
-            1 => Value::Integer(self.told.number),
-            2 => Value::Decimal(Decimal::finite(flag, places.clone(), self.told.number)),
+        Ok(match kind {
+            1 => Value::Integer(kept.1),
+            2 => Value::Decimal(Decimal::finite(flag, places, kept.1)),
             3 => Value::Decimal(Decimal::special(flag, true)),
             4 => Value::Decimal(Decimal::special(flag, false)),
             5 => Value::Logical(flag),
             6 => Value::Text(held),
             7 => Value::Undefined,
             _ => Value::Invalid(held),
-        };
-        assert!(kind == 2 || places.is_empty(), "digits where there is no decimal");
-        assert!(kind == 6 || kind == 8 || text == 0, "a text where there is none");
-        assert!(commented == 1 || comment == 0, "a comment where there is none");
-        self.clear(text, comment);
-        let kept = (self.told.out, self.told.number);
-        assert!(self.ask(header, &asked, text, comment) == 0, "room that is enough");
-        assert!((self.told.out, self.told.number) == kept, "another answer with less room");
-        assert!(self.comment[..comment] == remark[..], "another comment with less room");
-        self.clear(text, comment);
-        if text > 0 {
-            assert!(self.ask(header, &asked, text - 1, comment) == 13, "room that is too little");
-        }
-        if comment > 0 {
-            assert!(self.ask(header, &asked, text, comment - 1) == 13, "room that is too little");
-        }
-        assert!(self.untouched(0, 0) && (self.told.out, self.told.number) == kept, "a refusal touches lent memory");
-        assert!(self.told.column == LEFT, "0 or 13 touches the column");
-        let comment = (commented == 1).then_some(remark);
-        Ok(Entry { name: name.to_vec(), value, unit: unit(&comment), comment })
+        })
     }
 
-    fn untouched(&self, text: usize, comment: usize) -> bool {
-        let far = |s: &[u8], n: usize| s[n..].iter().take(200).all(|&b| b == BEFORE);
-        far(&self.text, text) && far(&self.comment, comment)
-    }
-
-    pub fn clear(&mut self, text: usize, comment: usize) {
-        self.text[..text].fill(BEFORE);
-        self.comment[..comment].fill(BEFORE);
-        self.told.digits = [BEFORE; DIGITS];
+    /// The comment's half, with buffers as for the value's.
+    fn comment(&mut self, header: &[u8], asked: Asked) -> Result<Option<Vec<u8>>, Refusal> {
+        self.said = Remark { commented: LEFT, length: LEFT, card: LEFT, column: LEFT };
+        let refused = self.ask_comment(header, asked, ROOM);
+        let column = column_of(refused, self.said.column);
+        let Remark { commented, length, card, .. } = self.said;
+        if refused != 0 {
+            assert!(commented == LEFT && untouched(&self.comment, 0), "a refusal touches lent memory");
+            assert!(length == if refused == 12 { 0 } else { LEFT }, "a refusal wants {length} bytes");
+            return Err(Refusal { number: refused, card: (card != LEFT).then_some(card), column });
+        }
+        assert!(card == LEFT && untouched(&self.comment, length), "bytes beyond a length are touched");
+        assert!(commented == 1 || (commented, length) == (0, 0), "a comment where there is none");
+        let remark = self.comment[..length].to_vec();
+        self.comment[..length].fill(BEFORE);
+        assert!(self.ask_comment(header, asked, length) == 0, "room that is enough");
+        assert!((self.said.commented, self.said.length) == (commented, length), "another answer with less room");
+        assert!(self.comment[..length] == remark[..], "another comment with less room");
+        self.comment[..length].fill(BEFORE);
+        for room in [length.saturating_sub(1), 0] {
+            if length > 0 {
+                (self.said.commented, self.said.length) = (LEFT, LEFT);
+                assert!(self.ask_comment(header, asked, room) == 13, "room that is too little");
+                assert!(
+                    (self.said.commented, self.said.length) == (LEFT, length),
+                    "13 does not tell the room that is wanted"
+                );
+            }
+        }
+        assert!(untouched(&self.comment, 0), "a refusal touches lent memory");
+        assert!((self.said.card, self.said.column) == (LEFT, LEFT), "0 or 13 touches the card or the column");
+        Ok((commented == 1).then_some(remark))
     }
 }
 
@@ -302,10 +347,8 @@ pub fn header(cards: &[[u8; 80]]) -> Header {
         let name = card_name(first[at]);
         assert!(name == card_name(last[at]), "the last entry has another name");
         let entry = lent.entry(bytes, Asked::Card(last[at]), &name).expect("an entry of the list");
-        lent.clear(0, 0);
         if cards.len() < FEW || at % 16 == 0 {
             let found = lent.entry(bytes, Asked::Name(&name), &name).expect("a name of the list");
-            lent.clear(0, 0);
             assert!(found == entry, "lookup finds {found:?}, the list has {entry:?}");
         }
         entries.push(entry);

@@ -2,7 +2,7 @@
 //!
 //! written make SEED COUNT FOLDER    COUNT values in headers, FOLDER/0000.fits and so on, each beside FOLDER/0000.asked
 //! written write ASKED FILE          the values of ASKED as a header
-//! written read ASKED FILE           what `widrekas_lookup` answers for the names of ASKED, in the form of ASKED
+//! written read ASKED FILE           what `widrekas_lookup_value` and `_comment` answer for the names of ASKED, in the form of ASKED
 //!
 //! ASKED has a line for each value: its name, its kind, the value and the comment, with tabs between. Texts are in hexadecimal. A comment
 //! is `-` if it is absent, and otherwise begins with `=`. What is asked comes from the generator alone.
@@ -17,7 +17,7 @@ use std::fmt::Write;
 use std::fs;
 use std::path::Path;
 use std::process::ExitCode;
-use widrekas_sys::{self as boundary, Told};
+use widrekas_sys::{self as boundary, Remark, Told};
 
 /// The kinds as the boundary numbers them.
 const INTEGER: usize = 1;
@@ -379,9 +379,14 @@ fn read(asked: &str, header: &str) -> Option<String> {
     let header = fs::read(header).ok()?;
     let (mut text, mut comment, mut lines) = (vec![0; ROOM], vec![0; ROOM], String::new());
     for asked in asked_of(asked)? {
-        let mut told = Told::default();
-        let answer = boundary::lookup(&header, asked.name.as_bytes(), &mut text, &mut comment, &mut told);
-        let [_, kind, flag, commented, text_length, comment_length, digits] = told.out;
+        let (mut told, mut said, name) = (Told::default(), Remark::default(), asked.name.as_bytes());
+        let answer = boundary::lookup_value(&header, name, &mut text, &mut told).max(boundary::lookup_comment(
+            &header,
+            name,
+            &mut comment,
+            &mut said,
+        ));
+        let [_, kind, flag, text_length, digits] = told.out;
         let value = match (answer, kind) {
             (0, INTEGER) => Value::Integer(told.number),
             (0, LOGICAL) => Value::Logical(flag != 0),
@@ -395,7 +400,7 @@ fn read(asked: &str, header: &str) -> Option<String> {
                 continue;
             }
         };
-        let comment = (commented != 0).then(|| comment[..comment_length].to_vec());
+        let comment = (said.commented != 0).then(|| comment[..said.length].to_vec());
         lines += &Asked { name: asked.name, value, comment }.line();
     }
     Some(lines)
