@@ -272,10 +272,10 @@ uint8_t widrekas_lookup_comment(const uint8_t *header, size_t header_length, con
 /*
  * Writes the cards of a name and its value at the front of block, 80 bytes each, one behind the other.
  *
- * The value has the form in which widrekas_lookup_value gives it back: kind is one of enum widrekas_kind; number is the integer or a decimal's
- * power of ten; flag is a logical's truth or a decimal's minus; text is a string's text or a decimal's digits. What a kind does not have
- * is not looked at. commented says whether there is a comment, which may be empty; without one, comment is not looked at. flag and
- * commented are false where they are 0, and any other number is true.
+ * The value has the form in which widrekas_lookup_value gives it back: kind is one of enum widrekas_kind; number is the integer or a
+ * decimal's power of ten; flag is a logical's truth or a decimal's minus; text is a string's text or a decimal's digits. What a kind does
+ * not have is not looked at. commented says whether there is a comment, which may be empty; without one, comment is not looked at. flag
+ * and commented are false where they are 0, and any other number is true.
  *
  * 0: *count is the number of cards, 1 to 62, and what follows them in block stays. The first card bears the name, the others are
  * CONTINUE cards of a string; the last has the comment, directly behind the slash. In an accepted header where these cards stand in order

@@ -40,11 +40,12 @@ module _ {s : List ℕ} {q : Quoting} {i : ℕ} (P : Passed s q i) where
     passed all r e =
         let b = getD s i 0 in
         let rest = scanFrom r (drop (i + 1) s) (i + 1) in
+        let longer : take (i + 1) s ≡ take i s ++ b ∷ [] = ap (λ (k : ℕ). take k s) (add-one i) ∙ take-suc s i 0 more in
         let stays : shown b ≡ b = rw (printable-at s i more all) in
         record {
           within = omega arith;
           left =
-              ap (λ (v : List ℕ). record { place = rest .place; value = v ++ rest .value }) (ap (λ (k : ℕ). take k s) (add-one i) ∙ take-suc s i 0 more)
+              ap (λ (v : List ℕ). record { place = rest .place; value = v ++ rest .value }) longer
               ∙ ap (λ (v : List ℕ). record { place = rest .place; value = v }) (append-assoc (take i s) (b ∷ []) (rest .value))
               ∙ ap (λ (x : ℕ). putBefore (take i s) (putBefore (x ∷ []) rest)) (sym stays)
               ∙ ap (putBefore (take i s)) (sym (moved s q i more (puts r) e))

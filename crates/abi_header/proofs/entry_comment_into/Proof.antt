@@ -18,7 +18,8 @@ returns : tie.Need-returns
 returns c =
     let got = c .before .before .before .before .before .before .before in
     let a = got .before .before .before .before .args in
-    commented (commentNumbered (a .header .now) (a .number)) _ _ _ _ _ (c .write-comment .result) (got .comment-at .ensures) (c .write-comment .ensures)
+    let read = commentNumbered (a .header .now) (a .number) in
+    commented read _ _ _ _ _ (c .write-comment .result) (got .comment-at .ensures) (c .write-comment .ensures)
 
 pub entry-comment-into-spec : {M : Type 1} → statement M
 entry-comment-into-spec =

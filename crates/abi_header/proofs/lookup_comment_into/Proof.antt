@@ -18,7 +18,8 @@ returns : tie.Need-returns
 returns c =
     let got = c .before .before .before .before .before .before .before in
     let a = got .before .before .before .before .before .args in
-    commented (commentNamed (a .header .now) (a .name .now)) _ _ _ _ _ (c .write-comment .result) (got .lookup-comment .ensures) (c .write-comment .ensures)
+    let read = commentNamed (a .header .now) (a .name .now) in
+    commented read _ _ _ _ _ (c .write-comment .result) (got .lookup-comment .ensures) (c .write-comment .ensures)
 
 pub lookup-comment-into-spec : {M : Type 1} → statement M
 lookup-comment-into-spec =

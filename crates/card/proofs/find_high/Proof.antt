@@ -1,7 +1,8 @@
 -- `card::find_high` meets its contract: what stands from i on decides for the whole.
-use Prim.Native.Nat.{_-_, _≤_}
+use Prim.Native.Nat.{ℕ, _-_, _≤_}
 use native.Mathlib.Omega.{arith}
 use mathlib.Core.Path.{_≡_, sym, _∙_}
+use mathlib.Core.List.{List}
 use lib.ListN.{length, drop}
 use borrow.Author.Needs.{needs}
 use Rattle.card.specs.Columns.{highFrom}
@@ -14,6 +15,10 @@ Inv-loop s i₀ i = (i ≤ length s) × (highFrom (drop i s) i ≡ highFrom s 0)
 
 abbrev μ-loop : tie.MeasureT-loop
 μ-loop s i₀ i = length s - i
+
+-- the text that is searched
+abbrev text : tie.At-loop Inv-loop μ-loop → List ℕ
+text c = c .before .before .before .before .args .s .now
 
 are-printable-requires : tie.Need-are-printable-requires Inv-loop μ-loop
 are-printable-requires c κs = search needs
@@ -31,7 +36,7 @@ returns-2 : tie.Need-returns-2 Inv-loop μ-loop
 returns-2 c =
     let test = c .before .before in
     let loop = test .before .loop in
-    high-here (test .before .before .before .before .before .args .s .now) (loop .i) (test .loop-test .taken) (c .if2 .taken) ∙ loop .inv .1
+    high-here (text (test .before)) (loop .i) (test .loop-test .taken) (c .if2 .taken) ∙ loop .inv .1
 
 add-i : tie.Need-add-i Inv-loop μ-loop
 add-i c = search needs
@@ -43,10 +48,10 @@ loop-again : tie.Need-loop-again Inv-loop μ-loop
 loop-again c =
     let test = c .before .before in
     let loop = test .before .loop in
-    (omega arith, high-later (test .before .before .before .before .before .args .s .now) (loop .i) (test .loop-test .taken) (c .if2 .left) ∙ loop .inv .1)
+    (omega arith, high-later (text (test .before)) (loop .i) (test .loop-test .taken) (c .if2 .left) ∙ loop .inv .1)
 
 returns-3 : tie.Need-returns-3 Inv-loop μ-loop
-returns-3 c = high-none (c .before .before .before .before .before .args .s .now) (c .before .loop .i) (c .loop-test .left) ∙ c .before .loop .inv .1
+returns-3 c = high-none (text (c .before)) (c .before .loop .i) (c .loop-test .left) ∙ c .before .loop .inv .1
 
 pub find-high-spec : {M : Type 1} → statement M
 find-high-spec =

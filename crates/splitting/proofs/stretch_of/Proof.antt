@@ -43,7 +43,8 @@ looked c = c .before .before .before
 opened : (c : tie.Then3 Inv-bytes μ-bytes) → let at = looked c .before in Passed (text at) Inside (at .bytes .i + 1)
 opened c =
     let test = looked c in
-    passed (test .before .bytes .inv) (test .bytes-test .taken) (all (test .before)) Inside (ap (move Outside) (class-quote (c .if3 .taken)))
+    let at = test .before in
+    passed (at .bytes .inv) (test .bytes-test .taken) (all at) Inside (ap (move Outside) (class-quote (c .if3 .taken)))
 
 -- and behind the quote that closes it another byte stands
 abbrev found : tie.Else4 Inv-bytes μ-bytes → tie.At-bytes Inv-bytes μ-bytes
