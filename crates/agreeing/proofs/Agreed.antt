@@ -1,8 +1,10 @@
 -- The list of a header's names agrees with lookup: the cards are walked up to END with any table that is sound, and for each name
--- the last entry that the table gives changes with each card just as the place of `lastFrom` does.
+-- the last entry that the table gives changes with each card just as the place of `lastFrom` does, and how many bear it as `timesBorne`
+-- counts.
 use Prim.Native.Nat.{ℕ, zero, suc, _<_}
+use native.Mathlib.Nat.{zero-add}
 use native.Mathlib.Omega.{arith}
-use mathlib.Core.Path.{_≡_, refl, sym, ap, ap₂, subst, _∙_}
+use mathlib.Core.Path.{_≡_, refl, sym, ap, subst, _∙_}
 use mathlib.Core.Bool.{Bool, true, false, cond}
 use mathlib.Core.List.{List, [], _∷_, map}
 use mathlib.Core.Option.{Option, none, some}
@@ -24,24 +26,26 @@ use Rattle.entries.specs.Halves.{heldIn, soughtIn, named, numberedFrom, numbere
 use Rattle.entries.proofs.Looking.{accepted-good, last-found, last-read}
 use Rattle.listing.specs.declared.Listing.{Listing}
 use Rattle.listing.specs.Listing.{places, free, Table, empty, nameOf, placeIn, tabled, byHeader, listOf}
-use Rattle.agreeing.specs.Firsts.{isAmong, firstsOf, numberAt, lastNumber, lastsOf}
+use Rattle.agreeing.specs.Firsts.{isAmong, firstsOf, numberAt, lastNumber, lastsOf, timesBorne, timesOf}
 use Rattle.agreeing.specs.Agreeing.{Contents, ByLast, StandsAt, StandsIn, EachTaken, Once, FoundIn}
 use Rattle.agreeing.specs.Agreeing.{EachStanding, EachFound}
-use Rattle.agreeing.proofs.Places.{lastAt, nameNo, placeOfName, lastInTable, hit-under, hit-named}
+use Rattle.agreeing.specs.Times.{sumOf}
+use Rattle.agreeing.proofs.Places.{lastAt, timesAt, nameNo, placeOfName, lastInTable, timesInTable, hit-under, hit-named}
+use Rattle.agreeing.proofs.Counting.{entriesIn}
 use Rattle.agreeing.proofs.Tables.{EntryNo, Sound, Seen, Comes, comes}
 use Rattle.agreeing.proofs.Ending.{until-end}
 
 sound-empty : (roles : List Role) → Sound roles empty
-sound-empty roles = record { alike = refl; own = λ k p. absurd (omega arith); entries = λ k p. absurd (omega arith) }
+sound-empty roles = record { alike = refl; counted = refl; own = λ k p. absurd (omega arith); entries = λ k p. absurd (omega arith) }
 
 seen-empty : (roles : List Role) → Seen roles [] empty
 unfolding isAmong placeIn
 seen-empty roles = record { names = λ name. refl }
 
-map-at : (f : ℕ → ℕ) (l : List ℕ) (k d : ℕ) → k < length l → getD (map f l) k d ≡ f (getD l k d)
-map-at f [] k d p = absurd (omega arith)
-map-at f (x ∷ l) zero d p = refl
-map-at f (x ∷ l) (suc k) d p = map-at f l k d (omega arith)
+map-at : (f : ℕ → ℕ) (l : List ℕ) (k d e : ℕ) → k < length l → getD (map f l) k d ≡ f (getD l k e)
+map-at f [] k d e p = absurd (omega arith)
+map-at f (x ∷ l) zero d e p = refl
+map-at f (x ∷ l) (suc k) d e p = map-at f l k d e (omega arith)
 
 filled-at : (mark n : ℕ) (l : List ℕ) (k d : ℕ) → k < length l → getD (filled mark n l) k d ≡ getD l k d
 unfolding filled
@@ -97,26 +101,55 @@ module _ (h : List ℕ) (end : ℕ) (a : headerOf h ≡ Accepted end) where
   last-at : (k : ℕ) → k < length (table .first) → At (getD (table .last) k free) ≡ lastOf (nameNo roles (first-card k)) roles
   last-at k p = sym (ap (λ (q : Place). lastAt q (table .last)) (built .sound .own k p)) ∙ last-is (nameNo roles (first-card k))
 
+  -- how many bear a name, by its place in the table
+  bear-is : (name : List ℕ) → timesInTable roles table name ≡ timesBorne name roles
+  unfolding placeIn
+  bear-is name = built .bear name ∙ zero-add (timesBorne name roles)
+
+  times-at : (k : ℕ) → k < length (table .first) → getD (table .times) k 0 ≡ timesBorne (nameNo roles (first-card k)) roles
+  times-at k p = sym (ap (λ (q : Place). timesAt q (table .times)) (built .sound .own k p)) ∙ bear-is (nameNo roles (first-card k))
+
+  -- a list that has a number for the first card of each place
+  by-firsts : (l : List ℕ) (d : ℕ) (f : ℕ → ℕ) → length l ≡ length (table .first)
+      → ((k : ℕ) → k < length (table .first) → getD l k d ≡ f (first-card k)) → l ≡ map f (firstsOf roles)
+  by-firsts l d f alike at =
+      let long : length l ≡ length (map f (table .first)) = alike ∙ sym (length-map (table .first) f) in
+      ext-getD d l (map f (table .first)) long
+      (λ k p.
+      let q : k < length (table .first) = omega (arith, alike, p) in
+      at k q ∙ sym (map-at f (table .first) k d free q))
+      ∙ ap (map f) firsts-are
+
   lasts-are : table .last ≡ lastsOf roles
   lasts-are =
-      let f : ℕ → ℕ = λ (i : ℕ). lastNumber roles (nameOf (getD roles i neutral)) in
-      let long : length (table .last) ≡ length (map f (table .first)) = built .sound .alike ∙ sym (length-map (table .first) f) in
-      ext-getD free (table .last) (map f (table .first)) long
-      (λ k p.
-      let q : k < length (table .first) = omega (arith, built .sound .alike, p) in
-      ap numberAt (last-at k q) ∙ sym (map-at f (table .first) k free q))
-      ∙ ap (map f) firsts-are
+      by-firsts (table .last) free (λ (i : ℕ). lastNumber roles (nameOf (getD roles i neutral))) (built .sound .alike)
+      (λ k p. ap numberAt (last-at k p))
+
+  times-are : table .times ≡ timesOf roles
+  times-are =
+      by-firsts (table .times) 0 (λ (i : ℕ). timesBorne (nameOf (getD roles i neutral)) roles) (built .sound .counted) times-at
+
+  -- together as many as there are entries
+  pub times-sum : sumOf (timesOf roles) ≡ entriesIn roles
+  unfolding sumOf
+  times-sum = ap sumOf (sym times-are) ∙ built .sum ∙ zero-add (entriesIn roles)
 
   count-is : listOf h .count ≡ length (table .first)
   count-is = ap (λ (x : Listing). x .count) list-is
 
+  -- what stands in an array of the list at a place of the table
+  array-at : (part : Listing → List ℕ) (mark : ℕ) (l : List ℕ) → part (tabled (Accepted end) table) ≡ filled mark places l
+      → length l ≡ length (table .first) → (k d : ℕ) → k < length (table .first) → getD (part (listOf h)) k d ≡ getD l k d
+  array-at part mark l e alike k d p =
+      ap (λ (x : Listing). getD (part x) k d) list-is
+      ∙ ap (λ (x : List ℕ). getD x k d) e
+      ∙ filled-at mark places l k d (omega (arith, alike, p))
+
   first-in : (k : ℕ) → k < length (table .first) → getD (listOf h .first) k free ≡ first-card k
-  first-in k p = ap (λ (x : Listing). getD (x .first) k free) list-is ∙ filled-at free places (table .first) k free p
+  first-in k p = array-at (λ (x : Listing). x .first) free (table .first) refl refl k free p
 
   last-in : (k : ℕ) → k < length (table .first) → getD (listOf h .last) k free ≡ getD (table .last) k free
-  last-in k p =
-      ap (λ (x : Listing). getD (x .last) k free) list-is
-      ∙ filled-at free places (table .last) k free (omega (arith, built .sound .alike, p))
+  last-in k p = array-at (λ (x : Listing). x .last) free (table .last) refl (built .sound .alike) k free p
 
   -- a name that stands at a place has it in the table, and the other way round
   under : (name : List ℕ) (k : ℕ) → StandsAt h name k → k < length (table .first)
@@ -171,6 +204,13 @@ module _ (h : List ℕ) (end : ℕ) (a : headerOf h ≡ Accepted end) where
       ∙ ap heldIn (sym (lookup-by name (At k) (place-of name k s)))
       ∙ sym (by-cards name)
 
+  -- and the number there is how many bear the name
+  pub bear-at : (name : List ℕ) (k : ℕ) → StandsAt h name k → getD (listOf h .times) k 0 ≡ timesBorne name roles
+  bear-at name k s =
+      array-at (λ (x : Listing). x .times) 0 (table .times) refl (built .sound .counted) k 0 (under name k s)
+      ∙ sym (ap (λ (q : Place). timesAt q (table .times)) (place-of name k s))
+      ∙ bear-is name
+
   found-or : (name : List ℕ) (o : Option Held) → lookup name roles ≡ o → StandsIn h name → FoundIn h name
   found-or name (some v) e s = record { held = v; is = e }
   found-or name none e s =
@@ -196,7 +236,8 @@ by-last name roles = sym (last-found name roles)
 pub contents : Contents
 contents h end a =
     list-is h end a
-    ∙ ap₂ (λ (f l : List ℕ). tabled (Accepted end) (record { first = f; last = l })) (firsts-are h end a) (lasts-are h end a)
+    ∙ (λ j. tabled (Accepted end)
+    (record { first = firsts-are h end a j; last = lasts-are h end a j; times = times-are h end a j }))
 
 pub each-taken : EachTaken
 each-taken h end a k p =

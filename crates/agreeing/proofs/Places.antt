@@ -12,12 +12,24 @@ use Rattle.text.specs.declared.Place.the-variants.{At, Nowhere}
 use Rattle.text.specs.Same.{same}
 use Rattle.text.proofs.Comparing.{same-self, same-eq}
 use Rattle.roles.specs.Roles.{Role, neutral}
-use Rattle.listing.specs.Listing.{free, Table, nameOf, placeIn, putAgain, putNew}
+use Rattle.listing.specs.Listing.{free, Table, nameOf, placeIn}
+
+-- the number that a list has at a place; d is what it has behind its end
+abbrev pub readAt : ℕ → Place → List ℕ → Place
+readAt d (At k) l = At (getD l k d)
+readAt d Nowhere l = Nowhere
 
 -- the last entry at a place
 abbrev pub lastAt : Place → List ℕ → Place
-lastAt (At k) l = At (getD l k free)
-lastAt Nowhere l = Nowhere
+lastAt p l = readAt free p l
+
+-- how many bear the name of a place: no card where there is none
+abbrev pub countIn : Place → ℕ
+countIn (At n) = n
+countIn Nowhere = 0
+
+abbrev pub timesAt : Place → List ℕ → ℕ
+timesAt p l = countIn (readAt 0 p l)
 
 abbrev pub isPlace : Place → Bool
 isPlace (At k) = true
@@ -36,12 +48,15 @@ module _ (roles : List Role) where
   abbrev pub nameNo : ℕ → List ℕ
   nameNo i = nameOf (getD roles i neutral)
 
-  -- a name's place among the first cards, and its last entry
+  -- a name's place among the first cards, its last entry, and how many bear it
   abbrev pub placeOfName : List ℕ → List ℕ → Place
   placeOfName l name = placeIn roles name l 0
 
   abbrev pub lastInTable : Table → List ℕ → Place
   lastInTable t name = lastAt (placeOfName (t .first) name) (t .last)
+
+  abbrev pub timesInTable : Table → List ℕ → ℕ
+  timesInTable t name = timesAt (placeOfName (t .first) name) (t .times)
 
   -- a place that was found, counted from k on
   pub record Hit (name l : List ℕ) (k j : ℕ) : Type 0 where
@@ -92,45 +107,62 @@ module _ (roles : List Role) where
       place-more name l i 0
       ∙ ap₂ (λ (m : List ℕ) (x : ℕ). orPlace (placeOfName l name) (ifNamed (same m name) x)) e (zero-add (length l))
 
-  module _ (t : Table) (alike : length (t .last) ≡ length (t .first)) (n : List ℕ) (i : ℕ) where
+  -- a list with a number for each of the first cards
+  module _ (firsts l : List ℕ) (alike : length l ≡ length firsts) (d : ℕ) (n : List ℕ) (x : ℕ) where
     -- two names of one place are one
-    one-name : (k : ℕ) (name : List ℕ) → placeOfName (t .first) n ≡ At k → placeOfName (t .first) name ≡ At k → n ≡ name
-    one-name k name e f = sym (hit-named n (t .first) k e) ∙ hit-named name (t .first) k f
+    one-name : (k : ℕ) (name : List ℕ) → placeOfName firsts n ≡ At k → placeOfName firsts name ≡ At k → n ≡ name
+    one-name k name e f = sym (hit-named n firsts k e) ∙ hit-named name firsts k f
 
-    -- a known name: its last entry is card i then
-    pub last-known : (k : ℕ) → placeOfName (t .first) n ≡ At k
-        → (name : List ℕ) → lastInTable (putAgain t k i) name ≡ cond (same n name) (At i) (lastInTable t name)
-    last-known k e name = go (same n name) refl
+    -- a known name: its number is x then
+    pub read-known : (k : ℕ) → placeOfName firsts n ≡ At k
+        → (name : List ℕ) → let p = placeOfName firsts name in readAt d p (set l k x) ≡ cond (same n name) (At x) (readAt d p l)
+    read-known k e name = go (same n name) refl
       where
-        other : same n name ≡ false → (p : Place) → placeOfName (t .first) name ≡ p → lastAt p (set (t .last) k i) ≡ lastAt p (t .last)
-        other d (At j) f =
-            let apart : j ≡ k → ⊥ = λ z. true≢false (sym (same-self n) ∙ ap (same n) (one-name k name e (f ∙ ap At z)) ∙ d) in
-            ap At (getD-set-other (t .last) k j i free apart)
-        other d Nowhere f = refl
+        other : same n name ≡ false → (p : Place) → placeOfName firsts name ≡ p → readAt d p (set l k x) ≡ readAt d p l
+        other a (At j) f =
+            let apart : j ≡ k → ⊥ = λ z. true≢false (sym (same-self n) ∙ ap (same n) (one-name k name e (f ∙ ap At z)) ∙ a) in
+            ap At (getD-set-other l k j x d apart)
+        other a Nowhere f = refl
 
-        go : (b : Bool) → same n name ≡ b → lastInTable (putAgain t k i) name ≡ cond b (At i) (lastInTable t name)
-        go true d =
-            let here : placeOfName (t .first) name ≡ At k = ap (placeOfName (t .first)) (sym (same-eq n name d)) ∙ e in
-            ap (λ (p : Place). lastAt p (set (t .last) k i)) here
-            ∙ ap At (getD-set-same (t .last) k i free (omega (arith, alike, hit-under n (t .first) k e)))
-        go false d = other d (placeOfName (t .first) name) refl
+        go : (b : Bool) → same n name ≡ b
+            → let p = placeOfName firsts name in readAt d p (set l k x) ≡ cond b (At x) (readAt d p l)
+        go true a =
+            let here : placeOfName firsts name ≡ At k = ap (placeOfName firsts) (sym (same-eq n name a)) ∙ e in
+            ap (λ (p : Place). readAt d p (set l k x)) here
+            ∙ ap At (getD-set-same l k x d (omega (arith, alike, hit-under n firsts k e)))
+        go false a = other a (placeOfName firsts name) refl
 
-    -- a new name
-    pub last-new : nameNo i ≡ n → placeOfName (t .first) n ≡ Nowhere
-        → (name : List ℕ) → lastInTable (putNew t i) name ≡ cond (same n name) (At i) (lastInTable t name)
-    last-new is e name =
-        ap (λ (p : Place). lastAt p (t .last ++ i ∷ [])) (place-put name (t .first) i n is) ∙ go (same n name) refl
+    -- a new name, whose first card is card i
+    pub read-new : (i : ℕ) → nameNo i ≡ n → placeOfName firsts n ≡ Nowhere
+        → (name : List ℕ)
+        → readAt d (placeOfName (firsts ++ i ∷ []) name) (l ++ x ∷ [])
+        ≡ cond (same n name) (At x) (readAt d (placeOfName firsts name) l)
+    read-new i is e name =
+        ap (λ (p : Place). readAt d p (l ++ x ∷ [])) (place-put name firsts i n is) ∙ go (same n name) refl
       where
-        other : (p : Place) → placeOfName (t .first) name ≡ p → lastAt (orPlace p Nowhere) (t .last ++ i ∷ []) ≡ lastAt p (t .last)
-        other (At j) f =
-            ap At (List·getD-append (t .last) (i ∷ []) free j (omega (arith, alike, hit-under name (t .first) j f)))
+        other : (p : Place) → placeOfName firsts name ≡ p → readAt d (orPlace p Nowhere) (l ++ x ∷ []) ≡ readAt d p l
+        other (At j) f = ap At (List·getD-append l (x ∷ []) d j (omega (arith, alike, hit-under name firsts j f)))
         other Nowhere f = refl
 
         go : (b : Bool) → same n name ≡ b
-            → lastAt (orPlace (placeOfName (t .first) name) (ifNamed b (length (t .first)))) (t .last ++ i ∷ [])
-            ≡ cond b (At i) (lastInTable t name)
-        go true d =
-            let here : placeOfName (t .first) name ≡ Nowhere = ap (placeOfName (t .first)) (sym (same-eq n name d)) ∙ e in
-            ap (λ (p : Place). lastAt (orPlace p (At (length (t .first)))) (t .last ++ i ∷ [])) here
-            ∙ ap At (getD-at (t .last) i [] free (length (t .first)) alike)
-        go false d = other (placeOfName (t .first) name) refl
+            → readAt d (orPlace (placeOfName firsts name) (ifNamed b (length firsts))) (l ++ x ∷ [])
+            ≡ cond b (At x) (readAt d (placeOfName firsts name) l)
+        go true a =
+            let here : placeOfName firsts name ≡ Nowhere = ap (placeOfName firsts) (sym (same-eq n name a)) ∙ e in
+            ap (λ (p : Place). readAt d (orPlace p (At (length firsts))) (l ++ x ∷ [])) here
+            ∙ ap At (getD-at l x [] d (length firsts) alike)
+        go false a = other (placeOfName firsts name) refl
+
+  -- one entry more: one more bears its name
+  pub one-more : (t : Table) (n : List ℕ) (p : Place) → placeOfName (t .first) n ≡ p → (name : List ℕ) (q : Place)
+      → q ≡ cond (same n name) (At (suc (timesAt p (t .times)))) (readAt 0 (placeOfName (t .first) name) (t .times))
+      → countIn q ≡ cond (same n name) (suc (timesInTable t name)) (timesInTable t name)
+  one-more t n p e name q is = ap countIn is ∙ go (same n name) refl
+    where
+      go : (b : Bool) → same n name ≡ b
+          → countIn (cond b (At (suc (timesAt p (t .times)))) (readAt 0 (placeOfName (t .first) name) (t .times)))
+          ≡ cond b (suc (timesInTable t name)) (timesInTable t name)
+      go true a =
+          let here : p ≡ placeOfName (t .first) name = sym e ∙ ap (placeOfName (t .first)) (same-eq n name a) in
+          ap (λ (r : Place). suc (timesAt r (t .times))) here
+      go false a = refl

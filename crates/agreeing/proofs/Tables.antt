@@ -17,9 +17,11 @@ use Rattle.roles.proofs.Cards.{role-first}
 use Rattle.finding.specs.Finding.{lastFrom}
 use Rattle.entries.proofs.Looking.{drop-next}
 use Rattle.listing.specs.Listing.{free, Table, nameOf, putAgain, putNew, put, listFrom}
-use Rattle.agreeing.specs.Firsts.{isAmong, firstsFrom}
-use Rattle.agreeing.proofs.Places.{isPlace, orPlace, ifNamed, nameNo, placeOfName, lastInTable, place-put}
-use Rattle.agreeing.proofs.Places.{last-known, last-new}
+use Rattle.agreeing.specs.Firsts.{isAmong, firstsFrom, timesBorne}
+use Rattle.agreeing.specs.Times.{sumOf}
+use Rattle.agreeing.proofs.Places.{isPlace, orPlace, ifNamed, nameNo, placeOfName, lastInTable, timesInTable, place-put}
+use Rattle.agreeing.proofs.Places.{hit-under, read-known, read-new, one-more}
+use Rattle.agreeing.proofs.Counting.{sum-more, sum-put, one-beside, entriesIn}
 
 -- END stands at card k, and no card before it is END or refused
 pub data Until : ℕ → List Role → Type 0 where
@@ -40,6 +42,7 @@ EntryNo roles i = IsNamed (getD roles i neutral) (nameNo roles i)
 -- a table with one place for each of its names, and entries for first cards
 pub record Sound (roles : List Role) (t : Table) : Type 0 where
   pub alike : length (t .last) ≡ length (t .first)
+  pub counted : length (t .times) ≡ length (t .first)
   pub own : (k : ℕ) → k < length (t .first) → placeOfName roles (t .first) (nameNo roles (getD (t .first) k free)) ≡ At k
   pub entries : (k : ℕ) → k < length (t .first) → EntryNo roles (getD (t .first) k free)
 
@@ -53,11 +56,19 @@ pub record Comes (roles rs : List Role) (seen : List (List ℕ)) (k i : ℕ) (t 
   pub is : listFrom roles (take k rs) i t ≡ u
   pub sound : Sound roles u
   pub lasts : (name : List ℕ) → lastInTable roles u name ≡ lastFrom name rs i (lastInTable roles t name)
+  pub bear : (name : List ℕ) → timesInTable roles u name ≡ timesInTable roles t name + timesBorne name rs
+  pub sum : sumOf (u .times) ≡ sumOf (t .times) + entriesIn rs
   pub firsts : u .first ≡ t .first ++ firstsFrom seen rs i
 
 module _ (roles : List Role) (t : Table) (S : Sound roles t) where
   sound-known : (j i : ℕ) → Sound roles (putAgain t j i)
-  sound-known j i = record { alike = length-set (t .last) j i ∙ S .alike; own = S .own; entries = S .entries }
+  sound-known j i =
+      record {
+        alike = length-set (t .last) j i ∙ S .alike;
+        counted = length-set (t .times) j (suc (getD (t .times) j 0)) ∙ S .counted;
+        own = S .own;
+        entries = S .entries;
+      }
 
   module _ (n : List ℕ) (v : Held) (i : ℕ) (role : getD roles i neutral ≡ entry n v) (e : placeOfName roles (t .first) n ≡ Nowhere) where
     -- the first cards then
@@ -100,10 +111,15 @@ module _ (roles : List Role) (t : Table) (S : Sound roles t) where
     entry-new : EntryNo roles i
     entry-new = record { held = v; is = role ∙ ap (λ (m : List ℕ). entry m v) (sym (ap nameOf role)) }
 
+    -- a list with one number more, as the first cards have
+    one-longer : (l : List ℕ) (x : ℕ) → length l ≡ length (t .first) → length (l ++ x ∷ []) ≡ length firsts₁
+    one-longer l x e = omega (arith, e, length-append l (x ∷ []), length-append (t .first) (i ∷ []))
+
     sound-new : Sound roles (putNew t i)
     sound-new =
         record {
-          alike = length-append (t .last) (i ∷ []) ∙ ap (λ (x : ℕ). x + 1) (S .alike) ∙ sym (length-append (t .first) (i ∷ []));
+          alike = one-longer (t .last) i (S .alike);
+          counted = one-longer (t .times) 1 (S .counted);
           own =
               split {P = λ (k : ℕ). Own (getD firsts₁ k free) k}
               (λ k p. subst (λ (x : ℕ). Own x k) (old-at k p) (own-old k p))
@@ -132,52 +148,82 @@ module _ (roles : List Role) (t : Table) (S : Sound roles t) where
         go name false Nowhere h = h
 
   module _ (n : List ℕ) (v : Held) (rs : List Role) (seen : List (List ℕ)) (k i : ℕ) (s : Seen roles seen t) where
-    -- the first cards, by whether the name was seen
-    firsts-by : (p : Place) → placeOfName roles (t .first) n ≡ p
-        → t .first ++ cond (isPlace p) (firstsFrom seen rs (suc i)) (i ∷ firstsFrom (n ∷ seen) rs (suc i))
-        ≡ t .first ++ firstsFrom seen (entry n v ∷ rs) i
-    unfolding firstsFrom
-    firsts-by p e =
-        ap (λ (b : Bool). t .first ++ cond b (firstsFrom seen rs (suc i)) (i ∷ firstsFrom (n ∷ seen) rs (suc i)))
-        (sym (s .names n ∙ ap isPlace e))
+    -- what is read off a table for a name, where this entry gives x
+    abbrev Gives : {A : Type 0} → (List ℕ → A) → (List ℕ → A) → (List ℕ → A) → Type 0
+    Gives then x was = (name : List ℕ) → then name ≡ cond (same n name) (x name) (was name)
+
+    -- an entry that goes to place p, or behind the others
+    on-entry : (p : Place) → placeOfName roles (t .first) n ≡ p
+        → Gives (lastInTable roles (put p i t)) (λ (name : List ℕ). At i) (lastInTable roles t)
+        → Gives (timesInTable roles (put p i t)) (λ (name : List ℕ). suc (timesInTable roles t name)) (timesInTable roles t)
+        → sumOf (put p i t .times) ≡ suc (sumOf (t .times))
+        → (seen₁ : List (List ℕ))
+        → put p i t .first ++ firstsFrom seen₁ rs (suc i)
+        ≡ t .first ++ cond (isPlace p) (firstsFrom seen rs (suc i)) (i ∷ firstsFrom (n ∷ seen) rs (suc i))
+        → Comes roles rs seen₁ k (suc i) (put p i t) → Comes roles (entry n v ∷ rs) seen (suc k) i t
+    unfolding listFrom lastFrom firstsFrom timesBorne entriesIn
+    on-entry p e lasts bear sum seen₁ firsts r =
+        record {
+          u = r .u;
+          is = ap (λ (q : Place). listFrom roles (take k rs) (suc i) (put q i t)) e ∙ r .is;
+          sound = r .sound;
+          lasts = λ name. r .lasts name ∙ ap (lastFrom name rs (suc i)) (lasts name);
+          bear =
+              λ name.
+              r .bear name
+              ∙ ap (λ (x : ℕ). x + timesBorne name rs) (bear name)
+              ∙ one-beside (same n name) (timesInTable roles t name) (timesBorne name rs);
+          sum = omega (arith, r .sum, sum);
+          firsts =
+              r .firsts
+              ∙ firsts
+              ∙ ap (λ (b : Bool). t .first ++ cond b (firstsFrom seen rs (suc i)) (i ∷ firstsFrom (n ∷ seen) rs (suc i)))
+              (sym (s .names n ∙ ap isPlace e));
+        }
 
     on-known : (j : ℕ) → placeOfName roles (t .first) n ≡ At j → Comes roles rs seen k (suc i) (putAgain t j i)
         → Comes roles (entry n v ∷ rs) seen (suc k) i t
-    unfolding listFrom lastFrom
-    on-known j e r =
-        record {
-          u = r .u;
-          is = ap (λ (p : Place). listFrom roles (take k rs) (suc i) (put p i t)) e ∙ r .is;
-          sound = r .sound;
-          lasts = λ name. r .lasts name ∙ ap (lastFrom name rs (suc i)) (last-known roles t (S .alike) n i j e name);
-          firsts = r .firsts ∙ firsts-by (At j) e;
-        }
+    on-known j e =
+        let read = read-known roles (t .first) in
+        let one = suc (getD (t .times) j 0) in
+        on-entry (At j) e
+        (read (t .last) (S .alike) free n i j e)
+        (λ name. one-more roles t n (At j) e name _ (read (t .times) (S .counted) 0 n one j e name))
+        (sum-more (t .times) j (omega (arith, S .counted, hit-under roles n (t .first) j e)))
+        seen refl
 
     on-new : nameNo roles i ≡ n → placeOfName roles (t .first) n ≡ Nowhere
         → Comes roles rs (n ∷ seen) k (suc i) (putNew t i) → Comes roles (entry n v ∷ rs) seen (suc k) i t
-    unfolding listFrom lastFrom
-    on-new is e r =
-        record {
-          u = r .u;
-          is = ap (λ (p : Place). listFrom roles (take k rs) (suc i) (put p i t)) e ∙ r .is;
-          sound = r .sound;
-          lasts = λ name. r .lasts name ∙ ap (lastFrom name rs (suc i)) (last-new roles t (S .alike) n i is e name);
-          firsts = r .firsts ∙ append-assoc (t .first) (i ∷ []) (firstsFrom (n ∷ seen) rs (suc i)) ∙ firsts-by Nowhere e;
-        }
+    on-new is e =
+        let read = read-new roles (t .first) in
+        on-entry Nowhere e
+        (read (t .last) (S .alike) free n i i is e)
+        (λ name. one-more roles t n Nowhere e name _ (read (t .times) (S .counted) 0 n 1 i is e name))
+        (sum-put (t .times))
+        (n ∷ seen) (append-assoc (t .first) (i ∷ []) (firstsFrom (n ∷ seen) rs (suc i)))
 
   module _ (rs : List Role) (seen : List (List ℕ)) (k i : ℕ) (r : Comes roles rs seen k (suc i) t) where
     on-more : (s : List ℕ) (c : Comment) → Comes roles (more s c ∷ rs) seen (suc k) i t
-    unfolding listFrom lastFrom firstsFrom
-    on-more s c = record { u = r .u; is = r .is; sound = r .sound; lasts = r .lasts; firsts = r .firsts }
+    unfolding listFrom lastFrom firstsFrom timesBorne entriesIn
+    on-more s c = record { u = r .u; is = r .is; sound = r .sound; lasts = r .lasts; bear = r .bear; sum = r .sum; firsts = r .firsts }
 
     on-neutral : Comes roles (neutral ∷ rs) seen (suc k) i t
-    unfolding listFrom lastFrom firstsFrom
-    on-neutral = record { u = r .u; is = r .is; sound = r .sound; lasts = r .lasts; firsts = r .firsts }
+    unfolding listFrom lastFrom firstsFrom timesBorne entriesIn
+    on-neutral = record { u = r .u; is = r .is; sound = r .sound; lasts = r .lasts; bear = r .bear; sum = r .sum; firsts = r .firsts }
 
   -- at END
   on-end : (rs : List Role) (seen : List (List ℕ)) (i : ℕ) → Comes roles (last ∷ rs) seen 0 i t
-  unfolding listFrom lastFrom firstsFrom
-  on-end rs seen i = record { u = t; is = refl; sound = S; lasts = λ name. refl; firsts = sym (append-nil (t .first)) }
+  unfolding listFrom lastFrom firstsFrom timesBorne entriesIn
+  on-end rs seen i =
+      record {
+        u = t;
+        is = refl;
+        sound = S;
+        lasts = λ name. refl;
+        bear = λ name. omega arith;
+        sum = omega arith;
+        firsts = sym (append-nil (t .first));
+      }
 
 pub comes : (roles : List Role) {k : ℕ} {rs : List Role} → Until k rs → (seen : List (List ℕ)) (i : ℕ) (t : Table) → drop i roles ≡ rs
     → Sound roles t → Seen roles seen t → Comes roles rs seen k i t

@@ -18,13 +18,14 @@ use Rattle.entries.specs.declared.LookupAnswer.the-variants as L
 use Rattle.entries.specs.Answers.{untouched, given, lookupOf, entryHead, entryAt, entryOf}
 use Rattle.listing.specs.Listing.{places, free, nameOf, empty, tabled, listOf, placeOfEntry}
 use Rattle.naming.specs.Naming.{nameWritten, nameAt}
-use Rattle.agreeing.specs.Firsts.{firstsOf, lastsOf}
+use Rattle.agreeing.specs.Firsts.{firstsOf, lastsOf, timesOf}
 
--- the arrays of an accepted header hold its first cards and, for the name of each, its last entry; then free marks
+-- the arrays of an accepted header hold its first cards and, for the name of each, its last entry and how many bear it; then free marks
 abbrev pub Contents : Type 0
 Contents =
     (h : List ℕ) (end : ℕ) → headerOf h ≡ Accepted end
-    → listOf h ≡ tabled (Accepted end) (record { first = firstsOf (rolesOf h); last = lastsOf (rolesOf h) })
+    → listOf h
+    ≡ tabled (Accepted end) (record { first = firstsOf (rolesOf h); last = lastsOf (rolesOf h); times = timesOf (rolesOf h) })
 
 -- every name has a place: an accepted header has no more names than cards, and no more cards than places
 abbrev pub NamesFit : Type 0

@@ -1,4 +1,5 @@
--- The names of a header in the order of their first cards, with the last entry of each: over roles, with no table and no insertion.
+-- The names of a header in the order of their first cards, with the last entry of each and how many bear it: over roles, with no table
+-- and no insertion.
 use Prim.Native.Nat.{ℕ, suc}
 use mathlib.Core.Bool.{Bool, true, false, cond}
 use mathlib.Core.List.{List, [], _∷_, map}
@@ -39,3 +40,16 @@ lastNumber roles name = numberAt (lastOf name roles)
 -- for the name of each first card, its last
 abbrev pub lastsOf : List Role → List ℕ
 lastsOf roles = map (λ (i : ℕ). lastNumber roles (nameOf (getD roles i neutral))) (firstsOf roles)
+
+-- how many entries bear the name; nothing behind END counts
+unfoldable pub timesBorne : List ℕ → List Role → ℕ
+timesBorne name [] = 0
+timesBorne name (entry n v ∷ rs) = cond (same n name) (suc (timesBorne name rs)) (timesBorne name rs)
+timesBorne name (more t c ∷ rs) = timesBorne name rs
+timesBorne name (neutral ∷ rs) = timesBorne name rs
+timesBorne name (last ∷ rs) = 0
+timesBorne name (refused f ∷ rs) = timesBorne name rs
+
+-- for the name of each first card, how many
+abbrev pub timesOf : List Role → List ℕ
+timesOf roles = map (λ (i : ℕ). timesBorne (nameOf (getD roles i neutral)) roles) (firstsOf roles)

@@ -2,3 +2,4 @@
 pub mod Firsts
 pub mod Agreeing
 pub mod Halves
+pub mod Times

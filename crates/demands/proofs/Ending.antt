@@ -84,18 +84,21 @@ speaks k idle last b = absurd (true≢false (sym b))
 speaks k (held e) last b = absurd (true≢false (sym b))
 speaks k q (refused f) b = refl
 
--- ---- effects of two headers, card by card: both bear K, or they are equal
-pub data Twin (k : List ℕ) : List Effect → List Effect → Type 0 where
-  done : Twin k [] []
-  both : {f g : Effect} {fs gs : List Effect} → bears k f ≡ true → bears k g ≡ true → Twin k fs gs
-      → Twin k (f ∷ fs) (g ∷ gs)
-  even : {f g : Effect} {fs gs : List Effect} → f ≡ g → Twin k fs gs → Twin k (f ∷ fs) (g ∷ gs)
+-- ---- two headers before which q and r stand open, card by card: both cards bear K, or they are equal and do the same
+pub data Twin (k : List ℕ) : Open → Open → List Role → List Role → Type 0 where
+  done : {q r : Open} → Twin k q r [] []
+  both : {q r : Open} {c d : Role} {g h : List Role} → bears k (does q c) ≡ true → bears k (does r d) ≡ true
+      → Twin k (leaves q (does q c)) (leaves r (does r d)) g h → Twin k q r (c ∷ g) (d ∷ h)
+  even : {q r : Open} {c d : Role} {g h : List Role} → c ≡ d → does q c ≡ does r d
+      → Twin k (leaves q (does q c)) (leaves r (does r d)) g h → Twin k q r (c ∷ g) (d ∷ h)
 
--- so those that do not bear K are the same
-pub twin-others : (k : List ℕ) {fs gs : List Effect} → Twin k fs gs → others k fs ≡ others k gs
+-- so the effects that do not bear K are the same
+pub twin-others : (k : List ℕ) {q r : Open} {g h : List Role} → Twin k q r g h
+    → others k (effects q g) ≡ others k (effects r h)
+unfolding effects
 twin-others k done = refl
-twin-others k (both {f} {g} a b t) = rw (a, b) (twin-others k t)
-twin-others k (even {f} {g} e t) = ap₂ (λ (x : Effect) (l : List Effect). cond (bears k x) l (x ∷ l)) e (twin-others k t)
+twin-others k (both a b t) = rw (a, b) (twin-others k t)
+twin-others k (even is e t) = ap₂ (λ (x : Effect) (l : List Effect). cond (bears k x) l (x ∷ l)) e (twin-others k t)
 
 -- the card at place p bears K, where q stands open before the header
 abbrev pub belongs-after : List ℕ → Open → List Role → ℕ → Bool
@@ -106,7 +109,7 @@ module _ (k : List ℕ) (z : Role) where
       → headerFrom g i ≡ Accepted e → headerFrom h j ≡ Accepted d
       → ((p : ℕ) → i + p ≤ e → belongs-after k q g p ≡ belongs-after k r h p)
       → ((p : ℕ) → i + p ≤ e → belongs-after k q g p ≡ false → getD g p z ≡ getD h p z)
-      → Twin k (effects q (toEnd g)) (effects r (toEnd h))
+      → Twin k q r (toEnd g) (toEnd h)
   unfolding effects toEnd headerFrom
   twins q r s [] h i j e d a b places cards = absurd (apart _ e a)
   twins q r s (c ∷ g) [] i j e d a b places cards = absurd (apart _ d b)
@@ -123,7 +126,7 @@ module _ (k : List ℕ) (z : Role) where
       r₁ = leaves r (does r f)
 
       Behind : Bool → Bool → Type 0
-      Behind x y = Twin k (effects q₁ (unless x (toEnd g))) (effects r₁ (unless y (toEnd h)))
+      Behind x y = Twin k q₁ r₁ (unless x (toEnd g)) (unless y (toEnd h))
 
       here : i + 0 ≤ e
       here = omega (arith, accepted-from (c ∷ g) i e a)
@@ -137,7 +140,7 @@ module _ (k : List ℕ) (z : Role) where
 
       go : (t : Bool) → bears k (does q c) ≡ t
           → (Alike k q₁ r₁ → headerFrom g (suc i) ≡ Accepted e → headerFrom h (suc j) ≡ Accepted d → Behind false false)
-          → Twin k (does q c ∷ effects q₁ (unless (isLast c) (toEnd g))) (does r f ∷ effects r₁ (unless (isLast f) (toEnd h)))
+          → Twin k q r (c ∷ unless (isLast c) (toEnd g)) (f ∷ unless (isLast f) (toEnd h))
       go true t rest =
           let t′ : bears k (does r f) ≡ true = sym (places zero here) ∙ t in
           let alike : Alike k q₁ r₁ = owned (own-after k q (does q c) t) (own-after k r (does r f) t′) in
@@ -148,4 +151,4 @@ module _ (k : List ℕ) (z : Role) where
           let one : does q c ≡ does r f = ap (does q) is
           ∙ effect k s f (subst (λ (x : Role). bears k (does q x) ≡ false) is t) t′ in
           let alike : Alike k q₁ r₁ = subst (λ (x : Effect). Alike k q₁ (leaves r x)) one (after k q r s (does q c)) in
-          even one (behind (isLast c) refl (sym (ap isLast is)) alike rest)
+          even is one (behind (isLast c) refl (sym (ap isLast is)) alike rest)

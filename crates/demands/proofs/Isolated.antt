@@ -55,8 +55,8 @@ by-others k name other rs =
     sym (lookup-to-end name rs) ∙ by-effects name (toEnd rs) ∙ sym (answer-others k name other (effects idle (toEnd rs)))
 
 module _ (g h k : List ℕ) (a : IsAccepted g) (b : IsAccepted h) (but : EqualBut k g h (a .end)) where
-  -- card by card both bear K or do the same
-  twin : Twin k (effects idle (toEnd (rolesOf g))) (effects idle (toEnd (rolesOf h)))
+  -- card by card both bear K, or they are equal and do the same
+  pub twin : Twin k idle idle (toEnd (rolesOf g)) (toEnd (rolesOf h))
   twin =
       twins k (roleOf []) idle idle equal (rolesOf g) (rolesOf h) 0 0 (a .end) (b .end) (read-from g a) (read-from h b)
       (λ (p : ℕ) (u : 0 + p ≤ a .end). but .places p (omega (arith, u)))
@@ -79,9 +79,12 @@ isolation-to-end g h k a b but name other text comment =
     both-alike text comment g h name name (sought-to-end g h k a b but name other)
 
 -- cards that are equal throughout are equal up to END
+pub throughout : {A : Type 0} (answer : List ℕ → List ℕ → A) → IsolatesToEnd answer → Isolates answer
+throughout answer to-end g h k a b long places cards =
+    to-end g h k a b (record { places = λ p _. places p; cards = λ p _. cards p })
+
 pub sought-isolated : Isolates named
-sought-isolated g h k a b long places cards =
-    sought-to-end g h k a b (record { places = λ p _. places p; cards = λ p _. cards p })
+sought-isolated = throughout named sought-to-end
 
 pub isolation : Isolation
 isolation g h k a b long places cards name other text comment =

@@ -3,4 +3,5 @@ pub mod Ending
 pub mod Naming
 pub mod Isolated
 pub mod Halves
+pub mod Times
 pub mod Columns

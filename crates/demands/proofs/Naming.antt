@@ -5,12 +5,11 @@ use mathlib.Core.Bool.{Bool, true, false, cond, true≢false}
 use mathlib.Core.List.{List, [], _∷_, map}
 use lib.ListN.{length, take, drop, getD, replicate}
 use lib.Seq.{take-append-seam}
-use Rattle.text.specs.Same.{same}
 use Rattle.text.specs.Text.{filled}
 use Rattle.text.proofs.Comparing.{same-self, same-eq}
 use Rattle.roles.specs.Roles.{Role, entry, more, neutral, last, refused}
 use Rattle.joining.specs.Lookup.{isOpen, joined}
-use Rattle.joining.specs.Belonging.{Entry, Open, idle, held, Effect, gives, nothing, stops, leaves, effects, bears}
+use Rattle.joining.specs.Belonging.{Entry, Open, idle, held, Effect, gives, nothing, stops, does, leaves, effects, bears}
 use Rattle.entries.proofs.Looking.{drop-next}
 use Rattle.listing.specs.Listing.{nameOf}
 use Rattle.agreeing.specs.Firsts.{isAmong, firstsFrom}
@@ -124,7 +123,7 @@ by-effects (last ∷ h) seen (held e) (known k) = refl
 by-effects (refused f ∷ h) seen idle free = by-effects h seen idle free
 by-effects (refused f ∷ h) seen (held e) (known k) = by-effects h seen (held e) (known k)
 
--- ---- effects that bear K or are equal, card by card, give the same names
+-- ---- cards that bear K or do the same, one by one, give the same names
 namesWith : List ℕ → List (List ℕ) → List Effect → List (List ℕ)
 namesWith n seen fs = cond (isAmong n seen) (firstNames seen fs) (n ∷ firstNames (n ∷ seen) fs)
 
@@ -158,10 +157,15 @@ own-alike k (gives e) stops a b seen fs = absurd (true≢false (sym b))
 own-alike k nothing g a b seen fs = absurd (true≢false (sym a))
 own-alike k stops g a b seen fs = absurd (true≢false (sym a))
 
-pub twin-names : (k : List ℕ) {fs gs : List Effect} → Twin k fs gs → (seen : List (List ℕ))
-    → firstNames seen fs ≡ firstNames seen gs
-unfolding Alike
+pub twin-names : (k : List ℕ) {q r : Open} {g h : List Role} → Twin k q r g h → (seen : List (List ℕ))
+    → firstNames seen (effects q g) ≡ firstNames seen (effects r h)
+unfolding Alike effects
 twin-names k done seen = refl
-twin-names k (both {f} {g} {fs} {gs} a b t) seen = one-alike f seen fs gs (twin-names k t) ∙ own-alike k f g a b seen gs
-twin-names k (even {f} {g} {fs} {gs} e t) seen =
-    one-alike f seen fs gs (twin-names k t) ∙ ap (λ (x : Effect). firstNames seen (x ∷ gs)) e
+twin-names k (both {q} {r} {c} {d} {g} {h} a b t) seen =
+    let gs = effects (leaves q (does q c)) g in
+    let hs = effects (leaves r (does r d)) h in
+    one-alike (does q c) seen gs hs (twin-names k t) ∙ own-alike k (does q c) (does r d) a b seen hs
+twin-names k (even {q} {r} {c} {d} {g} {h} is e t) seen =
+    let gs = effects (leaves q (does q c)) g in
+    let hs = effects (leaves r (does r d)) h in
+    one-alike (does q c) seen gs hs (twin-names k t) ∙ ap (λ (x : Effect). firstNames seen (x ∷ hs)) e

@@ -91,7 +91,8 @@ commentAlone o = commentLeft (commentHalf (commentAnswerAlone (o .answer .answer
 
 -- of a list
 abbrev pub listAlone : Listing → Listing
-listAlone x = record { header = headerAlone (x .header); first = x .first; last = x .last; count = x .count }
+listAlone x =
+    record { header = headerAlone (x .header); first = x .first; last = x .last; times = x .times; count = x .count }
 
 -- of a name
 abbrev pub nameAlone : Named → Named

@@ -8,7 +8,7 @@
 --    file says that the pair of them is `lookupOf`, the answer with both buffers at once. `Columns` says that the column of a refusal
 --    stands beside the answer and changes nothing of it.
 -- 3. Isolation, stated here over `lookupOf`, and in `Halves` of each half: no card of K touches what another name is answered, nor the
---    names of the list and their order.
+--    names of the list and their order, nor, as `Times` says, how many cards bear another name.
 use Prim.Native.Nat.{ℕ, suc, _≤_}
 use mathlib.Core.Path.{_≡_}
 use mathlib.Core.Bool.{Bool, false}

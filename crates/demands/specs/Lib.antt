@@ -1,4 +1,5 @@
 -- What is certain: open `Demands` first.
 pub mod Demands
 pub mod Halves
+pub mod Times
 pub mod Columns

@@ -8,3 +8,4 @@ pub mod Sliding
 pub mod Rows
 pub mod Entering
 pub mod Placing
+pub mod Lengths

@@ -6,7 +6,7 @@ use native.Mathlib.Omega.{arith}
 use mathlib.Core.Path.{_≡_, refl, sym, ap, ap₂, subst, _∙_}
 use mathlib.Core.Bool.{Bool, true, false, cond}
 use mathlib.Core.List.{List, [], _∷_, _++_}
-use lib.ListN.{length, take, drop, getD, set, replicate, length-append, length-replicate, length-set}
+use lib.ListN.{length, take, drop, getD, set, replicate, length-append, length-replicate, length-set, List·getD-append}
 use lib.Seq.{set-append-left}
 use Rattle.refusal.specs.declared.Fault.{Fault}
 use Rattle.refusal.specs.declared.Refusal.the-variants as R
@@ -16,7 +16,7 @@ use Rattle.text.specs.declared.Place.the-variants.{At, Nowhere}
 use Rattle.text.specs.Same.{same}
 use Rattle.text.specs.Text.{filled}
 use Rattle.text.proofs.Finding.{Under}
-use Rattle.text.proofs.Texts.{filled-none, filled-put}
+use Rattle.text.proofs.Texts.{length-put, filled-none, filled-put}
 use Rattle.roles.specs.Roles.{Comment, Held, Role, entry, more, neutral, last as end-card, refused}
 use Rattle.roles.specs.Cards.{cardNo, roleNo, rolesOf, isBadLength}
 use Rattle.roles.proofs.Cards.{roles-from, role-is, roles-past}
@@ -27,7 +27,7 @@ use Rattle.finding.specs.Finding.{stopAt, headerFrom, headerOf}
 use Rattle.listing.specs.declared.Listing.{Listing}
 use Rattle.listing.specs.Listing.{places, free, Table, empty, nameOf, placeIn, putAgain, putNew, put, putRole}
 use Rattle.listing.specs.Listing.{listFrom, tabled, byHeader, listOf}
-use Rattle.listing.specs.Keys.{keyOf, rowAt, keyPlace, Ordered, Ready, Arrays, arraysBy, arraysAt, Entered}
+use Rattle.listing.specs.Keys.{keyOf, rowAt, keyPlace, Ordered, Ready, Arrays, arraysAt, Entered}
 use Rattle.listing.proofs.Lows.{Low, low-entry}
 use Rattle.listing.proofs.Keying.{length-key, same-key}
 use Rattle.listing.proofs.Rows.{row-other, row-own}
@@ -39,7 +39,7 @@ at-within [] k d e p = absurd (omega arith)
 at-within (x ∷ l) zero d e p = refl
 at-within (x ∷ l) (suc k) d e p = at-within l k d e (omega arith)
 
-length-filled : (mark n : ℕ) (l : List ℕ) → length l ≤ n → length (filled mark n l) ≡ n
+pub length-filled : (mark n : ℕ) (l : List ℕ) → length l ≤ n → length (filled mark n l) ≡ n
 unfolding filled
 length-filled mark n l h =
     length-append l (replicate (n - length l) mark)
@@ -51,6 +51,56 @@ unfolding filled
 set-filled mark n l k v h =
     set-append-left l (replicate (n - length l) mark) k v h
     ∙ ap (λ (m : ℕ). set l k v ++ replicate (n - m) mark) (sym (length-set l k v))
+
+pub filled-at : (mark n : ℕ) (l : List ℕ) (k d : ℕ) → k < length l → getD (filled mark n l) k d ≡ getD l k d
+unfolding filled
+filled-at mark n l k d h = List·getD-append l (replicate (n - length l) mark) d k h
+
+zero-at : (n k : ℕ) → getD (replicate n 0) k 0 ≤ 0
+zero-at zero k = omega arith
+zero-at (suc n) zero = omega arith
+zero-at (suc n) (suc k) = zero-at n k
+
+-- numbers that are at most n, and one more among them
+most-put : (l : List ℕ) (k x n : ℕ) → ((j : ℕ) → getD l j 0 ≤ n) → x ≤ n → (j : ℕ) → getD (set l k x) j 0 ≤ n
+most-put [] k x n all h j = all j
+most-put (y ∷ l) zero x n all h zero = h
+most-put (y ∷ l) zero x n all h (suc j) = all (suc j)
+most-put (y ∷ l) (suc k) x n all h zero = all 0
+most-put (y ∷ l) (suc k) x n all h (suc j) = most-put l k x n (λ i. all (suc i)) h j
+
+-- an array of a number for each of n names, and of marks behind them
+pub record Marked (mark n : ℕ) (l v : List ℕ) : Type 0 where
+  pub is : l ≡ filled mark places v
+  pub long : length v ≡ n
+
+marked-none : (mark : ℕ) (l : List ℕ) → l ≡ replicate places mark → Marked mark 0 l []
+marked-none mark l e = record { is = e ∙ filled-none mark places; long = refl }
+
+module _ {mark n : ℕ} {l v : List ℕ} (M : Marked mark n l v) where
+  marked-long : n ≤ places → length l ≡ places
+  marked-long h = ap length (M .is) ∙ length-filled mark places v (omega (arith, M .long))
+
+  marked-at : (k : ℕ) → k < n → getD l k 0 ≡ getD v k 0
+  marked-at k h = ap (λ (s : List ℕ). getD s k 0) (M .is) ∙ filled-at mark places v k 0 (omega (arith, M .long))
+
+  marked-again : (k : ℕ) {x y : ℕ} → x ≡ y → k < n → Marked mark n (set l k x) (set v k y)
+  marked-again k {x} {y} e h =
+      record {
+        is =
+            ap₂ (λ (s : List ℕ) (z : ℕ). set s k z) (M .is) e
+            ∙ set-filled mark places v k y (omega (arith, M .long));
+        long = length-set v k y ∙ M .long;
+      }
+
+  marked-new : (x : ℕ) → n < places → Marked mark (n + 1) (set l n x) (v ++ x ∷ [])
+  marked-new x h =
+      record {
+        is =
+            ap₂ (λ (s : List ℕ) (k : ℕ). set s k x) (M .is) (sym (M .long))
+            ∙ filled-put mark places v x (omega (arith, M .long));
+        long = length-put v x ∙ ap (λ (k : ℕ). k + 1) (M .long);
+      }
 
 -- ---- what is left of the cards, and the table so far, give the listing
 abbrev restBy : Header → List Role → List Role → ℕ → Table → Listing
@@ -176,30 +226,31 @@ place-under roles name (i ∷ l) k =
     go false Nowhere u = tt
 
 -- ---- where the loop stands
-pub record Standing (h first last keys order : List ℕ) (count i : ℕ) : Type 0 where
+pub record Standing (h first last times keys order : List ℕ) (count i : ℕ) : Type 0 where
   pub t : Table
   pub within : i ≤ length h / 80
   pub good : isBadLength (length h) ≡ false
-  pub first-is : first ≡ filled free places (t .first)
-  pub last-is : last ≡ filled free places (t .last)
-  pub count-is : count ≡ length (t .first)
-  pub alike : length (t .last) ≡ length (t .first)
-  pub small : length (t .first) ≤ i
+  pub first-in : Marked free count first (t .first)
+  pub last-in : Marked free count last (t .last)
+  pub times-in : Marked 0 count times (t .times)
+  pub few-times : (k : ℕ) → getD times k 0 ≤ i
+  pub small : count ≤ i
   pub rowed : Rowed h keys 0 (t .first)
   pub ordered : Ordered keys order count
   pub left : rest (rolesOf h) (drop i (rolesOf h)) i t ≡ listOf h
 
-pub start : (h first last keys order : List ℕ) → isBadLength (length h) ≡ false
-    → first ≡ replicate places free → last ≡ replicate places free → Ordered keys order 0 → Standing h first last keys order 0 0
-start h first last keys order good f l ordered =
+pub start : (h first last times keys order : List ℕ) → isBadLength (length h) ≡ false
+    → first ≡ replicate places free → last ≡ replicate places free → times ≡ replicate places 0 → Ordered keys order 0
+    → Standing h first last times keys order 0 0
+start h first last times keys order good f l n ordered =
     record {
       t = empty;
       within = omega arith;
       good = good;
-      first-is = f ∙ filled-none free places;
-      last-is = l ∙ filled-none free places;
-      count-is = refl;
-      alike = refl;
+      first-in = marked-none free first f;
+      last-in = marked-none free last l;
+      times-in = marked-none 0 times n;
+      few-times = λ k. subst (λ (s : List ℕ). getD s k 0 ≤ 0) (sym n) (zero-at places k);
       small = omega arith;
       rowed = none;
       ordered = ordered;
@@ -207,30 +258,21 @@ start h first last keys order good f l ordered =
     }
 
 -- by what the arrays are equal to
-pub standing-as : {h first last keys order first₁ last₁ keys₁ order₁ : List ℕ} {count count₁ i : ℕ}
-    → first₁ ≡ first → last₁ ≡ last → keys₁ ≡ keys → order₁ ≡ order → count₁ ≡ count
-    → Standing h first last keys order count i → Standing h first₁ last₁ keys₁ order₁ count₁ i
-standing-as {h} {first} {last} {keys} {order} {first₁} {last₁} {keys₁} {order₁} {count} {count₁} {i} f l k o c S =
-    subst (λ (x : ℕ). Standing h first₁ last₁ keys₁ order₁ x i) (sym c)
-    (subst (λ (x : List ℕ). Standing h first₁ last₁ keys₁ x count i) (sym o)
-    (subst (λ (x : List ℕ). Standing h first₁ last₁ x order count i) (sym k)
-    (subst (λ (x : List ℕ). Standing h first₁ x keys order count i) (sym l)
-    (subst (λ (x : List ℕ). Standing h x last keys order count i) (sym f) S))))
+pub standing-as : {h first last times keys order first₁ last₁ times₁ keys₁ order₁ : List ℕ} {count count₁ i : ℕ}
+    → first₁ ≡ first → last₁ ≡ last → times₁ ≡ times → keys₁ ≡ keys → order₁ ≡ order → count₁ ≡ count
+    → Standing h first last times keys order count i → Standing h first₁ last₁ times₁ keys₁ order₁ count₁ i
+standing-as {h} {i = i} f l n k o c S = coe 1 0 (j. Standing h (f j) (l j) (n j) (k j) (o j) (c j) i) S
 
-module _ {h first last keys order : List ℕ} {count i : ℕ} (S : Standing h first last keys order count i) where
+module _ {h first last times keys order : List ℕ} {count i : ℕ} (S : Standing h first last times keys order count i) where
   abbrev roles : List Role
   roles = rolesOf h
 
   at-most : length h / 80 ≤ 720
   at-most = good-cards (length h) (S .good)
 
-  pub first-long : length first ≡ places
-  first-long = ap length (S .first-is) ∙ length-filled free places (S .t .first) (omega (arith, S .small, S .within, at-most))
-
-  pub last-long : length last ≡ places
-  last-long =
-      ap length (S .last-is)
-      ∙ length-filled free places (S .t .last) (omega (arith, S .alike, S .small, S .within, at-most))
+  -- each array has all places
+  long-in : {mark : ℕ} {l v : List ℕ} → Marked mark count l v → length l ≡ places
+  long-in M = marked-long M (omega (arith, S .small, S .within, at-most))
 
   -- behind the cards there is no END
   pub at-end : length h / 80 ≤ i → tabled (Refused (stopAt (faultOf R.NoEnd) (length h / 80))) empty ≡ listOf h
@@ -244,7 +286,7 @@ module _ {h first last keys order : List ℕ} {count i : ℕ} (S : Standing h fi
   module _ (next : i < length h / 80) where
     -- a place is free
     room : count < places
-    room = omega (arith, S .count-is, S .small, at-most)
+    room = omega (arith, S .small, at-most)
 
     -- what is left, by the role of its first card
     left-by : (r : Role) → r ≡ roleNo h i → rest roles (r ∷ drop (i + 1) roles) i (S .t) ≡ listOf h
@@ -263,32 +305,44 @@ module _ {h first last keys order : List ℕ} {count i : ℕ} (S : Standing h fi
     pub on-last : end-card ≡ roleNo h i → tabled (Accepted i) (S .t) ≡ listOf h
     on-last is = at-last roles (drop (i + 1) roles) i (S .t) ∙ left-by end-card is
 
+    -- no number is above that of the cards then
+    few-more : (k : ℕ) → getD times k 0 ≤ i + 1
+    few-more k = omega (arith, S .few-times k)
+
     -- a card that is no entry changes nothing
-    passed : rest roles (drop (i + 1) roles) (suc i) (S .t) ≡ listOf h → Standing h first last keys order count (i + 1)
+    passed : rest roles (drop (i + 1) roles) (suc i) (S .t) ≡ listOf h → Standing h first last times keys order count (i + 1)
     passed e =
         record {
           t = S .t;
           within = omega arith;
           good = S .good;
-          first-is = S .first-is;
-          last-is = S .last-is;
-          count-is = S .count-is;
-          alike = S .alike;
+          first-in = S .first-in;
+          last-in = S .last-in;
+          times-in = S .times-in;
+          few-times = few-more;
           small = omega (arith, S .small);
           rowed = S .rowed;
           ordered = S .ordered;
           left = left-next (S .t) e;
         }
 
-    pub on-more : (s : List ℕ) (c : Comment) → more s c ≡ roleNo h i → Standing h first last keys order count (i + 1)
+    pub on-more : (s : List ℕ) (c : Comment) → more s c ≡ roleNo h i → Standing h first last times keys order count (i + 1)
     on-more s c is = passed (next-more roles (drop (i + 1) roles) i (S .t) s c ∙ left-by (more s c) is)
 
-    pub on-neutral : neutral ≡ roleNo h i → Standing h first last keys order count (i + 1)
+    pub on-neutral : neutral ≡ roleNo h i → Standing h first last times keys order count (i + 1)
     on-neutral is = passed (next-neutral roles (drop (i + 1) roles) i (S .t) ∙ left-by neutral is)
 
     -- an entry goes to its name's place, or behind the others
-    pub ready : Ready count first last keys order
-    ready = record { ordered = S .ordered; first-long = first-long; last-long = last-long; room = room }
+    pub ready : Ready count first last times keys order
+    ready =
+        record {
+          ordered = S .ordered;
+          first-long = long-in (S .first-in);
+          last-long = long-in (S .last-in);
+          times-long = long-in (S .times-in);
+          few-times = λ k. omega (arith, S .few-times k, at-most);
+          room = room;
+        }
 
     module _ (own : IsEntry h i) where
       -- its place in the table
@@ -297,7 +351,9 @@ module _ {h first last keys order : List ℕ} {count i : ℕ} (S : Standing h fi
 
       -- the place by the keys is the table's
       place-so : keyPlace (keyOf (own .name)) keys count 0 ≡ own-place
-      place-so = ap (λ (n : ℕ). keyPlace (keyOf (own .name)) keys n 0) (S .count-is) ∙ place-is own (S .rowed)
+      place-so =
+          ap (λ (n : ℕ). keyPlace (keyOf (own .name)) keys n 0) (sym (S .first-in .long))
+          ∙ place-is own (S .rowed)
 
       -- the table then, by the place
       left-so : (p : Place) → own-place ≡ p → (u : Table) → put p i (S .t) ≡ u
@@ -308,76 +364,71 @@ module _ {h first last keys order : List ℕ} {count i : ℕ} (S : Standing h fi
           (ap (λ (q : Place). put q i (S .t)) e ∙ becomes)
           ∙ left-by (entry (own .name) (own .held)) (sym (own .is)))
 
-      module _ {n : ℕ} {first₁ last₁ keys₁ order₁ : List ℕ}
-          (E : Entered (own .name) i count first last keys (arraysBy n first₁ last₁) keys₁ order₁) where
-        by-place : (p : Place) → own-place ≡ p → arraysBy n first₁ last₁ ≡ arraysAt p i count first last
-        by-place p e = E .put ∙ ap (λ (q : Place). arraysAt q i count first last) (place-so ∙ e)
+      module _ {then : Arrays} {keys₁ order₁ : List ℕ}
+          (E : Entered (own .name) i count first last times keys then keys₁ order₁) where
+        abbrev Next : Arrays → Type 0
+        Next x = Standing h (x .first) (x .last) (x .times) keys₁ order₁ (x .names) (i + 1)
+
+        -- the arrays, by the place
+        by-place : (p : Place) → own-place ≡ p → then ≡ arraysAt p i count first last times
+        by-place p e = E .put ∙ ap (λ (q : Place). arraysAt q i count first last times) (place-so ∙ e)
+
+        ordered-so : (x : Arrays) → then ≡ x → Ordered keys₁ order₁ (x .names)
+        ordered-so x e = subst (λ (y : Arrays). Ordered keys₁ order₁ (y .names)) e (E .ordered)
 
         -- the keys of the places before stay, and the key of the entry stands behind them
         rowed-so : Rowed h keys₁ 0 (S .t .first)
         rowed-so =
             rowed-by (S .rowed)
             (λ j p. ap (λ (l : List ℕ). rowAt l j) (E .rows)
-            ∙ row-other keys (keyOf (own .name)) count j (omega (arith, S .count-is)))
+            ∙ row-other keys (keyOf (own .name)) count j (omega (arith, S .first-in .long)))
 
         own-row : rowAt keys₁ count ≡ keyOf (own .name)
         own-row =
             ap (λ (l : List ℕ). rowAt l count) (E .rows)
             ∙ row-own keys (keyOf (own .name)) count (length-key (own .name)) (omega (arith, room, S .ordered .keys-long))
 
-        at-place : (k : ℕ) → own-place ≡ At k → Standing h first₁ last₁ keys₁ order₁ n (i + 1)
+        at-place : (k : ℕ) → own-place ≡ At k → Next (arraysAt (At k) i count first last times)
         at-place k e =
-            let so = by-place (At k) e in
             let under : k < 0 + length (S .t .first) =
             subst (Under (0 + length (S .t .first))) e (place-under roles (own .name) (S .t .first) 0) in
-            let long : length (set (S .t .last) k i) ≡ length (S .t .last) = length-set (S .t .last) k i in
+            let below : k < count = omega (arith, S .first-in .long) in
+            let one-more : getD times k 0 + 1 ≡ suc (getD (S .t .times) k 0) =
+            ap (λ (n : ℕ). n + 1) (marked-at (S .times-in) k below) ∙ add-one (getD (S .t .times) k 0) in
             record {
               t = putAgain (S .t) k i;
               within = omega arith;
               good = S .good;
-              first-is = ap (λ (x : Arrays). x .first) so ∙ S .first-is;
-              last-is =
-                  ap (λ (x : Arrays). x .last) so
-                  ∙ ap (λ (l : List ℕ). set l k i) (S .last-is)
-                  ∙ set-filled free places (S .t .last) k i (omega (arith, S .alike));
-              count-is = ap (λ (x : Arrays). x .names) so ∙ S .count-is;
-              alike = long ∙ S .alike;
+              first-in = S .first-in;
+              last-in = marked-again (S .last-in) k refl below;
+              times-in = marked-again (S .times-in) k one-more below;
+              few-times = most-put times k (getD times k 0 + 1) (i + 1) few-more (omega (arith, S .few-times k));
               small = omega (arith, S .small);
               rowed = rowed-so;
-              ordered = E .ordered;
+              ordered = ordered-so (arraysAt (At k) i count first last times) (by-place (At k) e);
               left = left-so (At k) e (putAgain (S .t) k i) refl;
             }
 
-        -- the arrays with one place more
-        put-in : (l v : List ℕ) → l ≡ filled free places v → count ≡ length v
-            → set l count i ≡ filled free places (v ++ i ∷ [])
-        put-in l v is e =
-            ap₂ (λ (x : List ℕ) (k : ℕ). set x k i) is e ∙ filled-put free places v i (omega (arith, room))
-
-        at-free : own-place ≡ Nowhere → Standing h first₁ last₁ keys₁ order₁ n (i + 1)
+        at-free : own-place ≡ Nowhere → Next (arraysAt Nowhere i count first last times)
         at-free e =
-            let so = by-place Nowhere e in
-            let more-first : length (S .t .first ++ i ∷ []) ≡ length (S .t .first) + 1 = length-append (S .t .first) (i ∷ []) in
-            let more-last : length (S .t .last ++ i ∷ []) ≡ length (S .t .last) + 1 = length-append (S .t .last) (i ∷ []) in
-            let names : n ≡ count + 1 = ap (λ (x : Arrays). x .names) so in
-            let behind : 0 + length (S .t .first) ≡ count = omega (arith, S .count-is) in
+            let behind : 0 + length (S .t .first) ≡ count = omega (arith, S .first-in .long) in
             record {
               t = putNew (S .t) i;
               within = omega arith;
               good = S .good;
-              first-is = ap (λ (x : Arrays). x .first) so ∙ put-in first (S .t .first) (S .first-is) (S .count-is);
-              last-is = ap (λ (x : Arrays). x .last) so ∙ put-in last (S .t .last) (S .last-is) (S .count-is ∙ sym (S .alike));
-              count-is = omega (arith, S .count-is);
-              alike = omega (arith, S .alike);
+              first-in = marked-new (S .first-in) i room;
+              last-in = marked-new (S .last-in) i room;
+              times-in = marked-new (S .times-in) 1 room;
+              few-times = most-put times count 1 (i + 1) few-more (omega arith);
               small = omega (arith, S .small);
               rowed = rowed-put rowed-so own (ap (rowAt keys₁) behind ∙ own-row);
-              ordered = E .ordered;
+              ordered = ordered-so (arraysAt Nowhere i count first last times) (by-place Nowhere e);
               left = left-so Nowhere e (putNew (S .t) i) refl;
             }
 
-        pub on-entry : Standing h first₁ last₁ keys₁ order₁ n (i + 1)
+        pub on-entry : Next then
         on-entry = go own-place refl
           where
-            go : (p : Place) → own-place ≡ p → Standing h first₁ last₁ keys₁ order₁ n (i + 1)
-            go (At k) e = at-place k e
-            go Nowhere e = at-free e
+            go : (p : Place) → own-place ≡ p → Next then
+            go (At k) e = subst Next (sym (by-place (At k) e)) (at-place k e)
+            go Nowhere e = subst Next (sym (by-place Nowhere e)) (at-free e)

@@ -95,30 +95,33 @@ pub record Slid (order : List ℕ) (at n place : ℕ) (then : List ℕ) : Type 0
   pub upper : (j : ℕ) → at ≤ j → j < n → getD then (j + 1) 0 ≡ getD order j 0
 
 -- ---- an entry put into a table
--- the table has a free place
-pub record Ready (count : ℕ) (first last keys order : List ℕ) : Type 0 where
+-- the table has a free place, and no more cards bear a name than there are places
+pub record Ready (count : ℕ) (first last times keys order : List ℕ) : Type 0 where
   pub ordered : Ordered keys order count
   pub first-long : length first ≡ places
   pub last-long : length last ≡ places
+  pub times-long : length times ≡ places
+  pub few-times : (k : ℕ) → getD times k 0 ≤ places
   pub room : count < places
 
--- the number of names, with the first and the last card of each
+-- the number of names, with the first and the last card of each, and how many cards bear it
 pub record Arrays : Type 0 where
   pub names : ℕ
   pub first : List ℕ
   pub last : List ℕ
+  pub times : List ℕ
 
-abbrev pub arraysBy : ℕ → List ℕ → List ℕ → Arrays
-arraysBy n first last = record { names = n; first = first; last = last }
+abbrev pub arraysBy : ℕ → List ℕ → List ℕ → List ℕ → Arrays
+arraysBy n first last times = record { names = n; first = first; last = last; times = times }
 
 -- card i as the last of the name at a place, or as the first and last of a name behind the others
-abbrev pub arraysAt : Place → ℕ → ℕ → List ℕ → List ℕ → Arrays
-arraysAt (At k) i count first last = arraysBy count first (set last k i)
-arraysAt Nowhere i count first last = arraysBy (count + 1) (set first count i) (set last count i)
+abbrev pub arraysAt : Place → ℕ → ℕ → List ℕ → List ℕ → List ℕ → Arrays
+arraysAt (At k) i count first last times = arraysBy count first (set last k i) (set times k (getD times k 0 + 1))
+arraysAt Nowhere i count first last times = arraysBy (count + 1) (set first count i) (set last count i) (set times count 1)
 
 -- the entry of card i was put at the place of its name's key, which stands behind the places, and they are in order
-pub record Entered (name : List ℕ) (i count : ℕ) (first last keys : List ℕ) (then : Arrays)
+pub record Entered (name : List ℕ) (i count : ℕ) (first last times keys : List ℕ) (then : Arrays)
     (keys₁ order₁ : List ℕ) : Type 0 where
-  pub put : then ≡ arraysAt (keyPlace (keyOf name) keys count 0) i count first last
+  pub put : then ≡ arraysAt (keyPlace (keyOf name) keys count 0) i count first last times
   pub rows : keys₁ ≡ sets keys (count * wordsOfKey) (keyOf name)
   pub ordered : Ordered keys₁ order₁ (then .names)

@@ -15,6 +15,7 @@ use Rattle.finding.specs.Finding.{headerOf}
 use Rattle.entries.specs.Answers.{LookupOutcome, entryOf}
 use Rattle.entries.specs.Halves.{ValueOutcome, CommentOutcome, valueNumbered, commentNumbered}
 use Rattle.listing.specs.declared.Listing.{Listing}
+use Rattle.listing.specs.declared.Listed.{Listed}
 
 -- the places of the table, and the mark of a free one: no card has this number
 abbrev pub places : ℕ
@@ -23,13 +24,14 @@ places = 720
 abbrev pub free : ℕ
 free = 720
 
--- for each place the first card that bears its name, and the last
+-- for each place the first card that bears its name, the last, and how many cards bear it
 pub record Table : Type 0 where
   pub first : List ℕ
   pub last : List ℕ
+  pub times : List ℕ
 
 abbrev pub empty : Table
-empty = record { first = []; last = [] }
+empty = record { first = []; last = []; times = [] }
 
 -- the name that a card bears
 abbrev pub nameOf : Role → List ℕ
@@ -44,12 +46,14 @@ unfoldable pub placeIn : List Role → List ℕ → List ℕ → ℕ → Place
 placeIn roles name [] k = Nowhere
 placeIn roles name (i ∷ is) k = cond (same (nameOf (getD roles i neutral)) name) (At k) (placeIn roles name is (suc k))
 
--- card i as the last entry of the name at place k, and as the first and last of a new name
+-- card i as the last entry of the name at place k, which one card more bears then
 abbrev pub putAgain : Table → ℕ → ℕ → Table
-putAgain t k i = record { first = t .first; last = set (t .last) k i }
+putAgain t k i =
+    record { first = t .first; last = set (t .last) k i; times = set (t .times) k (suc (getD (t .times) k 0)) }
 
+-- and as the first and last of a new name, the only card that bears it
 abbrev pub putNew : Table → ℕ → Table
-putNew t i = record { first = t .first ++ i ∷ []; last = t .last ++ i ∷ [] }
+putNew t i = record { first = t .first ++ i ∷ []; last = t .last ++ i ∷ []; times = t .times ++ 1 ∷ [] }
 
 -- of equal names the last entry counts, at the first one's place; a new name takes the next place: there is one for each card
 abbrev pub put : Place → ℕ → Table → Table
@@ -68,14 +72,24 @@ unfoldable pub listFrom : List Role → List Role → ℕ → Table → Table
 listFrom roles [] i t = t
 listFrom roles (r ∷ rs) i t = listFrom roles rs (suc i) (putRole roles r i t)
 
--- the arrays: the table, then free marks
+-- the arrays: the table, then free marks, and no card bears the name of a free place
 abbrev pub tabled : Header → Table → Listing
 tabled x t =
-    record { header = x; first = filled free places (t .first); last = filled free places (t .last); count = length (t .first) }
+    record {
+      header = x;
+      first = filled free places (t .first);
+      last = filled free places (t .last);
+      times = filled 0 places (t .times);
+      count = length (t .first);
+    }
 
 abbrev pub byHeader : Header → List Role → Listing
 byHeader (Accepted end) roles = tabled (Accepted end) (listFrom roles (take end roles) 0 empty)
 byHeader (Refused s) roles = tabled (Refused s) empty
+
+-- an answer, and the arrays beside it
+abbrev pub listingBy : Listed → List ℕ → List ℕ → List ℕ → Listing
+listingBy r firsts lasts borne = record { header = r .header; first = firsts; last = lasts; times = borne; count = r .count }
 
 -- the names of a header; where it is refused all places are free
 unfoldable pub listOf : List ℕ → Listing

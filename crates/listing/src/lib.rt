@@ -1,11 +1,11 @@
-// The names of a header in the order of their first cards, each with its last entry.
+// The names of a header in the order of their first cards, each with its last entry and with how many cards bear it.
 ghost use mathlib.Core.Path.{_≡_};
 ghost use Prim.Native.Nat.{_+_, _*_, _<_, _≤_};
-ghost use lib.ListN.{length, getD};
+ghost use lib.ListN.{length, getD, replicate};
 ghost use lib.Seq.{sets};
 ghost use Rattle.text.specs.Text.{bytesOf};
 ghost use Rattle.entries.specs.Halves.{valueLeft, commentLeft};
-ghost use Rattle.listing.specs.Listing.{places, free, empty, tabled, listOf, placeOfValue, placeOfComment};
+ghost use Rattle.listing.specs.Listing.{places, free, empty, tabled, listingBy, listOf, placeOfValue, placeOfComment};
 ghost use Rattle.listing.specs.Keys.{courseOf, bytesOfWord, wordsOfKey, wordOf, keyOf, isBefore, rowAt};
 ghost use Rattle.listing.specs.Keys.{Ordered, Parted, Slid, Ready, arraysBy, Entered};
 use entries::CommentHalf;
@@ -17,12 +17,19 @@ use roles::MOST_CARDS;
 use roles::Role;
 use text::Text;
 
-// A header's answer, and its names: for each place the number of the first card that bears the name, and of the last. The places
-// behind the names are free.
+// A header's answer, and its names: for each place the number of the first card that bears the name, that of the last, and how many
+// cards bear it. The places behind the names are free, and no card bears a name there.
 pub struct Listing {
     pub header: Header,
     pub first: [usize; 720],
     pub last: [usize; 720],
+    pub times: [usize; 720],
+    pub count: usize,
+}
+
+// A header's answer, and how many names it has, beside the lent arrays that they are listed in.
+pub struct Listed {
+    pub header: Header,
     pub count: usize,
 }
 
@@ -48,16 +55,39 @@ enum Course {
     Stops,
 }
 
-// The names of a header, in the order of their first cards: each card is read once.
+// The names of a header, in the order of their first cards.
 pub fn list(header: &[u8]) -> Listing
     ensures { λ r. ⌜ r ≡ listOf (now (header .entry)) ⌝ }
 {
-    let cards = roles::card_count(header);
-    if cards == 0 {
-        return refused(finding::stop_at(refusal::fault_of(Refusal::HeaderLength), 0));
-    }
     let mut first = [FREE; 720];
     let mut last = [FREE; 720];
+    let mut times: [usize; 720] = [0; 720];
+    let listed = list_over(header, &mut first, &mut last, &mut times);
+    let answer = listed.header;
+    Listing {
+        header: answer,
+        first: first,
+        last: last,
+        times: times,
+        count: listed.count,
+    }
+}
+
+// The same in lent arrays, whatever they hold: nothing is copied, and each card is read once.
+pub fn list_over(
+    header: &[u8],
+    first: &mut [usize; 720],
+    last: &mut [usize; 720],
+    times: &mut [usize; 720],
+) -> Listed
+    ensures { λ r. ⌜ listingBy r (now (first .exit)) (now (last .exit)) (now (times .exit)) ≡ listOf (now (header .entry)) ⌝ }
+{
+    let cards = roles::card_count(header);
+    if cards == 0 {
+        let none = finding::stop_at(refusal::fault_of(Refusal::HeaderLength), 0);
+        return refused(none, first, last, times);
+    }
+    free_all(first, last, times);
     let mut keys: [usize; 6480] = [0; 6480];
     let mut order = [0u16; 720];
     let mut count: usize = 0;
@@ -69,21 +99,20 @@ pub fn list(header: &[u8]) -> Listing
         let role = roles::role_of(answer);
         let Course::On { entry } = course_of(role) else {
             let Role::Refused(fault) = role else {
-                return Listing {
+                return Listed {
                     header: Header::Accepted(i),
-                    first: first,
-                    last: last,
                     count: count,
                 };
             };
-            return refused(finding::stop_at(fault, i));
+            return refused(finding::stop_at(fault, i), first, last, times);
         };
         if entry {
-            count = enter(name, i, count, &mut first, &mut last, &mut keys, &mut order);
+            count = enter(name, i, count, first, last, times, &mut keys, &mut order);
         }
         i += 1;
     }
-    refused(finding::stop_at(refusal::fault_of(Refusal::NoEnd), cards))
+    let none = finding::stop_at(refusal::fault_of(Refusal::NoEnd), cards);
+    refused(none, first, last, times)
 }
 
 // The value of the entry at a place of a listing's last entries, with its text, joined, in the lent buffer.
@@ -118,15 +147,29 @@ fn last_at(lasts: &[usize], place: usize) -> usize
 }
 
 // The listing of a refused header: all places are free.
-fn refused(stop: Stop) -> Listing
-    ensures { λ r. ⌜ r ≡ tabled (Header.Refused stop) empty ⌝ }
+fn refused(
+    stop: Stop,
+    first: &mut [usize; 720],
+    last: &mut [usize; 720],
+    times: &mut [usize; 720],
+) -> Listed
+    ensures { λ r. ⌜ listingBy r (now (first .exit)) (now (last .exit)) (now (times .exit)) ≡ tabled (Header.Refused stop) empty ⌝ }
 {
-    Listing {
+    free_all(first, last, times);
+    Listed {
         header: Header::Refused(stop),
-        first: [FREE; 720],
-        last: [FREE; 720],
         count: 0,
     }
+}
+
+// Makes all places free.
+fn free_all(first: &mut [usize; 720], last: &mut [usize; 720], times: &mut [usize; 720])
+    ensures { λ _. ⌜ (now (first .exit) ≡ replicate places free) × (now (last .exit) ≡ replicate places free)
+        × (now (times .exit) ≡ replicate places 0) ⌝ }
+{
+    *first = [FREE; 720];
+    *last = [FREE; 720];
+    *times = [0; 720];
 }
 
 // What a card comes to by its role.
@@ -142,20 +185,21 @@ fn course_of(role: Role) -> Course
     }
 }
 
-// Puts the entry of card i at its name's place among the first count, or behind them, and answers the number of names then. The
-// name's key is stored behind the last place first: if the name is new, it stays there.
+// Puts the entry of card i at its name's place among the first count, or behind them, counts it there, and answers the number of names
+// then. The name's key is stored behind the last place first: if the name is new, it stays there.
 fn enter(
     text: Text,
     i: usize,
     count: usize,
     first: &mut [usize],
     last: &mut [usize],
+    times: &mut [usize],
     keys: &mut [usize],
     order: &mut [u16],
 ) -> usize
-    requires { ⌜ Ready count (now first) (now last) (now keys) (now order) ⌝ }
-    ensures { λ r. ⌜ Entered (bytesOf text) i count (now (first .entry)) (now (last .entry)) (now (keys .entry))
-        (arraysBy r (now (first .exit)) (now (last .exit))) (now (keys .exit)) (now (order .exit)) ⌝ }
+    requires { ⌜ Ready count (now first) (now last) (now times) (now keys) (now order) ⌝ }
+    ensures { λ r. ⌜ Entered (bytesOf text) i count (now (first .entry)) (now (last .entry)) (now (times .entry)) (now (keys .entry))
+        (arraysBy r (now (first .exit)) (now (last .exit)) (now (times .exit))) (now (keys .exit)) (now (order .exit)) ⌝ }
 {
     let bytes = text.bytes;
     put_key(text::first_of(&bytes, text.len), keys, count * WORDS);
@@ -164,12 +208,14 @@ fn enter(
         let k = order[at] as usize;
         if !row_before(keys, count, k) {
             last[k] = i;
+            times[k] += 1;
             return count;
         }
     }
     put_between(order, at, count, count as u16);
     first[count] = i;
     last[count] = i;
+    times[count] = 1;
     count + 1
 }
 

@@ -164,4 +164,4 @@ module _ (k : List ℕ) (role : List ℕ → Role) where
           → Begins k q₁ (map role g) (map role h) (map role (picked q₁ g h)))
           → Begins k q (role c ∷ map role g) (role d ∷ map role h) (map role (cond b (d ∷ picked q₁ g h) (picked q₁ g h)))
       go true b w m later = start b (w q (λ (e : q ≡ ended). true≢false (sym b ∙ ap (λ (z : Open). bears k (does z (role c))) e)))
-      go false b w m later = rw (ap role (kept zero b)) (alike (later w m))
+      go false b w m later = rw (ap role (kept zero b)) (alike b (later w m))

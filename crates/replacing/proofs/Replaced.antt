@@ -1,11 +1,11 @@
--- Where written cards take the places of the name's old ones, which stand together, every other name is answered as before and the name
--- reads back.
+-- Where written cards take the places of the name's old ones, which stand together, every other name is answered and borne as before,
+-- and the name reads back and is borne once.
 use Prim.Native.Nat.{ℕ, _/_, _<_, _≤_}
 use native.Mathlib.Omega.{arith}
 use mathlib.Core.Path.{_≡_, sym, ap, ap₂, subst, _∙_}
-use mathlib.Core.Bool.{cond}
-use mathlib.Core.List.{List, map}
-use lib.ListN.{length}
+use mathlib.Core.Bool.{false, cond}
+use mathlib.Core.List.{List, [], map}
+use lib.ListN.{length, getD}
 use Rattle.refusal.specs.declared.Refusal.the-variants as R
 use Rattle.refusal.specs.Numbers.{faultOf}
 use Rattle.numbers.specs.declared.Value.{Value}
@@ -19,13 +19,14 @@ use Rattle.finding.specs.Finding.{stopAt, headerOf}
 use Rattle.writing.specs.Written.{writtenCards}
 use Rattle.demands.specs.Demands.{IsAccepted, isOf}
 use Rattle.demands.proofs.Isolated.{isolation, sought-isolated}
+use Rattle.demands.proofs.Times.{times-isolation}
 use Rattle.rereading.specs.ReadsBack.{MayWrite, StandIn}
 use Rattle.rereading.proofs.Owning.{Owns}
-use Rattle.rereading.proofs.Answering.{written-owned}
+use Rattle.rereading.proofs.Answering.{written-owned, written-once}
 use Rattle.rereading.proofs.Counting.{few-cards}
 use Rattle.rereading.proofs.Headers.{reads-back, halves-read-back}
 use Rattle.replacing.specs.Replacing.{Replaces, Together, Replacing}
-use Rattle.replacing.proofs.Walking.{Begins, same-places, same-header, stands}
+use Rattle.replacing.proofs.Walking.{Begins, same-places, same-header, stands, times-begun}
 use Rattle.replacing.proofs.Choosing.{its-within, Grouped, begins}
 
 -- cards that stand together have only commentary between them
@@ -71,12 +72,15 @@ replacing k v text c may g h a t r =
     let b = accepts k v text c may g h t r a in
     let places : (p : ℕ) → isOf k g p ≡ isOf k h p = same-places k (begun k v text c may g h t r) in
     let counts : length (cardsOf g) ≡ length (cardsOf h) = sym (counted k v text c may g h t r) in
+    let cards : (p : ℕ) → isOf k g p ≡ false → getD (cardsOf g) p [] ≡ getD (cardsOf h) p [] = λ p e. sym (r .kept p e) in
     let stand = standing k v text c may g h t r in
     record {
       accepted = b;
       places = places;
-      others = isolation g h k a b counts places (λ p e. sym (r .kept p e));
+      others = isolation g h k a b counts places cards;
       back = reads-back k v text c may h b stand;
-      others-named = sought-isolated g h k a b counts places (λ p e. sym (r .kept p e));
+      others-named = sought-isolated g h k a b counts places cards;
       back-named = halves-read-back k v text c may h b stand;
+      others-times = times-isolation g h k a b counts places cards;
+      once = times-begun k (begun k v text c may g h t r) ∙ written-once k (may .named) text c v (may .allowed);
     }

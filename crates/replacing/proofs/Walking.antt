@@ -13,8 +13,12 @@ use Rattle.joining.proofs.Names.{others, answer, answer-gone}
 use Rattle.joining.proofs.Answers.{by-effects}
 use Rattle.joining.proofs.Owning.{Own, free, own}
 use Rattle.finding.specs.Finding.{headerFrom}
+use Rattle.agreeing.specs.Firsts.{timesBorne}
+use Rattle.agreeing.proofs.Times.{not-borne}
 use Rattle.demands.proofs.Ending.{belongs-after}
+use Rattle.demands.proofs.Times.{one-before}
 use Rattle.rereading.specs.ReadsBack.{spoken, goesOn}
+use Rattle.rereading.proofs.Owning.{bears-entry}
 use Rattle.rereading.proofs.Headers.{lookup-spoken}
 
 -- ---- single cards
@@ -152,13 +156,20 @@ module _ (k : List ℕ) where
         latest = s .latest;
       }
 
+  walk-times : {q r : Open} {g h new : List Role} → Walk k q r g h new → timesBorne k h ≡ timesBorne k new
+  unfolding timesBorne
+  walk-times (rest {q} {h} o n) = not-borne k h (clear-lookup k (clear-idle k o n))
+  walk-times (skip w) = walk-times w
+  walk-times (both {d = d} {h = h} {new = new} e b is named w) = one-before k d h new (walk-times w)
+
 -- ---- from the first card on
 
 -- up to the first card of K both headers are the same
 pub data Begins (k : List ℕ) : Open → List Role → List Role → List Role → Type 0 where
   first : {q : Open} {c d : Role} {g h new : List Role} → bears k (does q c) ≡ true → Walk k q q (c ∷ g) (d ∷ h) new
       → Begins k q (c ∷ g) (d ∷ h) new
-  alike : {q : Open} {c : Role} {g h new : List Role} → Begins k (leaves q (does q c)) g h new → Begins k q (c ∷ g) (c ∷ h) new
+  alike : {q : Open} {c : Role} {g h new : List Role} → bears k (does q c) ≡ false → Begins k (leaves q (does q c)) g h new
+      → Begins k q (c ∷ g) (c ∷ h) new
 
 -- K's cards stand among h before END, with at most commentary between them, and no later card bears K
 pub record Standing (k : List ℕ) (h new : List Role) : Type 0 where
@@ -174,23 +185,23 @@ module _ (k : List ℕ) where
       → (p : ℕ) → belongs-after k q g p ≡ belongs-after k q h p
   unfolding effects
   same-places (first b w) p = walk-places k w p
-  same-places (alike w) zero = refl
-  same-places (alike w) (suc p) = same-places w p
+  same-places (alike b w) zero = refl
+  same-places (alike b w) (suc p) = same-places w p
 
   -- both are accepted or refused alike
   pub same-header : {q : Open} {g h new : List Role} → Begins k q g h new → (i : ℕ) → headerFrom g i ≡ headerFrom h i
   unfolding headerFrom
   same-header (first b w) i = walk-accepted k w i
-  same-header (alike {c = entry n v} w) i = same-header w (suc i)
-  same-header (alike {c = more t d} w) i = same-header w (suc i)
-  same-header (alike {c = neutral} w) i = same-header w (suc i)
-  same-header (alike {c = last} w) i = refl
-  same-header (alike {c = refused f} w) i = refl
+  same-header (alike {c = entry n v} b w) i = same-header w (suc i)
+  same-header (alike {c = more t d} b w) i = same-header w (suc i)
+  same-header (alike {c = neutral} b w) i = same-header w (suc i)
+  same-header (alike {c = last} b w) i = refl
+  same-header (alike {c = refused f} b w) i = refl
 
   -- END does not stand before the first card of K
   not-ended : {q : Open} {g h new : List Role} → Begins k q g h new → q ≡ ended → ⊥
   not-ended (first {c = c} b w) e = true≢false (sym b ∙ ap (λ (q : Open). bears k (does q c)) e)
-  not-ended (alike {c = c} w) e = not-ended w (ap (λ (q : Open). leaves q (does q c)) e)
+  not-ended (alike {c = c} b w) e = not-ended w (ap (λ (q : Open). leaves q (does q c)) e)
 
   -- a card in front of those that stand before K's
   in-front : (c : Role) (h : List Role) {new : List Role} → spoken (c ∷ h) ≡ c ∷ spoken h
@@ -209,10 +220,22 @@ module _ (k : List ℕ) where
   stands (first b w) =
       let s = walk-left k w in
       record { before = []; behind = s .behind; order = s .order; reached = refl; latest = s .latest }
-  stands (alike {c = entry n v} {h = h} w) = in-front (entry n v) h refl (λ b. refl) (stands w)
-  stands (alike {c = more t d} {h = h} w) = in-front (more t d) h refl (λ b. refl) (stands w)
-  stands (alike {c = neutral} w) =
+  stands (alike {c = entry n v} {h = h} b w) = in-front (entry n v) h refl (λ l. refl) (stands w)
+  stands (alike {c = more t d} {h = h} b w) = in-front (more t d) h refl (λ l. refl) (stands w)
+  stands (alike {c = neutral} b w) =
       let s = stands w in
       record { before = s .before; behind = s .behind; order = s .order; reached = s .reached; latest = s .latest }
-  stands (alike {q} {c = last} w) = absurd (not-ended w (last-leaves q))
-  stands (alike {c = refused f} {h = h} w) = in-front (refused f) h refl (λ b. refl) (stands w)
+  stands (alike {q} {c = last} b w) = absurd (not-ended w (last-leaves q))
+  stands (alike {c = refused f} {h = h} b w) = in-front (refused f) h refl (λ l. refl) (stands w)
+
+  -- K is borne in h as often as among its cards
+  pub times-begun : {q : Open} {g h new : List Role} → Begins k q g h new → timesBorne k h ≡ timesBorne k new
+  unfolding timesBorne
+  times-begun (first b w) = walk-times k w
+  times-begun (alike {q} {c = entry n v} b w) =
+      let other : same n k ≡ false = sym (ap (bears k) (bears-entry n q (not-ended (alike b w)) v)) ∙ b in
+      rw other (times-begun w)
+  times-begun (alike {c = more t d} b w) = times-begun w
+  times-begun (alike {c = neutral} b w) = times-begun w
+  times-begun (alike {q} {c = last} b w) = absurd (not-ended w (last-leaves q))
+  times-begun (alike {c = refused f} b w) = times-begun w

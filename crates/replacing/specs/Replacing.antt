@@ -11,6 +11,7 @@ use Rattle.roles.specs.Cards.{cardsOf, rolesOf, roleNo}
 use Rattle.joining.specs.Belonging.{idle, effects, bears}
 use Rattle.entries.specs.Answers.{given, lookupOf}
 use Rattle.entries.specs.Halves.{holds, named}
+use Rattle.agreeing.specs.Firsts.{timesBorne}
 use Rattle.writing.specs.Written.{writtenCards, heldFor}
 use Rattle.demands.specs.Demands.{IsAccepted, isOf}
 use Rattle.rereading.specs.ReadsBack.{MayWrite}
@@ -37,8 +38,8 @@ pub record Together (k g : List ℕ) : Type 0 where
       → isOf k g q ≡ false → roleNo g q ≡ neutral
 
 -- what is certain then: the new header is accepted, the same places belong to K, every other name is answered as before with the same
--- lent buffers, and K is answered as it was written; the last two by what the headers hold for their reader, which gives both halves of
--- the lookup, each with its own lent buffer
+-- lent buffers, and K is answered as it was written; these two also by what the headers hold for their reader, which gives both halves
+-- of the lookup, each with its own lent buffer; and as many cards as before bear every other name, and one bears K
 pub record IsReplaced (k : List ℕ) (v : Value) (text : List ℕ) (c : Comment) (g h : List ℕ) : Type 0 where
   pub accepted : IsAccepted h
   pub places : (p : ℕ) → isOf k g p ≡ isOf k h p
@@ -48,6 +49,8 @@ pub record IsReplaced (k : List ℕ) (v : Value) (text : List ℕ) (c : Comment)
       → lookupOf h k lent-text lent-comment ≡ given (some (heldFor v text c)) lent-text lent-comment
   pub others-named : (name : List ℕ) → (k ≡ name → ⊥) → named g name ≡ named h name
   pub back-named : named h k ≡ holds (heldFor v text c)
+  pub others-times : (name : List ℕ) → (k ≡ name → ⊥) → timesBorne name (rolesOf g) ≡ timesBorne name (rolesOf h)
+  pub once : timesBorne k (rolesOf h) ≡ 1
 
 -- Where written cards take the places of the name's old ones, which stand together, demand 3 holds for every other name and the name
 -- reads back.

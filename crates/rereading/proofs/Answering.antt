@@ -1,4 +1,4 @@
--- For every kind of value: what is written is what a lookup answers, and its cards belong to the name.
+-- For every kind of value: what is written is what a lookup answers, and its cards belong to the name, which one of them bears.
 use Prim.Native.Nat.{ℕ}
 use mathlib.Core.Path.{_≡_, refl, sym, ap, subst, _∙_}
 use mathlib.Core.Logic.{⊎-elim}
@@ -16,6 +16,7 @@ use Rattle.joining.specs.Words.{endsOpen, opens}
 use Rattle.joining.specs.Lookup.{joinOn, isOpen, whole, lookup}
 use Rattle.joining.specs.Belonging.{Open, ended}
 use Rattle.joining.proofs.Answers.{joinOn-shut}
+use Rattle.agreeing.specs.Firsts.{timesBorne}
 use Rattle.writing.specs.Pieces.{Piece, piecesOf}
 use Rattle.writing.specs.Written.{writtenCards, heldFor}
 use Rattle.writing.specs.Rules.{isName, isWritable}
@@ -108,3 +109,20 @@ owns-roled {name} (in-pieces cut l o) q on = owns-string name cut l o q on
 pub written-owned : (name : List ℕ) → isName name ≡ true → (text : List ℕ) (c : Comment) (q : Open) → (q ≡ ended → ⊥)
     → (v : Value) → isWritable v text c ≡ true → Owns name q (map roleOf (writtenCards v name text c))
 written-owned name good text c q on v e = owns-roled (written-roles name good text c v e) q on
+
+-- ---- and one of them bears it: an entry does, and CONTINUE cards do not
+borne-more : (name : List ℕ) (ps : List Piece) → timesBorne name (map moreOf ps) ≡ 0
+unfolding timesBorne
+borne-more name [] = refl
+borne-more name (p ∷ ps) = borne-more name ps
+
+borne-roled : {name : List ℕ} {c : Comment} {v : Value} {text : List ℕ} {rs : List Role} → Roled name c v text rs
+    → timesBorne name rs ≡ 1
+unfolding timesBorne
+borne-roled {name} (alone shut) = rw (same-self name)
+borne-roled {name} (in-pieces final l o) = rw (same-self name)
+borne-roled {name} (in-pieces (goes-on {ps = ps} cut) l o) = rw (same-self name, borne-more name ps)
+
+pub written-once : (name : List ℕ) → isName name ≡ true → (text : List ℕ) (c : Comment) (v : Value) → isWritable v text c ≡ true
+    → timesBorne name (map roleOf (writtenCards v name text c)) ≡ 1
+written-once name good text c v e = borne-roled (written-roles name good text c v e)

@@ -1,4 +1,4 @@
--- `listing::list` meets its contract: the table so far, with what is left of the cards, gives the whole.
+-- `listing::list_over` meets its contract: the table so far, with what is left of the cards, gives the whole.
 use Prim.Native.Nat.{ℕ, _-_, _+_, _/_, _<_}
 use native.Mathlib.Omega.{arith}
 use mathlib.Core.Path.{_≡_, refl, sym, ap, _∙_}
@@ -27,21 +27,21 @@ use Rattle.listing.specs.declared.Course.the-variants.{On, Stops}
 use Rattle.listing.specs.Listing.{tabled, empty}
 use Rattle.listing.specs.Keys.{courseOf}
 use Rattle.listing.proofs.Rows.{ordered-none}
-use Rattle.listing.proofs.Placing.{IsEntry, Standing, start, standing-as, refused-length, first-long, last-long, at-end}
+use Rattle.listing.proofs.Placing.{IsEntry, Standing, start, standing-as, refused-length, at-end}
 use Rattle.listing.proofs.Placing.{on-refused, on-last, on-more, on-neutral, ready, on-entry}
-use Rattle.listing.proofs.list.Statement.{statement}
-use Rattle.listing.proofs.list.Tie as tie
+use Rattle.listing.proofs.list_over.Statement.{statement}
+use Rattle.listing.proofs.list_over.Tie as tie
 
 abbrev Inv-loop : tie.InvT-loop
-Inv-loop header cards first₀ last₀ keys₀ order₀ count₀ i₀ first last keys order count i =
-    Standing header first last keys order count i
+Inv-loop header first₀ last₀ times₀ cards keys₀ order₀ count₀ i₀ first last times keys order count i =
+    Standing header first last times keys order count i
 
 abbrev μ-loop : tie.MeasureT-loop
-μ-loop header cards first₀ last₀ keys₀ order₀ count₀ i₀ first last keys order count i = cards - i
+μ-loop header first₀ last₀ times₀ cards keys₀ order₀ count₀ i₀ first last times keys order count i = cards - i
 
 -- the number of cards
 abbrev counted : tie.At-loop Inv-loop μ-loop → tie.After-card-count Inv-loop μ-loop
-counted c = c .before .before
+counted c = c .before .before .before .before .before .before
 
 abbrev header : tie.At-loop Inv-loop μ-loop → List ℕ
 header c = counted c .before .before .args .header .now
@@ -52,7 +52,7 @@ good c =
     count-some (length h) (λ e. c .if1 .left (c .before .card-count .ensures ∙ e))
 
 all : (c : tie.At-loop Inv-loop μ-loop) → counted c .card-count .result ≡ length (header c) / 80
-all c = counted c .card-count .ensures ∙ count-is (length (header c)) (good (c .before))
+all c = counted c .card-count .ensures ∙ count-is (length (header c)) (good (c .before .before .before .before .before))
 
 -- at a card: where the loop stands, and what the card is
 abbrev at : tie.After-course-of Inv-loop μ-loop → tie.At-loop Inv-loop μ-loop
@@ -62,7 +62,7 @@ abbrev number : tie.After-course-of Inv-loop μ-loop → ℕ
 number c = at c .loop .i
 
 standing : (c : tie.After-course-of Inv-loop μ-loop) → let l = at c .loop in
-    Standing (header (at c)) (l .first) (l .last) (l .keys) (l .order) (l .count) (l .i)
+    Standing (header (at c)) (l .first) (l .last) (l .times) (l .keys) (l .order) (l .count) (l .i)
 standing c = at c .loop .inv
 
 more : (c : tie.After-course-of Inv-loop μ-loop) → number c < length (header (at c)) / 80
@@ -89,10 +89,10 @@ is-last T.Neutral o e = absurd (let z : _≡_ {A = ℕ} 0 1 = cc in omega arith)
 is-last T.Last o e = refl
 is-last (T.Refused f) o e = absurd (miss (0 ∷ 1 ∷ 2 ∷ 3 ∷ []) 4 tt o)
 
-module _ {h first last keys order : List ℕ} {count i : ℕ} (S : Standing h first last keys order count i) (next : i < length h / 80)
-    (r : CardRead) where
+module _ {h first last times keys order : List ℕ} {count i : ℕ} (S : Standing h first last times keys order count i)
+    (next : i < length h / 80) (r : CardRead) where
   -- a card that is no entry changes nothing
-  passed : (t : Told) → courseOf t ≡ On false → roleIn t r ≡ roleNo h i → Standing h first last keys order count (i + 1)
+  passed : (t : Told) → courseOf t ≡ On false → roleIn t r ≡ roleNo h i → Standing h first last times keys order count (i + 1)
   passed (T.Entry v joins) e is = absurd (let z : _≡_ {A = ℕ} 0 1 = cc in omega arith)
   passed T.More e is = on-more S next (bytesOf (r .text)) (commentOf (r .commented) (bytesOf (r .comment))) is
   passed T.Neutral e is = on-neutral S next is
@@ -142,7 +142,7 @@ refused-requires c κs = search needs
 
 returns : tie.Need-returns Inv-loop μ-loop
 returns c =
-    let stop = c .before in
+    let stop = c .before .before .before .before in
     let test = stop .before .before in
     let h = test .before .before .before .args .header .now in
     c .refused .ensures
@@ -150,8 +150,13 @@ returns c =
     (stop .stop-at .ensures ∙ ap (λ (f : Fault). stopAt f 0) (stop .before .fault-of .ensures))
     ∙ refused-length h (count-none (length h) (sym (test .before .card-count .ensures) ∙ test .if1 .taken))
 
+free-all-requires : tie.Need-free-all-requires Inv-loop μ-loop
+free-all-requires c κs = search needs
+
 loop-holds : tie.Need-loop-holds Inv-loop μ-loop
-loop-holds c = start _ _ _ _ _ (good c) refl refl (ordered-none _ _ refl refl)
+loop-holds c =
+    let freed = c .free-all .ensures in
+    start _ _ _ _ _ _ (good (c .before .before .before .before)) (freed .0) (freed .1) (freed .2) (ordered-none _ _ refl refl)
 
 card-at-requires : tie.Need-card-at-requires Inv-loop μ-loop
 card-at-requires c κs = search needs
@@ -176,7 +181,14 @@ returns-2 c =
     let co = c .before .before .before in
     let S = standing co in
     let end = is-last (told co) (c .match2 .keys2) (sym (co .course-of .ensures) ∙ c .before .enum-told .given .1) in
-    (λ j. record { header = Accepted (number co); first = S .first-is j; last = S .last-is j; count = S .count-is j })
+    (λ j.
+    record {
+      header = Accepted (number co);
+      first = S .first-in .is j;
+      last = S .last-in .is j;
+      times = S .times-in .is j;
+      count = sym (S .first-in .long) j;
+    })
     ∙ on-last S (more co) (role-so co T.Last end)
 
 stop-at-requires-2 : tie.Need-stop-at-requires-2 Inv-loop μ-loop
@@ -187,7 +199,7 @@ refused-requires-2 c κs = search needs
 
 returns-3 : tie.Need-returns-3 Inv-loop μ-loop
 returns-3 c =
-    let stop = c .before in
+    let stop = c .before .before .before .before in
     let known = stop .before .before in
     let co = known .before .before .before .before in
     let f = known .role .given .0 .0 in
@@ -196,20 +208,15 @@ returns-3 c =
     ∙ on-refused (standing co) (more co) f (role-so co (T.Refused f) (known .role .given .1))
 
 slice-aggregate-enter : tie.Need-slice-aggregate-enter Inv-loop μ-loop
-slice-aggregate-enter c = sym (first-long (standing (c .before .before .before .before .before)))
+slice-aggregate-enter c = sym (standing (c .before .before .before .before .before .before .before .before) .ordered .keys-long)
 
 slice-aggregate-enter-2 : tie.Need-slice-aggregate-enter-2 Inv-loop μ-loop
-slice-aggregate-enter-2 c = sym (last-long (standing (c .before .before .before .before .before .before)))
-
-slice-aggregate-enter-3 : tie.Need-slice-aggregate-enter-3 Inv-loop μ-loop
-slice-aggregate-enter-3 c = sym (standing (c .before .before .before .before .before .before .before) .ordered .keys-long)
-
-slice-aggregate-enter-4 : tie.Need-slice-aggregate-enter-4 Inv-loop μ-loop
-slice-aggregate-enter-4 c = sym (standing (c .before .before .before .before .before .before .before .before) .ordered .order-long)
+slice-aggregate-enter-2 c =
+    sym (standing (c .before .before .before .before .before .before .before .before .before) .ordered .order-long)
 
 enter-requires : tie.Need-enter-requires Inv-loop μ-loop
 enter-requires c κs =
-    let co = c .before .before .before .before .before .before .before .before in
+    let co = c .before .before .before .before .before .before .before .before .before in
     ready (standing co) (more co)
 
 add-i : tie.Need-add-i Inv-loop μ-loop
@@ -230,9 +237,10 @@ loop-again c =
     → courseOf (told co) ≡ On false = λ e. sym (co .course-of .ensures) ∙ course false e in
     ⊎-elim
     (λ w.
-    standing-as (w .10) (w .11) (w .12) (w .13) (w .14) (on-entry S (more co) (own co (course true (w .0 .taken))) (w .5 .ensures)))
+    standing-as (w .9) (w .10) (w .11) (w .12) (w .13) (w .14)
+    (on-entry S (more co) (own co (course true (w .0 .taken))) (w .6 .ensures)))
     (λ w.
-    standing-as (w .1) (w .2) (w .3) (w .4) (w .5)
+    standing-as (w .1) (w .2) (w .3) (w .4) (w .5) (w .6)
     (passed S (more co) (read co) (told co) (other (w .0 .left)) (role-so co (told co) refl)))
     (c .if2 .came)
 
@@ -247,7 +255,7 @@ refused-requires-3 c κs = search needs
 
 returns-4 : tie.Need-returns-4 Inv-loop μ-loop
 returns-4 c =
-    let stop = c .before in
+    let stop = c .before .before .before .before in
     let past = stop .before .before in
     let at-loop = past .before in
     let n = counted at-loop .card-count .result in
@@ -257,8 +265,8 @@ returns-4 c =
     ∙ ap (λ (k : ℕ). tabled (Refused (stopAt (faultOf R.NoEnd) k)) empty) (all at-loop)
     ∙ at-end (at-loop .loop .inv) (omega (arith, past .loop-test .left, all at-loop))
 
-pub list-spec : {M : Type 1} → statement M
-list-spec =
+pub list-over-spec : {M : Type 1} → statement M
+list-over-spec =
     tie.close
     (tie.spec
     Inv-loop
@@ -268,6 +276,7 @@ list-spec =
     stop-at-requires
     refused-requires
     returns
+    free-all-requires
     loop-holds
     card-at-requires
     role-of-requires
@@ -281,8 +290,6 @@ list-spec =
     returns-3
     slice-aggregate-enter
     slice-aggregate-enter-2
-    slice-aggregate-enter-3
-    slice-aggregate-enter-4
     enter-requires
     add-i
     loop-less
