@@ -23,7 +23,7 @@ use Rattle.numerals.proofs.Decimals.{some-digits}
 use Rattle.refusal.specs.declared.Fault.{Fault}
 use Rattle.refusal.specs.Numbers.{numberOf}
 use Rattle.lines.specs.declared.Line.the-variants.{Written, Short}
-use Rattle.lines.specs.Lines.{kindLetter, readingOf, spacedReading, entryLine, countLine, columnPart, refusedLine}
+use Rattle.lines.specs.Lines.{kindLetter, readingOf, spacedReading, timesPart, entryLine, countLine, columnPart, refusedLine}
 use Rattle.lines.specs.Lines.{lineOutcome, laid}
 use Rattle.lines.specs.Segments.{lineHead, middleOf, middleBytes, readingTail}
 
@@ -56,20 +56,23 @@ segments Invalid digits [] = refl
 segments Invalid digits (b ∷ text) = append-nil (ascii " X " ++ b ∷ text)
 
 -- the segments of the three lines, as texts that were made of them
-pub entry-segments : {head tail : Text} (name : List ℕ) (v : Value) (digits text middle : List ℕ)
+pub entry-segments : {head tail : Text} (name : List ℕ) (v : Value) (digits text middle : List ℕ) (n : ℕ)
     → head ≡ textOf (lineHead v (isEmpty text)) → middle ≡ middleBytes (middleOf v) digits text
-    → tail ≡ textOf (readingTail v (isEmpty digits))
-    → name ++ bytesOf head ++ middle ++ bytesOf tail ++ lineFeed ∷ [] ≡ entryLine name v digits text
+    → tail ≡ textOf (readingTail v (isEmpty digits) ++ timesPart n)
+    → name ++ bytesOf head ++ middle ++ bytesOf tail ++ lineFeed ∷ [] ≡ entryLine name v digits text n
 unfolding entryLine
-entry-segments name v digits text middle p e q =
+entry-segments name v digits text middle n p e q =
     let h = lineHead v (isEmpty text) in
     let m = middleBytes (middleOf v) digits text in
     let t = readingTail v (isEmpty digits) in
+    let times = timesPart n in
     let reading = kindLetter v ∷ spacedReading (readingOf v digits text) in
     let parted : name ++ h ++ m ++ t ≡ name ++ ascii " " ++ reading =
     ap (λ (l : List ℕ). l ++ t) (append-assoc name h m) ∙ append-assoc name (h ++ m) t
     ∙ ap (λ (l : List ℕ). name ++ l) (segments v digits text) ∙ sym (append-assoc name (ascii " ") reading) in
-    (λ j. name ++ text-bytes h p j ++ e j ++ text-bytes t q j ++ lineFeed ∷ []) ∙ ap (λ (l : List ℕ). l ++ lineFeed ∷ []) parted
+    let numbered = sym (append-assoc (name ++ h ++ m) t times) ∙ ap (λ (l : List ℕ). l ++ times) parted in
+    (λ j. name ++ text-bytes h p j ++ e j ++ text-bytes (t ++ times) q j ++ lineFeed ∷ [])
+    ∙ ap (λ (l : List ℕ). l ++ lineFeed ∷ []) numbered
 
 pub count-segments : (n : ℕ) {count none : Text} → count ≡ textOf (decimalDigits n) → none ≡ textOf []
     → bytesOf count ++ bytesOf none ++ ascii " keywords" ++ bytesOf none ++ lineFeed ∷ [] ≡ countLine n

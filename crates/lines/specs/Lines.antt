@@ -1,9 +1,10 @@
 -- The lines that the program `cards` prints (SPECIFICATION 13).
 use Prim.Native.Char.{code}
-use Prim.Native.Nat.{ℕ}
+use Prim.Native.Nat.{ℕ, _≤_}
+use mathlib.Core.Path.{_≡_}
 use mathlib.Core.Bool.{Bool, cond}
 use mathlib.Core.List.{List, [], _∷_, _++_}
-use lib.Dec.{leb}
+use lib.Dec.{ltb, leb}
 use lib.ListN.{length}
 use lib.Seq.{sets}
 use Rattle.refusal.specs.declared.Column.{Column}
@@ -19,7 +20,7 @@ use Rattle.numerals.specs.Numerals.{decimalDigits, minusOf, signedDigits, finit
 use Rattle.lines.specs.declared.Line.{Line}
 use Rattle.lines.specs.declared.Line.the-variants.{Written, Short}
 
--- ---- an entry: name, kind and reading, with single spaces
+-- ---- an entry: name, kind, reading, and how many cards bear the name, with single spaces
 
 abbrev pub kindLetter : Value → ℕ
 kindLetter (Integer z) = code "I"
@@ -52,8 +53,21 @@ abbrev pub spacedReading : List ℕ → List ℕ
 spacedReading [] = []
 spacedReading (b ∷ s) = ascii " " ++ b ∷ s
 
-unfoldable pub entryLine : List ℕ → Value → List ℕ → List ℕ → List ℕ
-entryLine name v digits text = name ++ ascii " " ++ kindLetter v ∷ spacedReading (readingOf v digits text) ++ lineFeed ∷ []
+-- x and the number, where it is above 1
+abbrev pub timesPart : ℕ → List ℕ
+timesPart n = cond (ltb 1 n) (ascii " x" ++ decimalDigits n) []
+
+unfoldable pub entryLine : List ℕ → Value → List ℕ → List ℕ → ℕ → List ℕ
+entryLine name v digits text n =
+    name ++ ascii " " ++ kindLetter v ∷ spacedReading (readingOf v digits text) ++ timesPart n ++ lineFeed ∷ []
+
+-- the line without the number, which is that of a name that one card bears
+unfoldable pub plainLine : List ℕ → Value → List ℕ → List ℕ → List ℕ
+plainLine name v digits text = name ++ ascii " " ++ kindLetter v ∷ spacedReading (readingOf v digits text) ++ lineFeed ∷ []
+
+abbrev pub PlainOnce : Type 0
+PlainOnce =
+    (name : List ℕ) (v : Value) (digits text : List ℕ) (n : ℕ) → n ≤ 1 → entryLine name v digits text n ≡ plainLine name v digits text
 
 -- ---- the count, and a refusal
 

@@ -1,9 +1,13 @@
 -- The segments that an entry's line is put together from, behind its name: a head, a middle and a tail. The line feed is last.
 use Prim.Native.Char.{code}
-use Prim.Native.Nat.{ℕ}
+use Prim.Native.Nat.{ℕ, _≤_}
+use mathlib.Core.Path.{_≡_}
 use mathlib.Core.Bool.{Bool, true, false, cond}
 use mathlib.Core.List.{List, []}
+use lib.ListN.{length}
+use Rattle.text.specs.declared.Text.{Text}
 use Rattle.text.specs.Bytes.{ascii}
+use Rattle.text.specs.Text.{textOf}
 use Rattle.numbers.specs.declared.Size.{Size}
 use Rattle.numbers.specs.declared.Size.the-variants.{Finite, Infinite, Nan}
 use Rattle.numbers.specs.declared.Value.{Value}
@@ -53,6 +57,15 @@ readingTail (Logical b) empty = logicalOf b
 readingTail String empty = []
 readingTail Undefined empty = []
 readingTail Invalid empty = []
+
+-- the longest tail is a power: its letter, a minus and 20 digits
+abbrev pub tailRoom : ℕ
+tailRoom = 22
+
+-- a tail as a text, in which there is room for the number of cards behind it
+pub record IsTail (t : Text) (tail : List ℕ) : Type 0 where
+  pub made : t ≡ textOf tail
+  pub short : length tail ≤ tailRoom
 
 -- three texts of 80 bytes and the line feed
 abbrev pub segmentRoom : ℕ

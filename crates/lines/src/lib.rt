@@ -3,15 +3,15 @@ ghost use mathlib.Core.Path.{_≡_};
 ghost use mathlib.Core.Bool.{cond};
 ghost use mathlib.Core.List.{[], _∷_, _++_};
 ghost use Prim.Native.Nat.{_+_, _≤_};
-ghost use lib.ListN.{length};
+ghost use lib.ListN.{length, take};
 ghost use lib.Seq.{sets};
 ghost use Rattle.text.specs.Bytes.{lineFeed};
 ghost use Rattle.text.specs.Text.{size, textOf, bytesOf};
 ghost use Rattle.numbers.specs.Digits.{isEmpty};
 ghost use Rattle.numerals.specs.Numerals.{decimalDigits};
 ghost use Rattle.refusal.specs.declared.Column.the-variants.{At};
-ghost use Rattle.lines.specs.Lines.{entryLine, countLine, columnPart, refusedLine, lineRoom, lineOutcome, laid};
-ghost use Rattle.lines.specs.Segments.{lineHead, middleOf, sizeTail, readingTail, segmentRoom};
+ghost use Rattle.lines.specs.Lines.{timesPart, entryLine, countLine, columnPart, refusedLine, lineRoom, lineOutcome, laid};
+ghost use Rattle.lines.specs.Segments.{lineHead, middleOf, sizeTail, readingTail, IsTail, segmentRoom};
 use numbers::Size;
 use numbers::Value;
 use refusal::Column;
@@ -31,18 +31,25 @@ pub enum Middle {
     Nothing,
 }
 
-// The line of an entry: its name, its kind and its reading. Beside a value stand the digits of a decimal and a text. A buffer of 321
-// bytes more than the text is long enough.
-pub fn entry_line(name: Text, value: Value, digits: Text, text: &[u8], out: &mut [u8]) -> Line
+// The line of an entry: its name, its kind, its reading, and how many cards bear the name where that is above 1. Beside a value stand the
+// digits of a decimal and a text. A buffer of 321 bytes more than the text is long enough.
+pub fn entry_line(
+    name: Text,
+    value: Value,
+    digits: Text,
+    text: &[u8],
+    times: usize,
+    out: &mut [u8],
+) -> Line
     ensures { λ r. ⌜ lineOutcome r (now (out .exit))
-        ≡ laid (entryLine (bytesOf name) value (bytesOf digits) (now (text .entry))) (now (out .entry)) ⌝ }
-    ensures { λ _. ⌜ length (entryLine (bytesOf name) value (bytesOf digits) (now (text .entry)))
+        ≡ laid (entryLine (bytesOf name) value (bytesOf digits) (now (text .entry)) times) (now (out .entry)) ⌝ }
+    ensures { λ _. ⌜ length (entryLine (bytesOf name) value (bytesOf digits) (now (text .entry)) times)
         ≤ lineRoom + length (now (text .entry)) ⌝ }
 {
     let own = digits.bytes;
     let shown = text::first_of(&own, digits.len);
     let head = head_of(value, is_empty(text));
-    let tail = tail_of(value, is_empty(shown));
+    let tail = both_of(tail_of(value, is_empty(shown)), times_text(times));
     match middle_of(value) {
         Middle::Digits => put_line(name, head, shown, tail, out),
         Middle::Words => put_line(name, head, text, tail, out),
@@ -72,15 +79,35 @@ pub fn refused_line(fault: Fault, card: usize, out: &mut [u8]) -> Line
     put_line(word, number, b" at ", place, out)
 }
 
-// ---- the place of a refusal
+// ---- texts of several parts
+
+// Two texts, one behind the other, as far as a text holds them.
+fn both_of(front: Text, behind: Text) -> Text
+    ensures { λ r. ⌜ r ≡ textOf (take size (bytesOf front ++ bytesOf behind)) ⌝ }
+{
+    let own = front.bytes;
+    let bytes = behind.bytes;
+    text::joined_text(
+        text::first_of(&own, front.len),
+        text::first_of(&bytes, behind.len),
+    )
+}
+
+// A space, x and the number of cards that bear a name, where it is above 1.
+fn times_text(times: usize) -> Text
+    ensures { λ r. ⌜ r ≡ textOf (timesPart times) ⌝ }
+{
+    if times <= 1 {
+        return text::empty_text();
+    }
+    both_of(text::text_of(b" x"), numerals::natural_text(times as u64))
+}
 
 // A colon, and a byte of a card.
 fn column_text(byte: usize) -> Text
     ensures { λ r. ⌜ r ≡ textOf (columnPart (At byte)) ⌝ }
 {
-    let digits = numerals::natural_text(byte as u64);
-    let bytes = digits.bytes;
-    text::joined_text(b":", text::first_of(&bytes, digits.len))
+    both_of(text::text_of(b":"), numerals::natural_text(byte as u64))
 }
 
 // A card's number, and its byte where there is a column.
@@ -88,14 +115,8 @@ fn place_text(card: usize, column: Column) -> Text
     ensures { λ r. ⌜ r ≡ textOf (decimalDigits card ++ columnPart column) ⌝ }
 {
     let number = numerals::natural_text(card as u64);
-    let own = number.bytes;
     match column {
-        Column::At(byte) => {
-            let front = text::first_of(&own, number.len);
-            let behind = column_text(byte);
-            let bytes = behind.bytes;
-            text::joined_text(front, text::first_of(&bytes, behind.len))
-        }
+        Column::At(byte) => both_of(number, column_text(byte)),
         Column::Absent => number,
     }
 }
@@ -153,7 +174,7 @@ fn middle_of(value: Value) -> Middle
 
 // What stands behind the digits of a float; `empty` says that it has none.
 fn tail_at(size: Size, empty: bool) -> Text
-    ensures { λ r. ⌜ r ≡ textOf (sizeTail size empty) ⌝ }
+    ensures { λ r. ⌜ IsTail r (sizeTail size empty) ⌝ }
 {
     match size {
         Size::Finite(power) => {
@@ -169,7 +190,7 @@ fn tail_at(size: Size, empty: bool) -> Text
 
 // What stands behind the middle.
 fn tail_of(value: Value, empty: bool) -> Text
-    ensures { λ r. ⌜ r ≡ textOf (readingTail value empty) ⌝ }
+    ensures { λ r. ⌜ IsTail r (readingTail value empty) ⌝ }
 {
     match value {
         Value::Integer(z) => numerals::integer_text(z),

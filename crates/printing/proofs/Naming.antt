@@ -4,10 +4,11 @@ use native.Mathlib.Nat.{add-assoc}
 use native.Mathlib.Omega.{arith}
 use mathlib.Core.Path.{_≡_, sym, ap, _∙_}
 use mathlib.Core.List.{List, [], _∷_, _++_}
+use mathlib.Core.Option.{Option}
 use borrow.Author.Tests.{le-leb}
 use lib.ListN.{length, getD, take, length-append, length-map}
 use lib.Seq.{sets, take-length, length-take-le}
-use Rattle.text.specs.Text.{filled, textOf, bytesOf}
+use Rattle.text.specs.Text.{textOf, bytesOf}
 use Rattle.card.specs.declared.CardRead.{CardRead}
 use Rattle.card.specs.Cards.{cardOf}
 use Rattle.roles.specs.declared.Role.{Role as Told}
@@ -23,14 +24,14 @@ use Rattle.entries.specs.declared.LookupAnswer.the-variants as L
 use Rattle.entries.specs.declared.ValueHalf.{ValueHalf}
 use Rattle.entries.specs.Halves.{Sought, heldIn, valueLeft, valueIn, valueNumbered}
 use Rattle.entries.proofs.Looking.{accepted-good}
-use Rattle.listing.specs.declared.Listing.{Listing}
-use Rattle.listing.specs.Listing.{places, free, nameOf, listOf}
+use Rattle.listing.specs.Listing.{free, nameOf, listOf}
+use Rattle.listing.proofs.Lengths.{all-places}
 use Rattle.lines.specs.Lines.{entryLine}
-use Rattle.agreeing.specs.Firsts.{firstsOf, lastsOf}
+use Rattle.agreeing.specs.Firsts.{timesBorne}
 use Rattle.agreeing.specs.Agreeing.{PlaceTaken, FoundIn, namesListed}
-use Rattle.agreeing.proofs.Agreed.{by-cards, sought-at, each-taken, each-standing, contents}
-use Rattle.agreeing.proofs.Fitting.{names-fit}
-use Rattle.agreeing.proofs.Naming.{at-map, filled-long, first-long, name-kth}
+use Rattle.agreeing.proofs.Agreed.{by-cards, sought-at, each-taken, each-standing}
+use Rattle.agreeing.proofs.Times.{times-at-place}
+use Rattle.agreeing.proofs.Naming.{at-map, first-long, name-kth}
 use Rattle.bounds.specs.Longest.{longestText, Short}
 use Rattle.bounds.proofs.Joined.{each-short}
 use Rattle.printing.specs.Output.{lineFor, nameLines, inOrder}
@@ -80,25 +81,24 @@ card-named h i n v e =
 
 -- ---- the name at place k of an accepted header
 module _ (h : List ℕ) (end : ℕ) (a : headerOf h ≡ Accepted end) where
-  -- its tables are long enough for every place
+  -- its arrays have a number for each name, and so a place
   pub last-long : listOf h .count ≤ length (listOf h .last)
-  last-long =
-      let is = contents h end a in
-      let count : listOf h .count ≡ length (firstsOf (rolesOf h)) = ap (λ (x : Listing). x .count) is in
-      let last : length (listOf h .last)
-      ≡ length (filled free places (lastsOf (rolesOf h))) = ap (λ (x : Listing). length (x .last)) is in
-      let same : length (lastsOf (rolesOf h)) ≡ length (firstsOf (rolesOf h)) = length-map (firstsOf (rolesOf h)) _ in
-      omega (arith, count, last, same, filled-long free places (lastsOf (rolesOf h)))
+  last-long = let all = all-places h in omega (arith, all .last, all .few)
+
+  pub times-long : listOf h .count ≤ length (listOf h .times)
+  times-long = let all = all-places h in omega (arith, all .times, all .few)
 
   pub few-names : listOf h .count ≤ 720
-  few-names = let fit = names-fit h end a in omega (arith, fit .0, fit .1)
+  few-names = all-places h .few
 
   -- a line for each name
+  abbrev lined : List ℕ → List ℕ
+  lined n = lineFor n (lookup n (rolesOf h)) (timesBorne n (rolesOf h))
+
   pub as-many : length (nameLines h) ≡ listOf h .count
   as-many =
       let firsts = take (listOf h .count) (listOf h .first) in
       let named : ℕ → List ℕ = λ i. nameOf (getD (rolesOf h) i neutral) in
-      let lined : List ℕ → List ℕ = λ n. lineFor n (lookup n (rolesOf h)) in
       length-map (namesListed h) lined
       ∙ length-map firsts named
       ∙ length-take-le (listOf h .count) (listOf h .first) (first-long h end a)
@@ -133,13 +133,17 @@ module _ (h : List ℕ) (end : ℕ) (a : headerOf h ≡ Accepted end) where
         ∙ rw (le-leb (length (value .words .text)) (length text) (omega (arith, short .text)))
 
     -- the line is one of the header's
-    pub line-is : getD (nameLines h) k [] ≡ entryLine name (value .value) (value .digits) (value .words .text)
+    pub line-is : getD (nameLines h) k []
+        ≡ entryLine name (value .value) (value .digits) (value .words .text) (timesBorne name (rolesOf h))
     line-is =
-        let lined : List ℕ → List ℕ = λ n. lineFor n (lookup n (rolesOf h)) in
         let names-long : k < length (namesListed h) = omega (arith, p, as-many, length-map (namesListed h) lined) in
-        at-map (λ (n : List ℕ). lineFor n (lookup n (rolesOf h))) (namesListed h) k [] [] names-long
-        ∙ ap (λ (n : List ℕ). lineFor n (lookup n (rolesOf h))) (name-kth h end a name k (taken .stands))
-        ∙ ap (lineFor name) (found .is)
+        at-map lined (namesListed h) k [] [] names-long
+        ∙ ap lined (name-kth h end a name k (taken .stands))
+        ∙ ap (λ (o : Option Held). lineFor name o (timesBorne name (rolesOf h))) (found .is)
+
+    -- and the number at the place is its own
+    pub number-is : getD (listOf h .times) k 0 ≡ timesBorne name (rolesOf h)
+    number-is = times-at-place h end a name k (taken .stands)
 
     -- a text that fits its buffer
     pub text-fits : length (value .words .text) ≤ longestText

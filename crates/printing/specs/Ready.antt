@@ -11,12 +11,13 @@ use Rattle.lines.specs.declared.Line.the-variants.{Written, Short}
 use Rattle.lines.specs.Lines.{lineRoom}
 use Rattle.bounds.specs.Longest.{longestText}
 
--- the header is accepted, and these are the first cards and the last entries of its list
-pub record IsListed (h first last : List ℕ) : Type 0 where
+-- the header is accepted, and these are the first cards, the last entries and the numbers of its list
+pub record IsListed (h first last times : List ℕ) : Type 0 where
   pub end : ℕ
   pub accepted : headerOf h ≡ Accepted end
   pub first-cards : first ≡ listOf h .first
   pub last-entries : last ≡ listOf h .last
+  pub how-often : times ≡ listOf h .times
 
 -- two buffers that every text and every line of a header fits in
 pub record IsWide (text line : List ℕ) : Type 0 where

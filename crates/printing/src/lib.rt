@@ -1,5 +1,6 @@
-// Prints a header's names, each with its kind and reading, and their count; or its refusal (SPECIFICATION 13). Each line is proved up
-// to its write, and none is left out: the buffers hold every line that a header can give, and a write that fails is answered.
+// Prints a header's names, each with its kind, its reading and, above 1, how many cards bear it, and their count; or its refusal
+// (SPECIFICATION 13). Each line is proved up to its write, and none is left out: the buffers hold every line that a header can give, and
+// a write that fails is answered.
 ghost use mathlib.Core.Path.{_≡_};
 ghost use mathlib.Core.List.{[], _++_, map};
 ghost use Prim.Native.Nat.{_<_, _≤_};
@@ -28,18 +29,15 @@ pub fn print_header(header: &[u8], escaped: bool) -> Report
     ensures { λ r. ⌜ (r .header ≡ headerOf (now (header .entry)))
         × IsWhole (r .printed) (printedOf escaped (now (header .entry))) ⌝ }
 {
-    let listing = listing::list(header);
-    let answer = listing.header;
+    let mut first: [usize; 720] = [0; 720];
+    let mut last: [usize; 720] = [0; 720];
+    let mut times: [usize; 720] = [0; 720];
+    let listed = listing::list_over(header, &mut first, &mut last, &mut times);
+    let answer = listed.header;
     match answer {
         Header::Accepted(_) => Report {
             header: answer,
-            printed: print_names(
-                header,
-                &listing.first,
-                &listing.last,
-                listing.count,
-                escaped,
-            ),
+            printed: print_names(header, &first, &last, &times, listed.count, escaped),
         },
         Header::Refused(stop) => Report {
             header: answer,
@@ -62,10 +60,11 @@ fn print_names<'a>(
     header: &[u8],
     first: &'a [usize],
     last: &'a [usize],
+    times: &'a [usize],
     count: usize,
     escaped: bool,
 ) -> Printed
-    requires { ⌜ IsListed (now header) (now first) (now last) × (count ≡ listOf (now header) .count) ⌝ }
+    requires { ⌜ IsListed (now header) (now first) (now last) (now times) × (count ≡ listOf (now header) .count) ⌝ }
     ensures { λ r. ⌜ IsWhole r (inOrder (map (printedLine escaped) (nameLines (now (header .entry))))
         ++ printedLine escaped (countLine count)) ⌝ }
 {
@@ -74,7 +73,7 @@ fn print_names<'a>(
     let mut printed = 0;
     let mut k = 0;
     while k < count {
-        let n = name_part(header, first, last, k, &mut text, &mut line);
+        let n = name_part(header, first, last, times, k, &mut text, &mut line);
         let Printed::Whole(written) = output::write_line(
             STDOUT_FILENO,
             text::first_of(&line, n),
@@ -119,11 +118,13 @@ fn name_part(
     header: &[u8],
     first: &[usize],
     last: &[usize],
+    times: &[usize],
     k: usize,
     text: &mut [u8],
     line: &mut [u8],
 ) -> usize
-    requires { ⌜ IsListed (now header) (now first) (now last) × (k < listOf (now header) .count) × IsWide (now text) (now line) ⌝ }
+    requires { ⌜ IsListed (now header) (now first) (now last) (now times) × (k < listOf (now header) .count)
+        × IsWide (now text) (now line) ⌝ }
     ensures { λ r. ⌜ Front r (now (line .exit)) (getD (nameLines (now (header .entry))) k []) ⌝ }
 {
     let card = roles::card_at(header, first[k]);
@@ -135,7 +136,7 @@ fn name_part(
     let name = card.name;
     let digits = looked.digits;
     let shown = text::first_of(text, looked.text);
-    length_of(lines::entry_line(name, value, digits, shown, line))
+    length_of(lines::entry_line(name, value, digits, shown, times[k], line))
 }
 
 // How many bytes a line has that was written.

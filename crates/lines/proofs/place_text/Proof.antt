@@ -3,14 +3,13 @@ use native.Mathlib.Omega.{arith}
 use mathlib.Core.Path.{_≡_, sym, ap, _∙_}
 use mathlib.Core.List.{_++_, append-nil}
 use borrow.Author.Needs.{needs}
-use lib.ListN.{take}
 use Rattle.refusal.specs.declared.Column.{Column}
 use Rattle.refusal.specs.declared.Column.the-variants.{At}
-use Rattle.text.specs.Text.{size, textOf}
-use Rattle.text.proofs.Texts.{text-bytes}
+use Rattle.text.specs.Text.{textOf}
 use Rattle.numerals.specs.Numerals.{decimalDigits}
-use Rattle.numerals.proofs.Decimals.{few-digits, text-before}
+use Rattle.numerals.proofs.Decimals.{few-digits}
 use Rattle.lines.specs.Lines.{columnPart}
+use Rattle.lines.proofs.Parts.{both-whole}
 use Rattle.lines.proofs.place_text.Statement.{statement}
 use Rattle.lines.proofs.place_text.Tie as tie
 
@@ -25,45 +24,30 @@ natural-text-requires c κs = search needs
 enum-known-column : tie.Need-enum-known-column
 enum-known-column c = search needs
 
-slice-aggregate-first-of : tie.Need-slice-aggregate-first-of
-slice-aggregate-first-of c = search needs
-
-first-of-requires : tie.Need-first-of-requires
-first-of-requires c κs = search needs
-
 column-text-requires : tie.Need-column-text-requires
 column-text-requires c κs = search needs
 
-slice-aggregate-first-of-2 : tie.Need-slice-aggregate-first-of-2
-slice-aggregate-first-of-2 c = search needs
-
-first-of-requires-2 : tie.Need-first-of-requires-2
-first-of-requires-2 c κs = search needs
-
-joined-text-requires : tie.Need-joined-text-requires
-joined-text-requires c κs = search needs
+both-of-requires : tie.Need-both-of-requires
+both-of-requires c κs = search needs
 
 enum-told : tie.Need-enum-told
 enum-told c = search needs
 
 returns : tie.Need-returns
 returns c =
-    let made = c .before .before .before .before in
-    let part = made .before in
-    let known = part .before .before .before in
-    let number = known .before .before .before in
+    let part = c .before in
+    let known = part .before .before in
+    let number = known .before .before in
     let card = number .before .args .card in
     let byte = known .column .given .0 .0 in
-    let front = part .first-of .ensures ∙ text-bytes (decimalDigits card) (number .natural-text .ensures) in
-    let behind = c .before .first-of2 .ensures in
-    c .joined-text .ensures ∙ (λ j. textOf (take size (front j ++ behind j)))
-    ∙ text-before (decimalDigits card) (columnPart (At byte)) (made .column-text .ensures)
+    c .both-of .ensures
+    ∙ both-whole (decimalDigits card) (columnPart (At byte)) (number .natural-text .ensures) (part .column-text .ensures)
     (omega (arith, few-digits card (omega arith), few-digits byte (omega arith)))
     ∙ by-column (number .before) (known .column .given .1)
 
 returns-2 : tie.Need-returns-2
 returns-2 c =
-    let number = c .before .before .before in
+    let number = c .before .before in
     let card = number .before .args .card in
     number .natural-text .ensures ∙ sym (ap textOf (append-nil (decimalDigits card)))
     ∙ by-column (number .before) (c .enum-told .given .1)
@@ -74,12 +58,8 @@ place-text-spec =
     (tie.spec
     natural-text-requires
     enum-known-column
-    slice-aggregate-first-of
-    first-of-requires
     column-text-requires
-    slice-aggregate-first-of-2
-    first-of-requires-2
-    joined-text-requires
+    both-of-requires
     enum-told
     returns
     returns-2)

@@ -1,25 +1,25 @@
 -- `lines::tail_at` meets its contract, by the sizes of a float.
 use Prim.Native.Char.{code}
-use mathlib.Core.Path.{_≡_, sym, ap, ap₂, _∙_}
+use native.Mathlib.Omega.{arith}
+use mathlib.Core.Path.{_≡_, refl, sym, ap, ap₂, subst, _∙_}
 use mathlib.Core.Bool.{Bool}
 use borrow.Author.Needs.{needs}
 use lib.IntN.{ℤ}
 use mir.Syntax.{w64}
+use mir.Val.{SFits}
 use mir.Facts.{toZ-ofZ}
+use Rattle.text.specs.declared.Text.{Text}
 use Rattle.text.specs.Text.{textOf}
 use Rattle.numbers.specs.declared.Size.{Size}
 use Rattle.numerals.specs.Numerals.{powerText}
-use Rattle.lines.specs.Segments.{sizeTail}
+use Rattle.numerals.proofs.Decimals.{few-signed}
+use Rattle.lines.specs.Segments.{sizeTail, IsTail}
 use Rattle.lines.proofs.tail_at.Statement.{statement}
 use Rattle.lines.proofs.tail_at.Tie as tie
 
 -- the size that an arm knows is the float's, and so with the digits that are there or not
-by-size : (s : tie.Start) {v : Size} → s .args .size ≡ v
-    → textOf (sizeTail v (s .args .empty)) ≡ textOf (sizeTail (s .args .size) (s .args .empty))
-by-size s e = sym (ap (λ (v : Size). textOf (sizeTail v (s .args .empty))) e)
-
-by-both : {u v : Size} {t empty : Bool} → u ≡ v → t ≡ empty → textOf (sizeTail v empty) ≡ textOf (sizeTail u t)
-by-both e f = sym (ap₂ (λ (v : Size) (t : Bool). textOf (sizeTail v t)) e f)
+by-both : {u v : Size} {t empty : Bool} {r : Text} → u ≡ v → t ≡ empty → IsTail r (sizeTail v empty) → IsTail r (sizeTail u t)
+by-both {r = r} e f = subst (IsTail r) (sym (ap₂ sizeTail e f))
 
 enum-known-size : tie.Need-enum-known-size
 enum-known-size c = search needs
@@ -31,7 +31,9 @@ text-of-requires : tie.Need-text-of-requires
 text-of-requires c κs = search needs
 
 returns : tie.Need-returns
-returns c = c .text-of .ensures ∙ by-both (c .before .before .before .before .size .given .1) (c .before .before .if1 .taken)
+returns c =
+    by-both (c .before .before .before .before .size .given .1) (c .before .before .if1 .taken)
+    (record { made = c .text-of .ensures; short = omega arith })
 
 power-text-requires : tie.Need-power-text-requires
 power-text-requires c κs = search needs
@@ -57,15 +59,21 @@ text-of-requires-3 c κs = search needs
 returns-2 : tie.Need-returns-2
 returns-2 c =
     let told = c .before .before in
-    let same = toZ-ofZ {w = w64} {z = told .before .size .given .0 .0} (record { sfits = told .known-told .given .0 .1 }) in
-    c .power-text .ensures ∙ ap (λ (z : ℤ). textOf (powerText (code "e") z)) same
-    ∙ by-both (told .before .size .given .1) (c .before .if1 .left)
+    let power = told .before .size .given .0 .0 in
+    let fits : SFits w64 power = record { sfits = told .known-told .given .0 .1 } in
+    by-both (told .before .size .given .1) (c .before .if1 .left)
+    (record {
+      made = c .power-text .ensures ∙ ap (λ (z : ℤ). textOf (powerText (code "e") z)) (toZ-ofZ fits);
+      short = omega (arith, few-signed power fits);
+    })
 
 returns-3 : tie.Need-returns-3
-returns-3 c = c .text-of2 .ensures ∙ by-size (c .before .before .before .before) (c .before .before .enum-told .given .1)
+returns-3 c =
+    by-both (c .before .before .enum-told .given .1) refl (record { made = c .text-of2 .ensures; short = omega arith })
 
 returns-4 : tie.Need-returns-4
-returns-4 c = c .text-of3 .ensures ∙ by-size (c .before .before .before .before) (c .before .before .enum-told2 .given .1)
+returns-4 c =
+    by-both (c .before .before .enum-told2 .given .1) refl (record { made = c .text-of3 .ensures; short = omega arith })
 
 pub tail-at-spec : {M : Type 1} → statement M
 tail-at-spec =

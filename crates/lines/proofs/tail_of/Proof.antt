@@ -1,20 +1,36 @@
 -- `lines::tail_of` meets its contract, by the kinds of value.
-use mathlib.Core.Path.{_≡_, sym, ap, _∙_}
+use Prim.Native.Nat.{_≤_}
+use native.Mathlib.Omega.{arith}
+use mathlib.Core.Path.{_≡_, sym, ap, subst, _∙_}
+use mathlib.Core.Bool.{Bool, true, false}
+use mathlib.Core.List.{[]}
 use borrow.Author.Needs.{needs}
 use lib.IntN.{ℤ}
+use lib.ListN.{length}
 use mir.Syntax.{w64}
+use mir.Val.{SFits}
 use mir.Facts.{toZ-ofZ}
+use Rattle.text.specs.declared.Text.{Text}
 use Rattle.text.specs.Text.{textOf}
 use Rattle.numbers.specs.declared.Value.{Value}
 use Rattle.numerals.specs.Numerals.{signedDigits}
-use Rattle.lines.specs.Segments.{readingTail}
+use Rattle.numerals.proofs.Decimals.{few-signed}
+use Rattle.lines.specs.Lines.{logicalOf}
+use Rattle.lines.specs.Segments.{readingTail, tailRoom, IsTail}
 use Rattle.lines.proofs.tail_of.Statement.{statement}
 use Rattle.lines.proofs.tail_of.Tie as tie
 
 -- the kind that an arm knows is the value's
-by-kind : (s : tie.Start) {v : Value} → s .args .value ≡ v
-    → textOf (readingTail v (s .args .empty)) ≡ textOf (readingTail (s .args .value) (s .args .empty))
-by-kind s e = sym (ap (λ (v : Value). textOf (readingTail v (s .args .empty))) e)
+by-kind : (s : tie.Start) {v : Value} {r : Text} → s .args .value ≡ v → IsTail r (readingTail v (s .args .empty))
+    → IsTail r (readingTail (s .args .value) (s .args .empty))
+by-kind s {r = r} e = subst (λ (v : Value). IsTail r (readingTail v (s .args .empty))) (sym e)
+
+no-tail : {r : Text} → r ≡ textOf [] → IsTail r []
+no-tail e = record { made = e; short = omega arith }
+
+short-logical : (t : Bool) → length (logicalOf t) ≤ tailRoom
+short-logical true = omega arith
+short-logical false = omega arith
 
 enum-known-value : tie.Need-enum-known-value
 enum-known-value c = search needs
@@ -61,28 +77,33 @@ empty-text-requires-3 c κs = search needs
 returns : tie.Need-returns
 returns c =
     let told = c .before in
-    let same = toZ-ofZ {w = w64} {z = told .before .value .given .0 .0} (record { sfits = told .known-told .given .0 .1 }) in
-    c .integer-text .ensures ∙ ap (λ (z : ℤ). textOf (signedDigits z)) same
-    ∙ by-kind (told .before .before .before) (told .before .value .given .1)
+    let z = told .before .value .given .0 .0 in
+    let fits : SFits w64 z = record { sfits = told .known-told .given .0 .1 } in
+    by-kind (told .before .before .before) (told .before .value .given .1)
+    (record {
+      made = c .integer-text .ensures ∙ ap (λ (z : ℤ). textOf (signedDigits z)) (toZ-ofZ fits);
+      short = omega (arith, few-signed z fits);
+    })
 
 returns-2 : tie.Need-returns-2
 returns-2 c =
     let known = c .before .before in
-    c .tail-at .ensures ∙ by-kind (known .before .before) (known .value2 .given .1)
+    by-kind (known .before .before) (known .value2 .given .1) (c .tail-at .ensures)
 
 returns-3 : tie.Need-returns-3
 returns-3 c =
     let known = c .before .before .before .before in
-    c .one-of .ensures ∙ by-kind (known .before .before) (known .value3 .given .1)
+    by-kind (known .before .before) (known .value3 .given .1)
+    (record { made = c .one-of .ensures; short = short-logical (known .value3 .given .0 .0) })
 
 returns-4 : tie.Need-returns-4
-returns-4 c = c .empty-text .ensures ∙ by-kind (c .before .before .before) (c .before .enum-told .given .1)
+returns-4 c = by-kind (c .before .before .before) (c .before .enum-told .given .1) (no-tail (c .empty-text .ensures))
 
 returns-5 : tie.Need-returns-5
-returns-5 c = c .empty-text2 .ensures ∙ by-kind (c .before .before .before) (c .before .enum-told2 .given .1)
+returns-5 c = by-kind (c .before .before .before) (c .before .enum-told2 .given .1) (no-tail (c .empty-text2 .ensures))
 
 returns-6 : tie.Need-returns-6
-returns-6 c = c .empty-text3 .ensures ∙ by-kind (c .before .before .before) (c .before .enum-told3 .given .1)
+returns-6 c = by-kind (c .before .before .before) (c .before .enum-told3 .given .1) (no-tail (c .empty-text3 .ensures))
 
 pub tail-of-spec : {M : Type 1} → statement M
 tail-of-spec =

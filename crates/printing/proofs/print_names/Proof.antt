@@ -5,14 +5,13 @@ use Prim.Native.Nat.{ℕ, _+_, _-_, _*_, _≤_, _<_}
 use native.Mathlib.Omega.{arith}
 use mathlib.Core.Path.{_≡_, refl, sym, ap, ap₂, _∙_}
 use mathlib.Core.Bool.{Bool}
-use mathlib.Core.List.{List, [], _++_, map}
-use lib.ListN.{length, take, getD, replicate, length-replicate, length-append, length-map, length-take}
+use mathlib.Core.List.{List, [], map}
+use lib.ListN.{length, take, getD, length-replicate, length-append, length-map}
 use borrow.Author.Needs.{needs}
 use Rattle.lines.specs.Lines.{countLine}
 use Rattle.output.specs.Shown.{printedLine}
 use Rattle.output.proofs.Pieces.{counted, line-few}
 use Rattle.printing.specs.Output.{nameLines, inOrder}
-use Rattle.printing.specs.Ready.{IsListed, IsWide, Front}
 use Rattle.agreeing.proofs.Naming.{at-map}
 use Rattle.printing.proofs.Naming as naming
 use Rattle.printing.proofs.print_names.Statement.{statement}
@@ -31,11 +30,11 @@ pub record Printing (h : List ℕ) (t : Bool) (count : ℕ) (text line : List �
   pub small : printed ≤ 210561 * k
 
 abbrev Inv-loop : tie.InvT-loop
-Inv-loop header first last count escaped text₀ line₀ printed₀ k₀ text line printed k =
+Inv-loop header first last times count escaped text₀ line₀ printed₀ k₀ text line printed k =
     Printing header escaped count text line printed k
 
 abbrev μ-loop : tie.MeasureT-loop
-μ-loop header first last count escaped text₀ line₀ printed₀ k₀ text line printed k = count - k
+μ-loop header first last times count escaped text₀ line₀ printed₀ k₀ text line printed k = count - k
 
 loop-holds : tie.Need-loop-holds Inv-loop μ-loop
 unfolding inOrder
@@ -49,7 +48,7 @@ loop-holds c =
     }
 
 abbrev start : tie.At-loop Inv-loop μ-loop → tie.Start Inv-loop μ-loop
-start c = c .before .before .before .before
+start c = c .before .before .before .before .before
 
 -- the lines of all names are as many as the count says
 as-many : (s : tie.Start Inv-loop μ-loop) → length (nameLines (s .args .header .now)) ≡ s .args .count
@@ -122,7 +121,7 @@ bytes c =
 -- no line is longer than its buffer, and shown it is four times as long at most
 written-few : (c : tie.After-known-told Inv-loop μ-loop) → c .before .written .given .0 .0 ≤ 210561
 written-few c =
-    let same : length (made c .name-part .last .1 .1 .1 .1 .1 .0) ≡ length (at c .loop .line) = search needs in
+    let same : length (made c .name-part .last .1 .1 .1 .1 .1 .1 .0) ≡ length (at c .loop .line) = search needs in
     let front = made c .name-part .ensures in
     let short : length (line c) ≤ 52640 = omega (arith, front .count, front .few, same, at c .loop .inv .line-long) in
     omega (arith, bytes c, line-few (start (at c) .args .escaped) (line c), short)
