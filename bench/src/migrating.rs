@@ -5,7 +5,7 @@ use fitsrs::card::{Card, Value};
 use fitsrs::hdu::header::extension::{image::Image, Xtension};
 use widrekas::{tile, Header, Reason, Refusal};
 
-const CARDS: [&str; 12] = [
+const CARDS: [&str; 13] = [
     "SIMPLE  =                    T / a FITS file",
     "BITPIX  =                    8",
     "NAXIS   =                    0",
@@ -16,6 +16,7 @@ const CARDS: [&str; 12] = [
     "EMPTY   =",
     "ODD     = what",
     "HIERARCH BENCH NO = 7",
+    "COOLED  =                    T / again",
     "HISTORY  rebuilt",
     "END",
 ];
@@ -67,6 +68,13 @@ fn headers() {
     assert_eq!(names, new.keywords().map(|name| name.as_str()).collect::<Vec<_>>());
     assert_eq!((old.iter().count(), old.iter().count()), (new.entries().count(), new.into_iter().count()));
     assert_eq!(old.cards().count(), new.cards().count());
+    let bears = |card: &&Card, sought: &str| match card {
+        Card::Value { name, .. } | Card::Hierarch { name, .. } => name == sought,
+        _ => false,
+    };
+    for name in names {
+        assert_eq!(old.cards().filter(|card| bears(card, name)).count(), new.count(name));
+    }
     let lines: Vec<&String> = old.history().collect();
     let history = new.cards().filter_map(|card| match card {
         widrekas::Card::History(text) => Some(text.into_string()),

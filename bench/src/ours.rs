@@ -15,6 +15,7 @@ pub fn decode(tile: &[u8], nblock: usize, bits: usize, pixels: &mut [i32]) -> u8
 pub struct Lent {
     first: [usize; PLACES],
     last: [usize; PLACES],
+    times: [usize; PLACES],
     count: usize,
     column: usize,
     text: Vec<u8>,
@@ -27,12 +28,14 @@ impl Lent {
     pub fn new() -> Self {
         let (text, comment) = (vec![0; ROOM], vec![0; ROOM]);
         let (told, said) = (Told::default(), Remark::default());
-        Lent { first: [0; PLACES], last: [0; PLACES], count: 0, column: 0, text, comment, told, said }
+        let [first, last, times] = [[0; PLACES]; 3];
+        Lent { first, last, times, count: 0, column: 0, text, comment, told, said }
     }
 
     /// Lists a header.
     pub fn list(&mut self, header: &[u8]) -> u8 {
-        boundary::list(header, &mut self.first, &mut self.last, &mut self.count, &mut self.column)
+        let Lent { first, last, times, count, column, .. } = self;
+        boundary::list(header, first, last, times, count, column)
     }
 
     /// Lists a header and reads all its values.

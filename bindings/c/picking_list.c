@@ -3,7 +3,8 @@
  *
  * A file that has no such line (it cannot be read, its header is refused, it has no such name, or a value that is undefined or
  * invalid) is named on standard error with the reason, and the exit status is 1. The reason of a refused card names the card and the
- * byte of it, both counted from 0.
+ * byte of it, both counted from 0. Where more than one card bears the name, the last one's value is in the line, and a warning on
+ * standard error says so.
  */
 #include "widrekas.h"
 
@@ -118,6 +119,24 @@ static void print_unit(void)
     }
 }
 
+/* How many cards bear a name: what the list has at the place of that name. */
+static size_t times_borne(size_t length, const uint8_t *name, size_t long_name)
+{
+    static size_t first[WIDREKAS_PLACES], last[WIDREKAS_PLACES], times[WIDREKAS_PLACES];
+    uint8_t own[WIDREKAS_LONGEST_NAME];
+    size_t count, long_own;
+    if (widrekas_list(header, length, first, WIDREKAS_PLACES, last, WIDREKAS_PLACES, times, WIDREKAS_PLACES, &count, &column) != 0) {
+        return 0;
+    }
+    for (size_t k = 0; k < count; k++) {
+        if (widrekas_name(header, length, first[k], own, sizeof own, &long_own, &column) == 0 && long_own == long_name &&
+            memcmp(own, name, long_name) == 0) {
+            return times[k];
+        }
+    }
+    return 0;
+}
+
 /* Why a file's header or name is refused, with the card and the byte of it where a card is refused. */
 static void print_refusal(const char *file, uint8_t answer)
 {
@@ -163,6 +182,13 @@ static int print_line(const char *file, const char *name)
         }
         putc('\n', stderr);
         return 0;
+    }
+    size_t times = times_borne(length, asked, long_name);
+    if (times > 1) {
+        print_file(stderr, file);
+        fputs(": warning: ", stderr);
+        print_shown(stderr, asked, long_name);
+        fprintf(stderr, " stands on %zu cards, and the last one counts\n", times);
     }
     print_file(stdout, file);
     putchar('\t');

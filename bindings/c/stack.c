@@ -20,7 +20,7 @@ static size_t deep;
 /* What the calls are lent. */
 static uint8_t header[WIDREKAS_LONGEST], text[WIDREKAS_ROOM], comment[WIDREKAS_ROOM], digits[WIDREKAS_DIGITS];
 static uint8_t record[WIDREKAS_RECORD], name[WIDREKAS_LONGEST_NAME], tile[20000], block[WIDREKAS_BLOCK];
-static size_t out[WIDREKAS_NUMBERS], first[WIDREKAS_PLACES], last[WIDREKAS_PLACES];
+static size_t out[WIDREKAS_NUMBERS], first[WIDREKAS_PLACES], last[WIDREKAS_PLACES], times[WIDREKAS_PLACES];
 static int32_t pixels[1000], last_pixel;
 static size_t length, card, count, column, bits, bit, done, kind, remark, room;
 static int64_t number;
@@ -45,7 +45,7 @@ CALL(version, widrekas_version())
 CALL(card, widrekas_card(header, WIDREKAS_CARD, record, WIDREKAS_RECORD, &number, &column))
 CALL(unit, widrekas_unit(header, length))
 CALL(header, widrekas_header(header, length, &count, &column))
-CALL(list, widrekas_list(header, length, first, WIDREKAS_PLACES, last, WIDREKAS_PLACES, &count, &column))
+CALL(list, widrekas_list(header, length, first, WIDREKAS_PLACES, last, WIDREKAS_PLACES, times, WIDREKAS_PLACES, &count, &column))
 CALL(name, widrekas_name(header, length, card, name, sizeof name, &count, &column))
 CALL(entry_value, widrekas_entry_value(header, length, card, text, sizeof text, digits, sizeof digits, out, WIDREKAS_NUMBERS,
                                        &number, &column))

@@ -186,17 +186,34 @@ static void test_units(void)
 
 /* ---- headers */
 
-/* Lists a header; the places are checked by the caller, who frees them. */
-static uint8_t list(const uint8_t *header, size_t many, size_t **first, size_t **last, size_t *count, size_t *column)
+/* The places that a list is laid into. */
+struct places {
+    size_t *first, *last, *times, count, column;
+};
+
+static struct places lend_places(void)
 {
-    *first = lent(WIDREKAS_PLACES * sizeof(size_t));
-    *last = lent(WIDREKAS_PLACES * sizeof(size_t));
-    *column = KEPT;
-    uint8_t answer =
-        widrekas_list(header, many * WIDREKAS_CARD, *first, WIDREKAS_PLACES, *last, WIDREKAS_PLACES, count, column);
-    CHECK(told_or_kept(answer, *column));
+    size_t size = WIDREKAS_PLACES * sizeof(size_t);
+    struct places p = {lent(size), lent(size), lent(size), 12345, KEPT};
+    return p;
+}
+
+static void give_back_places(struct places p)
+{
+    free(p.first);
+    free(p.last);
+    free(p.times);
+}
+
+/* Lists a header of so many bytes. */
+static uint8_t list(const uint8_t *header, size_t length, struct places *p)
+{
+    size_t size = WIDREKAS_PLACES * sizeof(size_t);
+    uint8_t answer = widrekas_list(header, length, p->first, WIDREKAS_PLACES, p->last, WIDREKAS_PLACES, p->times, WIDREKAS_PLACES,
+                                   &p->count, &p->column);
+    CHECK(told_or_kept(answer, p->column));
     if (answer != 0) {
-        CHECK(untouched(*first, WIDREKAS_PLACES * sizeof(size_t)) && untouched(*last, WIDREKAS_PLACES * sizeof(size_t)));
+        CHECK(untouched(p->first, size) && untouched(p->last, size) && untouched(p->times, size));
     }
     return answer;
 }
@@ -205,15 +222,14 @@ static uint8_t list(const uint8_t *header, size_t many, size_t **first, size_t *
 static void is_refused_header(const char *const *fronts, size_t many, int refusal, size_t card, size_t column)
 {
     uint8_t *header = cards(fronts, many);
-    size_t *first, *last, count = 12345, told;
-    CHECK(list(header, many, &first, &last, &count, &told) == refusal && count == card && told == column);
-    free(first);
-    free(last);
+    struct places p = lend_places();
+    CHECK(list(header, many * WIDREKAS_CARD, &p) == refusal && p.count == card && p.column == column);
+    give_back_places(p);
     /* Both halves of a lookup refuse it alike. */
     uint8_t text[1], comment[1], digits[WIDREKAS_DIGITS];
     size_t out[WIDREKAS_NUMBERS] = {7, 7, 7, 7, 7}, commented = 7, length = 7, at = 7;
     int64_t number = -1;
-    told = KEPT;
+    size_t told = KEPT;
     uint8_t answer = widrekas_lookup_value(header, many * WIDREKAS_CARD, (const uint8_t *)"K", 1, text, 1, digits, WIDREKAS_DIGITS,
                                            out, WIDREKAS_NUMBERS, &number, &told);
     CHECK(answer == refusal && out[0] == card && out[1] == 7 && out[3] == 7 && number == -1 && told == column);
@@ -228,18 +244,36 @@ static void test_lists(void)
 {
     static const char *const some[] = {"B       = 1", "HIERARCH A B = 2", "COMMENT", "B       = 3", "C       = 4", "END", "\xff"};
     uint8_t *header = cards(some, 7);
-    size_t *first, *last, count, column;
-    CHECK(list(header, 7, &first, &last, &count, &column) == 0 && count == 3);
-    CHECK(first[0] == 0 && last[0] == 3 && first[1] == 1 && last[1] == 1 && first[2] == 4 && last[2] == 4);
+    struct places p = lend_places();
+    CHECK(list(header, 7 * WIDREKAS_CARD, &p) == 0 && p.count == 3);
+    CHECK(p.first[0] == 0 && p.last[0] == 3 && p.first[1] == 1 && p.last[1] == 1 && p.first[2] == 4 && p.last[2] == 4);
+    CHECK(p.times[0] == 2 && p.times[1] == 1 && p.times[2] == 1);
     for (size_t i = 3; i < WIDREKAS_PLACES; i++) {
-        CHECK(first[i] == 720 && last[i] == 720);
+        CHECK(p.first[i] == 720 && p.last[i] == 720 && p.times[i] == 0);
     }
-    count = 99;
-    CHECK(widrekas_list(header, 7 * WIDREKAS_CARD, first, WIDREKAS_PLACES - 1, last, WIDREKAS_PLACES, &count, &column) == 255);
-    CHECK(widrekas_list(header, 7 * WIDREKAS_CARD, first, WIDREKAS_PLACES, last, 0, &count, &column) == 255 && count == 99);
-    CHECK(column == KEPT);
-    free(first);
-    free(last);
+    give_back_places(p);
+
+    /* Each of the three lengths is asked for. */
+    static const size_t lengths[][3] = {{719, 720, 720}, {720, 719, 720}, {720, 720, 719}, {0, 720, 720}, {720, 0, 720}, {720, 720, 0}};
+    for (size_t i = 0; i < sizeof lengths / sizeof lengths[0]; i++) {
+        size_t size = WIDREKAS_PLACES * sizeof(size_t);
+        p = lend_places();
+        CHECK(widrekas_list(header, 7 * WIDREKAS_CARD, p.first, lengths[i][0], p.last, lengths[i][1], p.times, lengths[i][2], &p.count,
+                            &p.column) == 255);
+        CHECK(untouched(p.first, size) && untouched(p.last, size) && untouched(p.times, size) && p.count == 12345 && p.column == KEPT);
+        give_back_places(p);
+    }
+    free(header);
+
+    /* Value, HIERARCH and XTENSION cards count, each name by itself; CONTINUE cards and what stands behind END do not. */
+    static const char *const again[] = {"KIT     = 'a&'",     "CONTINUE  'b'", "HIERARCH KIT = 1", "XTENSION= 'IMAGE'", "KIT     =",
+                                        "XTENSION= 'TABLE'", "KITS    = 2",   "KIT = 3",          "END",               "KIT     = 4"};
+    header = cards(again, 10);
+    p = lend_places();
+    CHECK(list(header, 10 * WIDREKAS_CARD, &p) == 0 && p.count == 3);
+    CHECK(p.first[0] == 0 && p.last[0] == 4 && p.times[0] == 3);
+    CHECK(p.first[1] == 3 && p.last[1] == 5 && p.times[1] == 2 && p.first[2] == 6 && p.times[2] == 1 && p.times[3] == 0);
+    give_back_places(p);
     free(header);
     static const char *const lone[] = {"K       = 1", "K       = '", "END"};
     is_refused_header(lone, 3, WIDREKAS_STRING_NOT_CLOSED, 1, 10);
@@ -418,17 +452,16 @@ static void test_names(void)
 
     /* The names of a list, each at its first card and at its last. */
     static const char *const names[] = {"B", "A.B", "C"};
-    size_t *first, *last, count;
-    CHECK(list(header, 7, &first, &last, &count, &column) == 0 && count == 3);
-    for (size_t k = 0; k < count; k++) {
+    struct places p = lend_places();
+    CHECK(list(header, 7 * WIDREKAS_CARD, &p) == 0 && p.count == 3);
+    for (size_t k = 0; k < p.count; k++) {
         size_t length = strlen(names[k]);
-        CHECK(read_name(header, 7 * WIDREKAS_CARD, first[k], 80, name, &told, &column) == 0);
+        CHECK(read_name(header, 7 * WIDREKAS_CARD, p.first[k], 80, name, &told, &column) == 0);
         CHECK(told == length && memcmp(name, names[k], length) == 0);
-        CHECK(read_name(header, 7 * WIDREKAS_CARD, last[k], length, name, &told, &column) == 0);
+        CHECK(read_name(header, 7 * WIDREKAS_CARD, p.last[k], length, name, &told, &column) == 0);
         CHECK(told == length && memcmp(name, names[k], length) == 0);
     }
-    free(first);
-    free(last);
+    give_back_places(p);
     free(header);
 }
 
@@ -664,10 +697,9 @@ static void test_met(void)
     meets_refused(c, WIDREKAS_COMPLEX, 4, 10);
     c.name = "KIT";
     is_missing(c);
-    size_t *first, *last, count, column;
-    CHECK(list(header, 5, &first, &last, &count, &column) == 0 && count == 0);
-    free(first);
-    free(last);
+    struct places p = lend_places();
+    CHECK(list(header, 5 * WIDREKAS_CARD, &p) == 0 && p.count == 0 && p.times[0] == 0);
+    give_back_places(p);
     free(header);
 }
 
@@ -1397,6 +1429,19 @@ static void is_column(const uint8_t *card, int refusal, size_t column)
     CHECK(refusal == WIDREKAS_HIGH_BYTE || high == WIDREKAS_CARD);
 }
 
+/* How many of the first cards bear a name. */
+static size_t cards_named(const uint8_t *header, size_t length, size_t many, const uint8_t *name, size_t name_length)
+{
+    size_t named = 0;
+    for (size_t i = 0; i < many; i++) {
+        uint8_t own[WIDREKAS_LONGEST_NAME];
+        size_t told = 0, at = KEPT;
+        uint8_t answer = widrekas_name(header, length, i, own, sizeof own, &told, &at);
+        named += answer == 0 && told == name_length && memcmp(own, name, told) == 0;
+    }
+    return named;
+}
+
 static void test_random(void)
 {
     for (int round = 0; round < 2000; round++) {
@@ -1409,19 +1454,16 @@ static void test_random(void)
         for (size_t i = 0; i < many; i++) {
             memcpy(header + i * WIDREKAS_CARD, i + 1 == many ? "END     " : below(2) == 0 ? "KIT     = '" : "CONTINUE '", 8);
         }
-        size_t *first, *last, count = 0, column = KEPT;
-        first = lent(WIDREKAS_PLACES * sizeof *first);
-        last = lent(WIDREKAS_PLACES * sizeof *last);
-        uint8_t listed = widrekas_list(header, length, first, WIDREKAS_PLACES, last, WIDREKAS_PLACES, &count, &column);
-        CHECK(told_or_kept(listed, column));
-        if (column != KEPT) {
-            is_column(header + count * WIDREKAS_CARD, listed, column);
+        struct places p = lend_places();
+        uint8_t listed = list(header, length, &p);
+        if (p.column != KEPT) {
+            is_column(header + p.count * WIDREKAS_CARD, listed, p.column);
         }
         struct asked a = {header, length, "KIT", 0, NULL, NULL, NULL, NULL, 0, KEPT, 0, 0, 0, 0};
         int looked = ask_value(&a, below(100)), remarked = ask_comment(&a, below(100));
         CHECK(listed <= 10 && (listed == 0 ? looked == 0 || looked == 12 || looked == 13 : looked == listed));
         CHECK(listed == 0 ? remarked == 0 || remarked == 12 || remarked == 13 : remarked == listed);
-        CHECK((looked == 12) == (remarked == 12) && a.column == column && a.comment_column == column);
+        CHECK((looked == 12) == (remarked == 12) && a.column == p.column && a.comment_column == p.column);
 
         /* A second call that lends the room that is wanted is answered. */
         size_t wanted = looked == 13 ? a.out[WIDREKAS_ENTRY_TEXT_LENGTH] : 0;
@@ -1439,21 +1481,21 @@ static void test_random(void)
 
         /* Where END stands is refused as the list is; each name of the list is found, and no other number of a card bears it first. */
         size_t card = 777, at = KEPT;
-        CHECK(widrekas_header(header, length, &card, &at) == listed && (listed == 0 ? card < many : card == count));
-        CHECK(at == column);
-        for (size_t k = 0; listed == 0 && k < count; k++) {
+        CHECK(widrekas_header(header, length, &card, &at) == listed && (listed == 0 ? card < many : card == p.count));
+        CHECK(at == p.column);
+        for (size_t k = 0; listed == 0 && k < p.count; k++) {
             uint8_t name[WIDREKAS_LONGEST_NAME], text[1], comment[1], digits[WIDREKAS_DIGITS];
             size_t told = 0, out[WIDREKAS_NUMBERS], commented, remark, none;
             int64_t number;
-            CHECK(widrekas_name(header, length, first[k], name, sizeof name, &told, &at) == 0 && first[k] < card);
+            CHECK(widrekas_name(header, length, p.first[k], name, sizeof name, &told, &at) == 0 && p.first[k] < card);
+            CHECK(p.times[k] == cards_named(header, length, card, name, told));
             int found = widrekas_lookup_value(header, length, name, told, text, 1, digits, WIDREKAS_DIGITS, out, WIDREKAS_NUMBERS,
                                               &number, &at);
             CHECK((found == 0 || found == WIDREKAS_BUFFER_SHORT) && at == KEPT);
             found = widrekas_lookup_comment(header, length, name, told, comment, 1, &commented, &remark, &none, &at);
             CHECK((found == 0 || found == WIDREKAS_BUFFER_SHORT) && at == KEPT);
         }
-        free(first);
-        free(last);
+        give_back_places(p);
 
         size_t nx = below(40), bit = below(300), done = below(40), written = 0;
         int32_t *pixels = lent(nx * sizeof *pixels), lastpix = (int32_t)below(600) - 300;
@@ -1582,7 +1624,7 @@ static void test_random_writing(void)
 
 int main(void)
 {
-    CHECK(widrekas_version() == 3);
+    CHECK(widrekas_version() == 4);
     test_cards();
     test_units();
     test_lists();

@@ -18,7 +18,7 @@
  * - *column, which eight functions have last, is where a card is refused: enum widrekas_refusal has the rule. Answers 1 to 8 set it, and
  *   every other answer leaves it as it was.
  *
- * Stack. What a call takes of its caller's stack, as measured, up to the next hundred bytes: widrekas_list 79,200, the two lookups 62,200,
+ * Stack. What a call takes of its caller's stack, as measured, up to the next hundred bytes: widrekas_list 73,800, the two lookups 62,200,
  * the two entries 62,100, widrekas_header 3,300, widrekas_name 3,200, widrekas_card 3,100, widrekas_decode and widrekas_step 1,000,
  * widrekas_write 800, the others 200. stack.c measures it on x86-64 Linux: each call runs in a thread whose stack was painted before, over
  * strings of up to 720 cards, 1,000 headers and 400 values at random and tiles of each width. It holds the list below 80 KiB, lookups and
@@ -190,14 +190,15 @@ uint8_t widrekas_header(const uint8_t *header, size_t header_length, size_t *car
 /*
  * Lists the names of a header, in the order of their first cards. Nothing behind the first END is looked at.
  *
- * 0: *count is the number of names; for each of them first has the number of the first card that bears it, and last that of the
- * last one, whose entry counts. The places behind them are 720.
- * 255: first_length or last_length is not 720; *count stays as it was. 9, 1 to 8, 10: *count is the card's number, as in
- * widrekas_header, and with 1 to 8 *column is the byte of that card. All leave first and last as they were. 0, 255, 9 and 10 leave
- * *column.
+ * 0: *count is the number of names; for each of them first has the number of the first card that bears it, last that of the last one,
+ * whose entry counts, and times how many bear it: value, HIERARCH and XTENSION cards, but no CONTINUE card. The places behind them are
+ * 720 in first and last, and 0 in times, so that times adds up to the number of those cards before END.
+ * 255: first_length, last_length or times_length is not 720; *count stays as it was. 9, 1 to 8, 10: *count is the card's number, as in
+ * widrekas_header, and with 1 to 8 *column is the byte of that card. All leave first, last and times as they were. 0, 255, 9 and 10
+ * leave *column.
  */
 uint8_t widrekas_list(const uint8_t *header, size_t header_length, size_t *first, size_t first_length, size_t *last,
-                      size_t last_length, size_t *count, size_t *column);
+                      size_t last_length, size_t *times, size_t times_length, size_t *count, size_t *column);
 
 /*
  * Reads the name that the entry at a card's number bears. The name at place k of a list is that at card first[k]. No other card is

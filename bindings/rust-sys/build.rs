@@ -11,7 +11,7 @@ const ARCHIVE: &str = "libwidrekas.a";
 const STAMP: &str = "libwidrekas.sources";
 
 /// The version of the boundary that this crate declares.
-const VERSION: &str = "3";
+const VERSION: &str = "4";
 
 /// What the archive must have beside `widrekas_version`.
 const FUNCTIONS: [&str; 13] = [

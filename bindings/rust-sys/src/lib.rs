@@ -59,6 +59,8 @@ pub mod raw {
             first_room: usize,
             last: *mut usize,
             last_room: usize,
+            times: *mut usize,
+            times_room: usize,
             count: *mut usize,
             column: *mut usize,
         ) -> u8;
@@ -233,12 +235,14 @@ pub fn list(
     header: &[u8],
     first: &mut [usize; PLACES],
     last: &mut [usize; PLACES],
+    times: &mut [usize; PLACES],
     count: &mut usize,
     column: &mut usize,
 ) -> u8 {
-    let (first, last) = (first.as_mut_ptr(), last.as_mut_ptr());
-    // SAFETY: a live slice and two live arrays with their lengths and two live numbers, all but the first lent alone.
-    unsafe { raw::widrekas_list(header.as_ptr(), header.len(), first, PLACES, last, PLACES, count, column) }
+    let (first, last, times) = (first.as_mut_ptr(), last.as_mut_ptr(), times.as_mut_ptr());
+    let (bytes, len) = (header.as_ptr(), header.len());
+    // SAFETY: a live slice and three live arrays with their lengths and two live numbers, all but the first lent alone.
+    unsafe { raw::widrekas_list(bytes, len, first, PLACES, last, PLACES, times, PLACES, count, column) }
 }
 
 /// Reads the name that the entry at a card's number bears.

@@ -13,8 +13,8 @@ fn cards(fronts: &[&str]) -> Vec<u8> {
 }
 
 #[test]
-fn the_version_is_3() {
-    assert_eq!(boundary::version(), 3);
+fn the_version_is_4() {
+    assert_eq!(boundary::version(), 4);
 }
 
 #[test]
@@ -55,9 +55,10 @@ fn a_refused_card_of_a_header_has_a_column() {
     let header = cards(&["SIZE    = 12", "KIT     = 'a&'", "CONTINUE 'b", "END"]);
     let (mut card, mut column) = (7, KEPT);
     assert_eq!((boundary::header(&header, &mut card, &mut column), card, column), (3, 2, 9));
-    let (mut first, mut last, mut count, mut column) = ([7; PLACES], [7; PLACES], 7, KEPT);
-    assert_eq!(boundary::list(&header, &mut first, &mut last, &mut count, &mut column), 3);
-    assert_eq!((first, last, count, column), ([7; PLACES], [7; PLACES], 2, 9));
+    let [mut first, mut last, mut times] = [[7; PLACES]; 3];
+    let (mut count, mut column) = (7, KEPT);
+    assert_eq!(boundary::list(&header, &mut first, &mut last, &mut times, &mut count, &mut column), 3);
+    assert_eq!(([first, last, times], count, column), ([[7; PLACES]; 3], 2, 9));
     let (mut name, mut length, mut column) = ([b'.'; 4], 7, KEPT);
     assert_eq!(boundary::name(&header, 2, &mut name, &mut length, &mut column), 3);
     assert_eq!((&name, length, column), (b"....", 7, 9));
@@ -85,9 +86,11 @@ fn a_unit_ends_at_its_bracket() {
 #[test]
 fn a_list_a_lookup_and_an_entry() {
     let header = cards(&["SIZE    = 12", "KIT     = 'FKM-&'", "CONTINUE  '75' /r", "SIZE    = 13", "END"]);
-    let (mut first, mut last, mut count, mut column) = ([0; PLACES], [0; PLACES], 0, KEPT);
-    assert_eq!(boundary::list(&header, &mut first, &mut last, &mut count, &mut column), 0);
+    let [mut first, mut last, mut times] = [[7; PLACES]; 3];
+    let (mut count, mut column) = (0, KEPT);
+    assert_eq!(boundary::list(&header, &mut first, &mut last, &mut times, &mut count, &mut column), 0);
     assert_eq!((count, &first[..3], &last[..3]), (2, &[0, 1, 720][..], &[3, 1, 720][..]));
+    assert_eq!((&times[..3], times.iter().sum::<usize>()), (&[2, 1, 0][..], 3));
     let (mut text, mut told) = ([b'.'; 8], Told { column: KEPT, ..Told::default() });
     assert_eq!(boundary::lookup_value(&header, b"KIT", &mut text, &mut told), 0);
     assert_eq!((&text, told.out), (b"FKM-75..", [0, 6, 0, 6, 0]));
@@ -108,7 +111,7 @@ fn a_list_a_lookup_and_an_entry() {
     assert_eq!((boundary::entry_comment(&header[1..], 2, &mut comment, &mut said), said.card), (9, 0));
     assert_eq!((boundary::lookup_comment(&header[..80], b"KIT", &mut comment, &mut said), said.card), (10, 1));
     assert_eq!((&comment, said.column), (b"r...", KEPT));
-    assert_eq!(boundary::list(&header[..80], &mut first, &mut last, &mut count, &mut column), 10);
+    assert_eq!(boundary::list(&header[..80], &mut first, &mut last, &mut times, &mut count, &mut column), 10);
     assert_eq!((count, column), (1, KEPT));
 }
 

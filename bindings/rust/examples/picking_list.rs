@@ -2,7 +2,8 @@
 //!
 //! A file that has no such line (it cannot be read, its header is refused, it has no such name, or a value that is undefined or
 //! invalid) is named on standard error with the reason, and the exit status is 1. The reason of a refused card names the card and the
-//! byte of it, both counted from 0. Control characters are printed as \xNN, so that no file can forge a line.
+//! byte of it, both counted from 0. Where more than one card bears the name, the last one's value is in the line, and a warning on
+//! standard error says so. Control characters are printed as \xNN, so that no file can forge a line.
 
 use std::ffi::OsString;
 use std::fmt::Display;
@@ -22,8 +23,8 @@ fn in_words(refusal: Refusal) -> String {
     }
 }
 
-/// The entry of a name in a file's header.
-fn entry(file: &Path, name: &str) -> Result<Entry, Box<dyn std::error::Error>> {
+/// The entry of a name in a file's header, and how many cards bear the name.
+fn entry(file: &Path, name: &str) -> Result<(Entry, usize), Box<dyn std::error::Error>> {
     let mut bytes = Vec::new();
     File::open(file)?.take(LONGEST as u64).read_to_end(&mut bytes)?;
     let header = Header::parse_file(&bytes).map_err(in_words)?;
@@ -31,7 +32,7 @@ fn entry(file: &Path, name: &str) -> Result<Entry, Box<dyn std::error::Error>> {
     match entry.value {
         Value::Undefined => Err(format!("{name} has no value").into()),
         Value::Invalid(text) => Err(format!("{name} has an invalid value: {}", text.trim_end()).into()),
-        _ => Ok(entry),
+        _ => Ok((entry, header.count(name))),
     }
 }
 
@@ -48,6 +49,25 @@ fn line(file: &Path, entry: &Entry) -> String {
     [shown(file.display()), shown(&entry.value), shown(comment.trim()), shown(unit)].join("\t")
 }
 
+/// Says something of a file on standard error.
+fn say(file: &Path, what: impl Display) -> io::Result<()> {
+    writeln!(io::stderr(), "{}: {}", shown(file.display()), shown(what))
+}
+
+/// Prints the line of a file, or says why there is none. Answers whether there is one.
+fn print(file: &Path, name: &str) -> io::Result<bool> {
+    match entry(file, name) {
+        Ok((entry, times)) => {
+            if times > 1 {
+                say(file, format!("warning: {name} stands on {times} cards, and the last one counts"))?;
+            }
+            writeln!(io::stdout(), "{}", line(file, &entry))?;
+            Ok(true)
+        }
+        Err(why) => say(file, why).map(|()| false),
+    }
+}
+
 fn main() -> ExitCode {
     let words: Vec<OsString> = std::env::args_os().skip(1).collect();
     let [name, files @ ..] = words.as_slice() else {
@@ -56,15 +76,10 @@ fn main() -> ExitCode {
     };
     let mut all = ExitCode::SUCCESS;
     for file in files.iter().map(Path::new) {
-        let written = match entry(file, &name.to_string_lossy()) {
-            Ok(entry) => writeln!(io::stdout(), "{}", line(file, &entry)),
-            Err(why) => {
-                all = ExitCode::FAILURE;
-                writeln!(io::stderr(), "{}: {}", shown(file.display()), shown(why))
-            }
-        };
-        if written.is_err() {
-            return ExitCode::FAILURE;
+        match print(file, &name.to_string_lossy()) {
+            Ok(true) => (),
+            Ok(false) => all = ExitCode::FAILURE,
+            Err(_) => return ExitCode::FAILURE,
         }
     }
     all

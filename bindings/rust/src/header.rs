@@ -30,11 +30,12 @@ const BLOCK: usize = 2_880;
 /// The refusal that says that a text or a comment wants more room.
 const BUFFER_SHORT: u8 = 13;
 
-/// Where a name stands: the first card that bears it, and that of its last entry.
+/// Where a name stands: the first card that bears it, that of its last entry, and how many bear it.
 #[derive(Clone, Copy)]
 struct Place {
     first: usize,
     last: usize,
+    times: usize,
 }
 
 /// What an entry is asked for by: a name that is sought in the cards, or a card's number.
@@ -106,12 +107,14 @@ impl Header {
     ///
     /// Every card up to END is tested, and the first that is refused refuses the header: the refusal has its number and column.
     pub fn parse(bytes: &[u8]) -> Result<Header, Refusal> {
-        let (mut first, mut last, mut count, mut column) = ([0; PLACES], [0; PLACES], 0, 0);
-        match boundary::list(bytes, &mut first, &mut last, &mut count, &mut column) {
+        let [mut first, mut last, mut times] = [[0; PLACES]; 3];
+        let (mut count, mut column) = (0, 0);
+        match boundary::list(bytes, &mut first, &mut last, &mut times, &mut count, &mut column) {
             0 => (),
             number => return Err(Refusal::told(number).at(count).in_column(column)),
         }
-        let places = first.iter().zip(&last).take(count).map(|(&first, &last)| Place { first, last }).collect();
+        let all = first.into_iter().zip(last).zip(times).take(count);
+        let places = all.map(|((first, last), times)| Place { first, last, times }).collect();
         Ok(Header { cards: up_to_end(bytes).to_vec(), places, asked: OnceLock::new(), names: OnceLock::new() })
     }
 
@@ -144,6 +147,23 @@ impl Header {
     /// The value of a name with its comment.
     pub fn entry(&self, name: impl AsRef<[u8]>) -> Option<Entry> {
         self.entry_of(self.spot(name.as_ref())?)
+    }
+
+    /// How many cards bear a name: value, HIERARCH and XTENSION cards, but no CONTINUE card; 0 where there is no such name. Where more
+    /// than one does, the last one's entry is the name's, and the others are not seen.
+    ///
+    /// ```
+    /// # fn main() -> Result<(), widrekas::Refusal> {
+    /// let cards = ["KIT     = 'FKM-75'", "SIZE    = 12", "KIT     = 'NBR-70'", "END"];
+    /// let bytes: String = cards.iter().map(|card| format!("{card:80}")).collect();
+    /// let header = widrekas::Header::parse(bytes.as_bytes())?;
+    /// assert_eq!((header.count("KIT"), header.count("SIZE"), header.count("RING")), (2, 1, 0));
+    /// assert_eq!(header.get("KIT").unwrap().as_str(), Some("NBR-70"));
+    /// # Ok(())
+    /// # }
+    /// ```
+    pub fn count(&self, name: impl AsRef<[u8]>) -> usize {
+        self.place(name.as_ref()).map_or(0, |place| place.times)
     }
 
     /// The names, in the order of their first cards.
@@ -220,10 +240,15 @@ impl Header {
         if self.names.get().is_none() && self.asked.set(()).is_ok() {
             return Some(Spot::Name(name));
         }
+        Some(Spot::Card(self.place(name)?.last))
+    }
+
+    /// Where a name stands, by the names.
+    fn place(&self, name: &[u8]) -> Option<&Place> {
         let Names { names, sorted } = self.names();
         let name_of = |&place: &usize| names.get(place).map(Text::as_bytes);
         let at = sorted.binary_search_by(|place| name_of(place).cmp(&Some(name))).ok()?;
-        Some(Spot::Card(self.places.get(*sorted.get(at)?)?.last))
+        self.places.get(*sorted.get(at)?)
     }
 
     /// The value that is read there; none where there is no entry. Nearly every text fits the room that is lent at first. Where it

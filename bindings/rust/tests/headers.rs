@@ -115,6 +115,30 @@ fn names_in_their_order() {
 }
 
 #[test]
+fn how_many_cards_bear_a_name() {
+    let header = header(&[
+        "KIT     = 'a&'",
+        "CONTINUE  'b'",
+        "HIERARCH KIT = 1",
+        "XTENSION= 'IMAGE'",
+        "COMMENT KIT = 2",
+        "KIT     =",
+        "XTENSION= 'TABLE'",
+        "KITS    = 3",
+        "END",
+        "KIT     = 4",
+    ]);
+    let counts: Vec<(String, usize)> = header.keywords().map(|name| (name.to_string(), header.count(name))).collect();
+    assert_eq!(counts, [("KIT".into(), 3), ("XTENSION".into(), 2), ("KITS".into(), 1)]);
+    for none in ["CONTINUE", "COMMENT", "END", "KI", "kit", ""] {
+        assert_eq!(header.count(none), 0, "{none}");
+    }
+    // The count is asked for first, before any name is read.
+    assert_eq!(common::header(&["KIT     = 1", "KIT     = 2"]).count("KIT"), 2);
+    assert_eq!(common::header(&["KIT     = 1"; 719]).count("KIT"), 719);
+}
+
+#[test]
 fn all_classes_of_cards() {
     let header = header(&[
         "K       = 'a&' / b",
@@ -270,7 +294,7 @@ fn headers_go_between_threads() {
     assert!(one == other && one == one.clone() && one != header(&["KIT     = 'b'"]));
     let kit = std::thread::spawn(move || other.get("KIT")).join().unwrap();
     assert_eq!(kit, one.get("KIT"));
-    assert_eq!(widrekas::version(), 3);
+    assert_eq!(widrekas::version(), 4);
 }
 
 #[test]

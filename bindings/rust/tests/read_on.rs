@@ -160,6 +160,16 @@ fn a_touched_name_stays_an_error_whatever_good_cards_say() {
 }
 
 #[test]
+fn a_name_that_a_refused_card_touches_has_no_count() {
+    let read = read_on(&["A       = 1", "B       = 'b&'", "CONTINUE  '", "A       = 2", "C       = (", "C       = 3"]);
+    let count = |name: &str| read.count(name).map_err(told);
+    assert_eq!((count("A"), count("NONE")), (Ok(2), Ok(0)));
+    assert_eq!((count("B"), count("C")), (Err(at(3, 2, 10)), Err(at(5, 4, 10))));
+    assert_eq!(read_on(&["A       = 1", "HIERARCH"]).count("A").map_err(told), Err(at(6, 1, 9)));
+    assert_eq!(read_on(&["A       = 1", "A       = 2"]).count("A"), Ok(2));
+}
+
+#[test]
 fn two_damaged_cards_in_one_string_or_in_two() {
     let read = read_on(&["A       = 'a&'", "CONTINUE  'b", "CONTINUE  c'", "CONTINUE  'd'", "B       = 2"]);
     assert_eq!((get(&read, "A"), integer(&read, "B")), (Err(at(3, 1, 10)), 2));

@@ -71,7 +71,11 @@ fn lines(bytes: &[u8]) -> String {
     for (name, entry) in header.entries() {
         let reading = entry.value.to_string();
         let space = if reading.is_empty() { "" } else { " " };
-        all += &format!("{name} {}{space}{reading}\n{}", letter(&entry.value), more(&entry));
+        let times = match header.count(name) {
+            1 => String::new(),
+            times => format!(" x{times}"),
+        };
+        all += &format!("{name} {}{space}{reading}{times}\n{}", letter(&entry.value), more(&entry));
         assert_eq!((header.get(name).as_ref(), header.comment(name)), (Some(&entry.value), entry.comment));
     }
     all + &format!("{} keywords\n", header.len())

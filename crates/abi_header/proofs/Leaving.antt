@@ -91,23 +91,23 @@ commented read comment there bytes card column r g w =
 -- ---- a list of names
 
 -- the answer that an arm knows is the answer
-pub list-by : (l : Listing) (first last : List ℕ) (column : ℕ) {x : ListOutcome} {a b : Header} → a ≡ b
-    → x ≡ listTold b l first last column → x ≡ listTold a l first last column
-list-by l first last column e w = w ∙ sym (ap (λ (y : Header). listTold y l first last column) e)
+pub list-by : (l : Listing) (first last times : List ℕ) (column : ℕ) {x : ListOutcome} {a b : Header} → a ≡ b
+    → x ≡ listTold b l first last times column → x ≡ listTold a l first last times column
+list-by l first last times column e w = w ∙ sym (ap (λ (y : Header). listTold y l first last times column) e)
 
 -- what was listed is written
-pub listed : (x : Listing) (first last : Lent (List ℕ)) (count column : Lent ℕ) {l : Listing} (r : ℕ)
-    → listFits (first .was) (last .was) ≡ true → l ≡ x
-    → ListWritten (l .header) l first last count column r → ListLeft x first last count column r
-listed x first last count column r e g w =
+pub listed : (x : Listing) (first last times : Lent (List ℕ)) (count column : Lent ℕ) {l : Listing} (r : ℕ)
+    → listFits (first .was) (last .was) (times .was) ≡ true → l ≡ x
+    → ListWritten (l .header) l first last times count column r → ListLeft x first last times count column r
+listed x first last times count column r e g w =
     w
-    ∙ ap (λ (y : Listing). listTold (y .header) y (first .was) (last .was) (column .was)) g
-    ∙ sym (ap (λ (b : Bool). listInto b x (first .was) (last .was) (count .was) (column .was)) e)
+    ∙ ap (λ (y : Listing). listTold (y .header) y (first .was) (last .was) (times .was) (column .was)) g
+    ∙ sym (ap (λ (b : Bool). listInto b x (first .was) (last .was) (times .was) (count .was) (column .was)) e)
 
 -- nothing is read
-pub unlisted : (x : Listing) (first last : List ℕ) (count column : ℕ) → listFits first last ≡ false
-    → ListLeft x (same first) (same last) (same count) (same column) wrongLength
-unlisted x first last count column e = sym (ap (λ (b : Bool). listInto b x first last count column) e)
+pub unlisted : (x : Listing) (first last times : List ℕ) (count column : ℕ) → listFits first last times ≡ false
+    → ListLeft x (same first) (same last) (same times) (same count) (same column) wrongLength
+unlisted x first last times count column e = sym (ap (λ (b : Bool). listInto b x first last times count column) e)
 
 -- ---- a name
 

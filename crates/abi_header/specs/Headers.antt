@@ -186,38 +186,36 @@ pub record ListOutcome : Type 0 where
   pub answer : ℕ
   pub first : List ℕ
   pub last : List ℕ
+  pub times : List ℕ
   pub count : ℕ
   pub column : ℕ
 
--- 0, with the places and the number of names; or the refusal's number, with the card's number as the count and its column
-abbrev pub listTold : Header → Listing → List ℕ → List ℕ → ℕ → ListOutcome
-listTold (Accepted end) x first last column =
-    record { answer = 0; first = x .first; last = x .last; count = x .count; column = column }
-listTold (Refused s) x first last column =
-    record {
-      answer = numberOf (s .fault .why);
-      first = first;
-      last = last;
-      count = s .card;
-      column = columnAfter (s .fault .column) column;
-    }
+abbrev pub listOutcome : ℕ → List ℕ → List ℕ → List ℕ → ℕ → ℕ → ListOutcome
+listOutcome answer first last times count column =
+    record { answer = answer; first = first; last = last; times = times; count = count; column = column }
 
--- the lengths that are asked for: those of first cards and last entries
-abbrev pub listFits : List ℕ → List ℕ → Bool
-listFits first last = eqb (length first) places && eqb (length last) places
+-- 0, with the places and the number of names; or the refusal's number, with the card's number as the count and its column
+abbrev pub listTold : Header → Listing → List ℕ → List ℕ → List ℕ → ℕ → ListOutcome
+listTold (Accepted end) x first last times column =
+    listOutcome 0 (x .first) (x .last) (x .times) (x .count) column
+listTold (Refused s) x first last times column =
+    listOutcome (numberOf (s .fault .why)) first last times (s .card) (columnAfter (s .fault .column) column)
+
+-- the lengths that are asked for: those of first cards, last entries and numbers
+abbrev pub listFits : List ℕ → List ℕ → List ℕ → Bool
+listFits first last times = eqb (length first) places && eqb (length last) places && eqb (length times) places
 
 -- with other lengths nothing is read, and all stays as it was
-abbrev pub listInto : Bool → Listing → List ℕ → List ℕ → ℕ → ℕ → ListOutcome
-listInto fit x first last count column =
-    cond fit (listTold (x .header) x first last column)
-    (record { answer = wrongLength; first = first; last = last; count = count; column = column })
+abbrev pub listInto : Bool → Listing → List ℕ → List ℕ → List ℕ → ℕ → ℕ → ListOutcome
+listInto fit x first last times count column =
+    cond fit (listTold (x .header) x first last times column)
+    (listOutcome wrongLength first last times count column)
 
 -- what listing leaves, where x is the list and r the answer
-abbrev pub ListLeft : Listing → Lent (List ℕ) → Lent (List ℕ) → Lent ℕ → Lent ℕ → ℕ → Type 0
-ListLeft x first last count column r =
-    _≡_ {A = ListOutcome}
-    (record { answer = r; first = first .left; last = last .left; count = count .left; column = column .left })
-    (listInto (listFits (first .was) (last .was)) x (first .was) (last .was) (count .was) (column .was))
+abbrev pub ListLeft : Listing → Lent (List ℕ) → Lent (List ℕ) → Lent (List ℕ) → Lent ℕ → Lent ℕ → ℕ → Type 0
+ListLeft x first last times count column r =
+    listOutcome r (first .left) (last .left) (times .left) (count .left) (column .left)
+    ≡ listInto (listFits (first .was) (last .was) (times .was)) x (first .was) (last .was) (times .was) (count .was) (column .was)
 
 -- ---- a name
 

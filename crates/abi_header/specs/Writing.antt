@@ -10,7 +10,7 @@ use Rattle.entries.specs.declared.CommentAnswer.{CommentAnswer}
 use Rattle.entries.specs.declared.ValueHalf.{ValueHalf}
 use Rattle.listing.specs.declared.Listing.{Listing}
 use Rattle.abi_header.specs.Headers.{valueSaid, digitsAfter, numbersAfter, numberAfter, valueColumn}
-use Rattle.abi_header.specs.Headers.{CommentMemory, commentStored, ListOutcome, listTold}
+use Rattle.abi_header.specs.Headers.{CommentMemory, commentStored, listOutcome, listTold}
 
 -- the value that was read, where a is its answer
 pub record ValueWritten
@@ -37,8 +37,7 @@ CommentWritten a n commented bytes card column r =
     (commentStored a n c (commented .was) (bytes .was) (card .was) (column .was))
 
 -- what was listed, where a is the header's answer
-abbrev pub ListWritten : Header → Listing → Lent (List ℕ) → Lent (List ℕ) → Lent ℕ → Lent ℕ → ℕ → Type 0
-ListWritten a read first last count column r =
-    _≡_ {A = ListOutcome}
-    (record { answer = r; first = first .left; last = last .left; count = count .left; column = column .left })
-    (listTold a read (first .was) (last .was) (column .was))
+abbrev pub ListWritten : Header → Listing → Lent (List ℕ) → Lent (List ℕ) → Lent (List ℕ) → Lent ℕ → Lent ℕ → ℕ → Type 0
+ListWritten a read first last times count column r =
+    listOutcome r (first .left) (last .left) (times .left) (count .left) (column .left)
+    ≡ listTold a read (first .was) (last .was) (times .was) (column .was)

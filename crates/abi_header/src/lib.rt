@@ -4,7 +4,7 @@ ghost use lib.ListN.{length};
 ghost use Rattle.laws.specs.Lending.{lentOf};
 ghost use Rattle.finding.specs.Finding.{headerOf};
 ghost use Rattle.entries.specs.Halves.{valueNamed, valueNumbered, commentNamed, commentNumbered};
-ghost use Rattle.listing.specs.Listing.{listOf};
+ghost use Rattle.listing.specs.Listing.{listingBy, listOf};
 ghost use Rattle.naming.specs.Naming.{nameAt};
 ghost use Rattle.abi_header.specs.Headers.{numbersOf, HeaderLeft, ValueLeft, CommentLeft, ListLeft, NameLeft};
 ghost use Rattle.abi_header.specs.Writing.{ValueWritten, CommentWritten, ListWritten};
@@ -14,7 +14,7 @@ use entries::CommentHalf;
 use entries::LookupAnswer;
 use entries::ValueHalf;
 use finding::Header;
-use listing::Listing;
+use listing::Listed;
 use listing::PLACES;
 use naming::Named;
 
@@ -123,21 +123,36 @@ pub fn entry_comment_into(
     write_comment(read, commented, length, card, column)
 }
 
-// Lists a header's names. Answers 0, with the first cards, the last entries and their count. Otherwise it answers the refusal's
-// number, with the card's number as the count and a refused card's byte as the column, or 255 where a slice has another length than
-// 720. Nothing else is written then.
+// Lists a header's names. Answers 0, with the first cards, the last entries, how many cards bear each, and the number of names. Otherwise
+// it answers the refusal's number, with the card's number as the count and a refused card's byte as the column, or 255 where a slice has
+// another length than 720. Nothing else is written then.
 pub fn list_into(
     header: &[u8],
     first: &mut [usize],
     last: &mut [usize],
+    times: &mut [usize],
     count: &mut usize,
     column: &mut usize,
 ) -> u8
-    ensures { λ r. ⌜ ListLeft (listOf (now (header .entry))) (lentOf first) (lentOf last) (lentOf count) (lentOf column) r ⌝ }
+    ensures { λ r. ⌜ ListLeft (listOf (now (header .entry)))
+        (lentOf first) (lentOf last) (lentOf times) (lentOf count) (lentOf column) r ⌝ }
 {
-    if (first.len() == PLACES) & (last.len() == PLACES) {
-        let read = listing::list(header);
-        return write_listing(read, first, last, count, column);
+    if (first.len() == PLACES) & (last.len() == PLACES) & (times.len() == PLACES) {
+        let mut firsts: [usize; 720] = [0; 720];
+        let mut lasts: [usize; 720] = [0; 720];
+        let mut borne: [usize; 720] = [0; 720];
+        let read = listing::list_over(header, &mut firsts, &mut lasts, &mut borne);
+        return write_listing(
+            read,
+            &firsts,
+            &lasts,
+            &borne,
+            first,
+            last,
+            times,
+            count,
+            column,
+        );
     }
     abi_value::WRONG_LENGTH
 }
@@ -243,14 +258,20 @@ fn write_comment(
 
 // What was listed, in lent memory.
 fn write_listing(
-    read: Listing,
+    read: Listed,
+    firsts: &[usize],
+    lasts: &[usize],
+    borne: &[usize],
     first: &mut [usize],
     last: &mut [usize],
+    times: &mut [usize],
     count: &mut usize,
     column: &mut usize,
 ) -> u8
-    requires { ⌜ (length (now first) ≡ 720) × (length (now last) ≡ 720) ⌝ }
-    ensures { λ r. ⌜ ListWritten (read .header) read (lentOf first) (lentOf last) (lentOf count) (lentOf column) r ⌝ }
+    requires { ⌜ (length (now firsts) ≡ 720) × (length (now lasts) ≡ 720) × (length (now borne) ≡ 720) ⌝ }
+    requires { ⌜ (length (now first) ≡ 720) × (length (now last) ≡ 720) × (length (now times) ≡ 720) ⌝ }
+    ensures { λ r. ⌜ ListWritten (read .header) (listingBy read (now (firsts .entry)) (now (lasts .entry)) (now (borne .entry)))
+        (lentOf first) (lentOf last) (lentOf times) (lentOf count) (lentOf column) r ⌝ }
 {
     let answer = read.header;
     match answer {
@@ -263,10 +284,9 @@ fn write_listing(
             fault.number()
         }
         Header::Accepted(_) => {
-            let firsts = read.first;
-            let lasts = read.last;
-            put_numbers(&firsts, first);
-            put_numbers(&lasts, last);
+            put_numbers(firsts, first);
+            put_numbers(lasts, last);
+            put_numbers(borne, times);
             let n = read.count;
             *count = n;
             0

@@ -5,7 +5,7 @@ use lib.IntN.{ℤ}
 use mathlib.Core.Path.{_≡_, sym, _∙_}
 use denote.Ref.{now}
 use Rattle.abi_card.specs.Records.{cardOutcome}
-use Rattle.abi_header.specs.Headers.{HeaderOutcome, ValueMemory, CommentMemory, ListOutcome, NamedOutcome}
+use Rattle.abi_header.specs.Headers.{HeaderOutcome, ValueMemory, CommentMemory, listOutcome, NamedOutcome}
 use Rattle.abi_writing.specs.Asking.{WrittenOutcome}
 use Rattle.abi_tile.specs.Tiles.{cursorOf}
 use Rattle.one_answer.specs.OneAnswer.{OneAnswer, pairOf}
@@ -51,9 +51,6 @@ valueMemory r text digits out number column =
 abbrev commentMemory : ℕ → List ℕ → ℕ → ℕ → ℕ → ℕ → CommentMemory
 commentMemory r comment commented bytes card column =
     record { answer = r; comment = comment; commented = commented; bytes = bytes; card = card; column = column }
-
-abbrev listLeft : ℕ → List ℕ → List ℕ → ℕ → ℕ → ListOutcome
-listLeft r first last count column = record { answer = r; first = first; last = last; count = count; column = column }
 
 abbrev headerLeft : ℕ → ℕ → ℕ → HeaderOutcome
 headerLeft r card column = record { answer = r; card = card; column = column }
@@ -111,7 +108,7 @@ entry-comment-into κs a r q s t x y = x ∙ sym y
 
 -- `abi_header::list_into`
 pub list-into : OneAnswer list-into-reads.Post
-    (λ r s. listLeft r (now (s .1 .0)) (now (s .1 .1 .0)) (now (s .1 .1 .1 .0)) (now (s .1 .1 .1 .1 .0)))
+    (λ r s. listOutcome r (now (s .1 .0)) (now (s .1 .1 .0)) (now (s .1 .1 .1 .0)) (now (s .1 .1 .1 .1 .0)) (now (s .1 .1 .1 .1 .1 .0)))
 list-into κs a r q s t x y = x ∙ sym y
 
 -- `abi_header::name_into`
@@ -184,7 +181,7 @@ widrekas-entry-comment κs a r q s t x y = x ∙ sym y
 
 -- `widrekas::widrekas_list`
 pub widrekas-list : OneAnswer widrekas-list-reads.Post
-    (λ r s. listLeft r (now (s .1 .0)) (now (s .1 .1 .0)) (now (s .1 .1 .1 .0)) (now (s .1 .1 .1 .1 .0)))
+    (λ r s. listOutcome r (now (s .1 .0)) (now (s .1 .1 .0)) (now (s .1 .1 .1 .0)) (now (s .1 .1 .1 .1 .0)) (now (s .1 .1 .1 .1 .1 .0)))
 widrekas-list κs a r q s t x y = x ∙ sym y
 
 -- `widrekas::widrekas_name`

@@ -2,6 +2,7 @@
 use mathlib.Core.Path.{_≡_, sym, _∙_}
 use denote.Ref.{now}
 use Rattle.entries.specs.Halves.{valueLeft, commentLeft}
+use Rattle.listing.specs.Listing.{listingBy}
 use Rattle.naming.specs.Naming.{namingBy}
 use Rattle.one_answer.specs.OneAnswer.{OneAnswer}
 use Rattle.roles.proofs.is_bad_length.Reads as is-bad-length-reads
@@ -16,6 +17,7 @@ use Rattle.entries.proofs.lookup_comment.Reads as lookup-comment-reads
 use Rattle.entries.proofs.value_at.Reads as value-at-reads
 use Rattle.entries.proofs.comment_at.Reads as comment-at-reads
 use Rattle.listing.proofs.list.Reads as list-reads
+use Rattle.listing.proofs.list_over.Reads as list-over-reads
 use Rattle.listing.proofs.entry_value.Reads as entry-value-reads
 use Rattle.listing.proofs.entry_comment.Reads as entry-comment-reads
 use Rattle.naming.proofs.read_name.Reads as read-name-reads
@@ -67,6 +69,10 @@ comment-at κs a r q s t x y = x ∙ sym y
 -- `listing::list`
 pub list : OneAnswer list-reads.Post (λ r s. r)
 list κs a r q s t x y = x ∙ sym y
+
+-- `listing::list_over`
+pub list-over : OneAnswer list-over-reads.Post (λ r s. listingBy r (now (s .1 .0)) (now (s .1 .1 .0)) (now (s .1 .1 .1 .0)))
+list-over κs a r q s t x y = x ∙ sym y
 
 -- `listing::entry_value`
 pub entry-value : OneAnswer entry-value-reads.Post (λ r s. valueLeft r (now (s .1 .1 .1 .0)))

@@ -8,7 +8,7 @@ use Rattle.lines.proofs.count_line.Reads as count-line-reads
 use Rattle.lines.proofs.refused_line.Reads as refused-line-reads
 
 -- `lines::entry_line`
-pub entry-line : OneAnswer entry-line-reads.Post (λ r s. lineOutcome r (now (s .1 .1 .1 .1 .0)))
+pub entry-line : OneAnswer entry-line-reads.Post (λ r s. lineOutcome r (now (s .1 .1 .1 .1 .1 .0)))
 entry-line κs a r q s t x y = x .0 ∙ sym (y .0)
 
 -- `lines::count_line`

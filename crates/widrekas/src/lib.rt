@@ -17,9 +17,9 @@ ghost use Rattle.abi_tile.specs.Tiles.{cursorIn, OpenLeft, StepLeft, DecodeLeft
 // The version of this boundary.
 #[no_mangle]
 pub extern "C" fn widrekas_version() -> u32
-    ensures { λ r. ⌜ r ≡ 3 ⌝ }
+    ensures { λ r. ⌜ r ≡ 4 ⌝ }
 {
-    3
+    4
 }
 
 // ---- cards
@@ -132,21 +132,23 @@ pub extern "C" fn widrekas_entry_comment(
     abi_header::entry_comment_into(header, number, comment, commented, length, card, column)
 }
 
-// Lists a header's names in the order of their first cards. Answers 0, with the number of names and, for each, the number of the
-// first card that bears it and of the last; the places behind them hold 720. Otherwise it answers the refusal's number, with the
-// card's number as the count and a refused card's byte as the column; or 255 where a slice has another length than 720. All else stays
-// as it is.
+// Lists a header's names in the order of their first cards. Answers 0, with the number of names and, for each, the number of the first
+// card that bears it, that of the last, and how many cards bear it; the places behind them hold 720, 720 and 0. Otherwise it answers the
+// refusal's number, with the card's number as the count and a refused card's byte as the column; or 255 where a slice has another length
+// than 720. All else stays as it is.
 #[no_mangle]
 pub extern "C" fn widrekas_list(
     header: &[u8],
     first: &mut [usize],
     last: &mut [usize],
+    times: &mut [usize],
     count: &mut usize,
     column: &mut usize,
 ) -> u8
-    ensures { λ r. ⌜ ListLeft (listOf (now (header .entry))) (lentOf first) (lentOf last) (lentOf count) (lentOf column) r ⌝ }
+    ensures { λ r. ⌜ ListLeft (listOf (now (header .entry)))
+        (lentOf first) (lentOf last) (lentOf times) (lentOf count) (lentOf column) r ⌝ }
 {
-    abi_header::list_into(header, first, last, count, column)
+    abi_header::list_into(header, first, last, times, count, column)
 }
 
 // Reads the name that the entry at a card's number bears, whatever stands elsewhere in the header. Answers 0, with the name at the

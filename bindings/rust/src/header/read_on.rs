@@ -188,6 +188,12 @@ impl ReadOn {
         Ok(self.untouched(name)?.entry(name))
     }
 
+    /// How many cards bear a name, as [`Header::count`] says; an error as for [`ReadOn::get`].
+    pub fn count(&self, name: impl AsRef<[u8]>) -> Result<usize, Refusal> {
+        let name = name.as_ref();
+        Ok(self.untouched(name)?.count(name))
+    }
+
     /// The names, those of refused cards too, in the order of their first cards. An error where a name cannot be read, since the
     /// list would lack it; it is that of every name then.
     pub fn keywords(&self) -> Result<impl ExactSizeIterator<Item = &Text>, Refusal> {

@@ -72,6 +72,15 @@ fn looked_up(bytes: &[u8], name: &[u8]) -> Result<Entry, u8> {
     )
 }
 
+/// The name of a value, HIERARCH or XTENSION card.
+fn bearing(card: &[u8; CARD]) -> Option<Text> {
+    match Card::read(card) {
+        Ok(Card::Value { name, .. } | Card::Hierarch { name, .. }) => Some(name),
+        Ok(Card::Xtension(_)) => Some(Text::new(b"XTENSION")),
+        _ => None,
+    }
+}
+
 #[test]
 fn the_list_finds_what_a_lookup_finds() {
     let mut random = Random(20_261_115);
@@ -90,6 +99,11 @@ fn the_list_finds_what_a_lookup_finds() {
         }
         let names: Vec<Text> = header.keywords().cloned().collect();
         assert_eq!(header.entries().count(), names.len());
+        let borne: Vec<Text> = (0..end).filter_map(|number| bearing(header.card_at(number)?)).collect();
+        assert_eq!(names.iter().map(|name| header.count(name)).sum::<usize>(), borne.len());
+        for name in &names {
+            assert_eq!(header.count(name), borne.iter().filter(|own| *own == name).count());
+        }
         for ((name, entry), listed) in header.entries().zip(&names) {
             assert_eq!(name, listed);
             assert_eq!(looked_up(&bytes, name.as_bytes()).as_ref(), Ok(&entry));
@@ -100,6 +114,7 @@ fn the_list_finds_what_a_lookup_finds() {
         for name in ["KIT", "SIZE", "A.B", "A&", "XTENSION", "CONTINUE", "END", "", "\u{1}\u{2}", "KI", "kit"] {
             let found = looked_up(&bytes, name.as_bytes());
             assert_eq!(found.as_ref().err(), header.get(name).is_none().then_some(&12));
+            assert_eq!(found.is_err(), header.count(name) == 0);
             assert_eq!(found.ok(), header.entry(name));
         }
     }
