@@ -26,6 +26,8 @@ pub enum Subject {
     /// The byte at which a card is refused, of which the Rust tells nothing.
     Columns,
     Headers,
+    /// How many cards of a header bear a name.
+    Times,
     Tiles,
 }
 
@@ -199,6 +201,14 @@ faults! {
         RefusedLast = "the last refused card is named",
         RefusedFromOne = "cards are counted from 1",
         NoEndLastCard = "refusal 10 names the last card",
+    }
+    Times {
+        TimesContinue = "a joined CONTINUE card counts for its name",
+        TimesHierarchNot = "a HIERARCH card does not count for its name",
+        TimesUndefinedNot = "a card with an undefined value does not count for its name",
+        TimesInvalidNot = "a card with an invalid value does not count for its name",
+        TimesAtMostTwo = "no more than two cards count for a name",
+        TimesBeyondFirst = "the first card does not count for its name",
     }
     Tiles {
         MaskedToWidth = "u is cut to the width before it is unmapped",

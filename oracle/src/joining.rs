@@ -4,11 +4,13 @@ use crate::faults::Fault;
 use crate::model::Model;
 use crate::reading::{Card, Entry, Header, Refusal, Value};
 
-/// The entries so far, and which of them a CONTINUE joins.
+/// The entries so far, which of them a CONTINUE joins, and the names that the cards bear, one for each card.
+#[derive(Default)]
 struct Listing {
     entries: Vec<Entry>,
     dotted: Vec<bool>,
     open: Option<usize>,
+    borne: Vec<Vec<u8>>,
 }
 
 fn ends_open(value: &Value) -> bool {
@@ -18,7 +20,7 @@ fn ends_open(value: &Value) -> bool {
 impl Model {
     /// A header's entries, from what each of its cards is.
     pub fn header(self, cards: &[[u8; 80]], read: impl Fn(&[u8; 80]) -> Card) -> Header {
-        let mut list = Listing { entries: Vec::new(), dotted: Vec::new(), open: None };
+        let mut list = Listing::default();
         let base = usize::from(self.has(Fault::RefusedFromOne));
         let mut refused = None;
         let mut ended = false;
@@ -74,7 +76,18 @@ impl Model {
                 }
             }
         }
-        Header::Entries(list.entries)
+        let times = list.entries.iter().map(|entry| self.times(&list.borne, &entry.name)).collect();
+        Header::Entries(list.entries, times)
+    }
+
+    /// How many cards bear a name.
+    fn times(self, borne: &[Vec<u8>], name: &[u8]) -> usize {
+        let times = borne.iter().filter(|own| *own == name).count();
+        match self.0 {
+            Fault::TimesAtMostTwo => times.min(2),
+            Fault::TimesBeyondFirst => times - 1,
+            _ => times,
+        }
     }
 
     /// The name at a card's number, or the refusal. No other card has a say, so the refusal carries no card.
@@ -90,7 +103,7 @@ impl Model {
     /// The entry at a card's number, or the refusal with the card that it carries. A refused card counts where it is met: at that number,
     /// or while the string is open.
     pub fn entry_at(self, cards: &[[u8; 80]], at: usize) -> Result<Entry, Refusal> {
-        let mut list = Listing { entries: Vec::new(), dotted: Vec::new(), open: None };
+        let mut list = Listing::default();
         match self.card(&cards[at]) {
             Card::Value(entry) => self.put(&mut list, entry, false),
             Card::Hierarch(entry) => self.put(&mut list, entry, true),
@@ -131,6 +144,15 @@ impl Model {
         }
         if matches!(entry.value, Value::Invalid(_)) && self.has(Fault::InvalidNone) {
             return;
+        }
+        let unborne = match entry.value {
+            _ if dotted && self.has(Fault::TimesHierarchNot) => true,
+            Value::Undefined => self.has(Fault::TimesUndefinedNot),
+            Value::Invalid(_) => self.has(Fault::TimesInvalidNot),
+            _ => false,
+        };
+        if !unborne {
+            list.borne.push(entry.name.clone());
         }
         let open = ends_open(&entry.value) && !(dotted && self.has(Fault::HierarchNotOpen));
         let same = |e: &Entry| {
@@ -180,6 +202,9 @@ impl Model {
             return;
         };
         let entry = &mut list.entries[at];
+        if self.has(Fault::TimesContinue) {
+            list.borne.push(entry.name.clone());
+        }
         let Value::Text(joined) = &mut entry.value else {
             return;
         };

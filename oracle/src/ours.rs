@@ -55,11 +55,11 @@ fn check_header_lengths() {
         let (mut at, mut column) = (LEFT, LEFT);
         let answer = boundary::header(&header, &mut at, &mut column);
         assert!((answer, at, column) == (9, 0, LEFT), "a header of {length} bytes");
-        let (mut first, mut last) = ([LEFT; PLACES], [LEFT; PLACES]);
+        let [mut first, mut last, mut times] = [[LEFT; PLACES]; 3];
         at = LEFT;
-        let answer = boundary::list(&header, &mut first, &mut last, &mut at, &mut column);
+        let answer = boundary::list(&header, &mut first, &mut last, &mut times, &mut at, &mut column);
         assert!((answer, at, column) == (9, 0, LEFT), "a list of {length} bytes");
-        assert!(first == [LEFT; PLACES] && last == [LEFT; PLACES], "a refusal touches lent memory");
+        assert!([first, last, times] == [[LEFT; PLACES]; 3], "a refusal touches lent memory");
         assert!(name(&header, 0) == Err(Refusal { number: 9, card: None, column: None }), "a name of {length} bytes");
         for asked in [Asked::Card(0), Asked::Name(b"A")] {
             let told = Lent::new().entry(&header, asked, b"A");
@@ -72,16 +72,18 @@ fn check_header_lengths() {
 fn check_lent_lengths() {
     let card = [200u8; 80];
     let mut bytes = [BEFORE; 2 * DIGITS];
-    let mut numbers = [LEFT; 2 * PLACES];
+    let mut numbers = [LEFT; 3 * PLACES];
     let (mut number, mut count, mut column) = (-1i64, LEFT, LEFT);
     let (text, digits) = bytes.split_at_mut(DIGITS);
-    let (first, last) = numbers.split_at_mut(PLACES);
+    let (first, others) = numbers.split_at_mut(PLACES);
+    let (last, times) = others.split_at_mut(PLACES);
     let (head, t, d) = (card.as_ptr(), text.as_mut_ptr(), digits.as_mut_ptr());
-    let (f, l) = (first.as_mut_ptr(), last.as_mut_ptr());
+    let (f, l, m) = (first.as_mut_ptr(), last.as_mut_ptr(), times.as_mut_ptr());
     let mut answers = Vec::new();
-    for (a, b) in [(PLACES - 1, PLACES), (PLACES, PLACES - 1)] {
+    for short in 0..3 {
+        let [a, b, c] = std::array::from_fn(|at| PLACES - usize::from(at == short));
         // SAFETY: each pointer has at least as much behind it as its length says, and nothing that is written is lent twice.
-        answers.push(unsafe { boundary::raw::widrekas_list(head, 80, f, a, l, b, &mut count, &mut column) });
+        answers.push(unsafe { boundary::raw::widrekas_list(head, 80, f, a, l, b, m, c, &mut count, &mut column) });
     }
     for (a, b) in [(DIGITS - 1, NUMBERS), (DIGITS, NUMBERS - 1)] {
         let (n, c) = (&mut number, &mut column);
@@ -91,9 +93,9 @@ fn check_lent_lengths() {
         // SAFETY: as above; the name is the card's first byte, which is only read.
         answers.push(unsafe { boundary::raw::widrekas_lookup_value(head, 80, head, 1, t, 0, d, a, f, b, n, c) });
     }
-    assert!(answers == [255; 6], "slices of other lengths: {answers:?}");
+    assert!(answers == [255; 7], "slices of other lengths: {answers:?}");
     assert!((number, count, column) == (-1, LEFT, LEFT), "255 touches a lent number");
-    assert!(bytes == [BEFORE; 2 * DIGITS] && numbers == [LEFT; 2 * PLACES], "255 touches lent memory");
+    assert!(bytes == [BEFORE; 2 * DIGITS] && numbers == [LEFT; 3 * PLACES], "255 touches lent memory");
 }
 
 /// One card.
@@ -318,15 +320,14 @@ fn end(header: &[u8]) -> Result<usize, Refusal> {
 /// One header: where END stands, its list, each entry by its last card, and each name looked up.
 pub fn header(cards: &[[u8; 80]]) -> Header {
     let bytes = cards.as_flattened();
-    let mut first = [LEFT; PLACES];
-    let mut last = [LEFT; PLACES];
+    let [mut first, mut last, mut times] = [[LEFT; PLACES]; 3];
     let (mut count, mut column) = (LEFT, LEFT);
-    let refused = boundary::list(bytes, &mut first, &mut last, &mut count, &mut column);
+    let refused = boundary::list(bytes, &mut first, &mut last, &mut times, &mut count, &mut column);
     let column = column_of(refused, column);
     let mut lent = Lent::new();
     let end = end(bytes);
     if refused != 0 {
-        assert!(first == [LEFT; PLACES] && last == [LEFT; PLACES], "a refusal touches lent memory");
+        assert!([first, last, times] == [[LEFT; PLACES]; 3], "a refusal touches lent memory");
         let refusal = Refusal { number: refused, card: Some(count), column };
         let told = lent.entry(bytes, Asked::Name(b"A"), b"A");
         assert!(told == Err(refusal), "lookup refuses a header otherwise: {told:?}, the list by {refusal:?}");
@@ -337,6 +338,7 @@ pub fn header(cards: &[[u8; 80]]) -> Header {
     let beyond = (lent.entry(bytes, Asked::Card(cards.len()), b""), name(bytes, cards.len()));
     assert!(beyond == (Err(Refusal::NOT_FOUND), Err(Refusal::NOT_FOUND)), "a card that is not there: {beyond:?}");
     assert!(first[count..].iter().chain(&last[count..]).all(|&n| n == PLACES), "free places");
+    assert!(times[count..].iter().all(|&n| n == 0), "free places are borne");
     let mut entries: Vec<Entry> = Vec::new();
     for at in 0..count {
         let card_name = |n: usize| match card(&cards[n]) {
@@ -359,7 +361,7 @@ pub fn header(cards: &[[u8; 80]]) -> Header {
             assert!(told == Err(Refusal::NOT_FOUND), "lookup of an absent name: {told:?}");
         }
     }
-    Header::Entries(entries)
+    Header::Entries(entries, times[..count].to_vec())
 }
 
 /// A pixel that no width of 8 or 16 bits has, to see what stays untouched.

@@ -25,8 +25,8 @@ struct Hunt<T: 'static> {
 }
 
 impl<T: Clone> Hunt<T> {
-    fn new(subject: Subject, views: &'static [View<T>], needed: usize) -> Self {
-        let misreadings = FAULTS.iter().filter(|f| f.0 == subject).map(|f| (Variant::Misreading(f.1), f.2, 0));
+    fn new(subjects: &[Subject], views: &'static [View<T>], needed: usize) -> Self {
+        let misreadings = FAULTS.iter().filter(|f| subjects.contains(&f.0)).map(|f| (Variant::Misreading(f.1), f.2, 0));
         let left = misreadings.chain(views.iter().map(|v| (Variant::View(v.1), v.0, 0))).collect();
         Hunt { left, needed, told: 0, seen: 0 }
     }
@@ -82,7 +82,7 @@ impl<T: Clone> Hunt<T> {
 /// Runs the hunt over the misreadings of a column.
 fn columns(seed: u64, many: usize) -> usize {
     let plain = Model(Fault::None);
-    let mut hunt = Hunt::new(Subject::Columns, &[], WITNESSES);
+    let mut hunt = Hunt::new(&[Subject::Columns], &[], WITNESSES);
     cards::cases(seed, 4, many, &mut |part, card| {
         let right = plain.card(card);
         hunt.case(
@@ -101,7 +101,7 @@ pub fn run(seed: u64, many: usize) -> usize {
     let mut left = 0;
 
     let plain = Model(Fault::None);
-    let mut hunt = Hunt::new(Subject::Cards, views::CARDS, 1);
+    let mut hunt = Hunt::new(&[Subject::Cards], views::CARDS, 1);
     cards::cases(seed, 4, many, &mut |part, card| {
         if cards::aside(card).is_some() {
             return true;
@@ -122,7 +122,7 @@ pub fn run(seed: u64, many: usize) -> usize {
 
     left += columns(seed, many);
 
-    let mut hunt = Hunt::new(Subject::Headers, views::HEADERS, 1);
+    let mut hunt = Hunt::new(&[Subject::Headers, Subject::Times], views::HEADERS, 1);
     headers::cases(seed, 3, many, &mut |part, header| {
         if headers::aside(header).is_some() {
             return true;
@@ -144,7 +144,7 @@ pub fn run(seed: u64, many: usize) -> usize {
     });
     left += hunt.end("headers");
 
-    let mut hunt = Hunt::new(Subject::Tiles, views::TILES, 1);
+    let mut hunt = Hunt::new(&[Subject::Tiles], views::TILES, 1);
     tiles::cases(seed, false, many, &mut |part, case| {
         if tiles::aside(case).is_some() {
             return true;

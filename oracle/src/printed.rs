@@ -72,8 +72,8 @@ pub fn shortest(d: &Decimal) -> String {
     format!("{sign}{cut}e{power}")
 }
 
-/// A name's line: name, kind and reading.
-fn line(entry: &Entry, out: &mut Vec<u8>) {
+/// A name's line: name, kind, reading, and how many cards bear it where that is above 1.
+fn line(entry: &Entry, times: usize, out: &mut Vec<u8>) {
     out.extend_from_slice(&entry.name);
     let (kind, reading) = match &entry.value {
         Value::Integer(z) => (b'I', z.to_string().into_bytes()),
@@ -87,6 +87,9 @@ fn line(entry: &Entry, out: &mut Vec<u8>) {
     if !reading.is_empty() {
         out.push(b' ');
         out.extend_from_slice(&reading);
+    }
+    if times > 1 {
+        out.extend_from_slice(format!(" x{times}").as_bytes());
     }
     out.push(b'\n');
 }
@@ -115,16 +118,16 @@ fn more(entry: &Entry) -> String {
 
 /// What is printed of a header.
 pub fn header(header: &Header) -> Vec<u8> {
-    let entries = match header {
+    let (entries, times) = match header {
         Header::Refused(number, at, column) => {
             let byte = column.map_or(String::new(), |c| format!(":{c}"));
             return format!("refused {number} at {at}{byte}\n").into_bytes();
         }
-        Header::Entries(entries) => entries,
+        Header::Entries(entries, times) => (entries, times),
     };
     let mut out = Vec::new();
-    for entry in entries {
-        line(entry, &mut out);
+    for (entry, times) in entries.iter().zip(times) {
+        line(entry, *times, &mut out);
         out.extend_from_slice(more(entry).as_bytes());
     }
     out.extend_from_slice(format!("{} keywords\n", entries.len()).as_bytes());

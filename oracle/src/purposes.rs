@@ -192,6 +192,35 @@ fn caps() -> Vec<Cards> {
     each(&values.iter().map(String::as_str).collect::<Vec<_>>())
 }
 
+/// Cards of one name, each with another kind of value; a string that is open, and one that is empty.
+const BORNE: [&str; 9] = [
+    "K       = 5 / c",
+    "K       = 1.5",
+    "K       = T",
+    "K       = 'a&'",
+    "K       = ''",
+    "K       =",
+    "K       = word",
+    "HIERARCH K = 7",
+    "HIERARCH  K = 'x2' / d",
+];
+
+/// Headers in which two cards, or three and more, bear one name: each card with each other, with cards between that bear another name or
+/// none, with names that are alike, and up to the most cards.
+pub fn borne() -> Purpose<Cards> {
+    let mut all = Vec::new();
+    for first in BORNE {
+        all.extend(BORNE.iter().map(|second| ended(&[first, second])));
+        all.push(ended(&[first, "CONTINUE 'b'", "COMMENT K = 5", "K1      = 1", first, "k       = 1", first]));
+        all.push(ended(&["L       = 1", first, "L       = 2", first, "HIERARCH K.K = 1", "HIERARCH L = 3"]));
+    }
+    for many in [9, 10, 11, 99, 100, 719] {
+        all.push(ended(&vec!["K       = 5"; many]));
+        all.push(ended(&[&vec!["K       ="; many - 1][..], &["HIERARCH L K = ''"]].concat()));
+    }
+    ("names that several cards bear", all)
+}
+
 /// Headers whose cards up to END are the same, with nothing and then with other cards behind it.
 pub fn behind_end() -> Vec<Vec<Cards>> {
     let fronts: [&[&str]; 4] = [

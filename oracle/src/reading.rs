@@ -84,10 +84,11 @@ impl Card {
     }
 }
 
-/// One header: its entries in order, or a refusal with the card's number and the byte of that card. The Rust tells no byte.
+/// One header: its entries in order, with how many cards bear the name of each, or a refusal with the card's number and the byte of that
+/// card. The Rust tells no byte.
 #[derive(Clone, PartialEq, Debug)]
 pub enum Header {
-    Entries(Vec<Entry>),
+    Entries(Vec<Entry>, Vec<usize>),
     Refused(u8, usize, Option<usize>),
 }
 
@@ -96,7 +97,7 @@ impl Header {
     pub fn column(&self) -> Option<usize> {
         match self {
             Header::Refused(_, _, column) => *column,
-            Header::Entries(_) => None,
+            Header::Entries(..) => None,
         }
     }
 }

@@ -42,7 +42,7 @@ fn recorded(header: &[[u8; 80]]) -> Option<Header> {
     let differ = headers::differ(&rust, &model);
     assert!(!differ, "{}: the Rust has {rust:?}, the model {model:?}", shown(header.as_flattened()));
     match (&mut rust, model) {
-        (Header::Entries(theirs), Header::Entries(ours)) => {
+        (Header::Entries(theirs, _), Header::Entries(ours, _)) => {
             for (entry, other) in theirs.iter_mut().zip(ours) {
                 if let (Value::Decimal(d), Value::Decimal(e)) = (&mut entry.value, other.value) {
                     d.record = e.record;
@@ -67,14 +67,15 @@ fn answer(header: &[[u8; 80]]) -> Option<Header> {
 struct Chosen {
     headers: Vec<(Cards, Header)>,
     seen: HashSet<Vec<u8>>,
-    /// Those of a misread column are made on purpose, not chosen.
+    /// Those of a misread column or of a miscounted name are made on purpose, not chosen.
     witnesses: Vec<(Subject, Fault, usize)>,
     refusals: BTreeMap<u8, usize>,
 }
 
 impl Chosen {
     fn new() -> Self {
-        let witnesses = variants::misreadings().filter(|m| m.0 != Subject::Columns).map(|m| (m.0, m.1, 0)).collect();
+        let witnesses = variants::misreadings().filter(|m| !matches!(m.0, Subject::Columns | Subject::Times));
+        let witnesses = witnesses.map(|m| (m.0, m.1, 0)).collect();
         Chosen { headers: Vec::new(), seen: HashSet::new(), witnesses, refusals: BTreeMap::new() }
     }
 
@@ -100,7 +101,7 @@ impl Chosen {
         let hits: Vec<usize> = (0..self.witnesses.len()).filter(|&i| few(&self.witnesses[i])).collect();
         let rare = match rust {
             Header::Refused(number, ..) => self.refusals.get(&number).copied().unwrap_or(0) < REFUSALS,
-            Header::Entries(_) => false,
+            Header::Entries(..) => false,
         };
         if (rare || !hits.is_empty()) && self.take(header, rust) {
             hits.into_iter().for_each(|i| self.witnesses[i].2 += 1);
@@ -199,6 +200,7 @@ fn choose(seed: u64) -> Chosen {
     let rust = answer(&most()).expect("the most cards");
     chosen.take(&most(), rust);
     chosen.take_columns();
+    chosen.take_made(purposes::borne(), answer);
     chosen
 }
 
@@ -206,7 +208,7 @@ fn choose(seed: u64) -> Chosen {
 fn print_kinds(chosen: &Chosen) {
     let mut kinds: BTreeMap<String, usize> = BTreeMap::new();
     let mut bytes: BTreeMap<u8, BTreeSet<usize>> = BTreeMap::new();
-    let (mut decimals, mut given_back) = (0, 0);
+    let (mut decimals, mut given_back, mut repeated) = (0, 0, 0);
     for (_, answer) in &chosen.headers {
         let entries = match answer {
             Header::Refused(number, _, column) => {
@@ -214,7 +216,10 @@ fn print_kinds(chosen: &Chosen) {
                 bytes.entry(*number).or_default().extend(column);
                 continue;
             }
-            Header::Entries(entries) => entries,
+            Header::Entries(entries, times) => {
+                repeated += times.iter().filter(|&&n| n > 1).count();
+                entries
+            }
         };
         for entry in entries {
             let kind = format!("{:?}", entry.value);
@@ -226,6 +231,7 @@ fn print_kinds(chosen: &Chosen) {
         }
     }
     println!("    {kinds:?}");
+    println!("    {repeated} names that more than one card bears");
     for (number, bytes) in bytes.iter().filter(|b| !b.1.is_empty()) {
         println!("    refusal {number} names {} bytes: {bytes:?}", bytes.len());
     }

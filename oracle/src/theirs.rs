@@ -3,6 +3,7 @@
 use crate::reading::{Card, Decimal, Entry, Header, Tile, Value};
 use fitsrs::card as published;
 use fitsrs::error::Error;
+use std::collections::BTreeMap;
 use std::convert::TryFrom;
 use std::panic::{catch_unwind, set_hook, take_hook, AssertUnwindSafe};
 use std::sync::atomic::{AtomicBool, Ordering};
@@ -90,7 +91,16 @@ pub fn card(card: &[u8; 80]) -> Option<Card> {
     caught(|| told(published::Card::try_from(card)))
 }
 
-/// One header of the cards up to END, or nothing where the Rust panics.
+/// The name that a card bears.
+fn borne(card: &published::Card) -> Option<&str> {
+    match card {
+        published::Card::Value { name, .. } | published::Card::Hierarch { name, .. } => Some(name),
+        published::Card::Xtension { .. } => Some("XTENSION"),
+        _ => None,
+    }
+}
+
+/// One header of the cards up to END, or nothing where the Rust panics. How many cards bear a name is counted in the Rust's cards.
 pub fn header(cards: &[[u8; 80]]) -> Option<Header> {
     caught(|| {
         let mut read = Vec::with_capacity(cards.len());
@@ -104,8 +114,15 @@ pub fn header(cards: &[[u8; 80]]) -> Option<Header> {
                 Err(error) => return Header::Refused(number(&error), at, None),
             }
         }
+        let mut borne_by = BTreeMap::new();
+        for name in read.iter().filter_map(borne) {
+            *borne_by.entry(name.to_string()).or_default() += 1;
+        }
         match fitsrs::header(read) {
-            Ok(header) => Header::Entries(header.iter().map(|(name, value)| entry(name, value)).collect()),
+            Ok(header) => {
+                let times = header.iter().map(|(name, _)| borne_by.get(name).copied().unwrap_or(0)).collect();
+                Header::Entries(header.iter().map(|(name, value)| entry(name, value)).collect(), times)
+            }
             Err(error) => Header::Refused(number(&error), cards.len(), None),
         }
     })

@@ -55,7 +55,7 @@ pub fn misreadings() -> impl Iterator<Item = (Subject, Fault, &'static str)> {
 pub fn misread(header: &[[u8; 80]], subject: Subject, fault: Fault) -> Vec<u8> {
     let (plain, wrong) = (Model(Fault::None), Model(fault));
     printed::header(&match subject {
-        Subject::Headers => wrong.header(header, |c| plain.card(c)),
+        Subject::Headers | Subject::Times => wrong.header(header, |c| plain.card(c)),
         _ => plain.header(header, |c| wrong.card(c)),
     })
 }

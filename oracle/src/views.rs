@@ -16,8 +16,14 @@ fn value(card: &mut Card, change: impl Fn(&mut Value)) {
 }
 
 fn entries(header: &mut Header, change: impl Fn(&mut Vec<Entry>)) {
-    if let Header::Entries(e) = header {
+    if let Header::Entries(e, _) = header {
         change(e);
+    }
+}
+
+fn times(header: &mut Header, change: impl Fn(&mut Vec<usize>)) {
+    if let Header::Entries(_, t) = header {
+        change(t);
     }
 }
 
@@ -149,14 +155,32 @@ pub const CARDS: &[View<Card>] = &[
 
 pub const HEADERS: &[View<Header>] = &[
     ("the first entry is lost", |h| {
-        entries(h, |e| {
-            if !e.is_empty() {
-                e.remove(0);
+        if let Header::Entries(e, t) = h {
+            e.drain(..1.min(e.len()));
+            t.drain(..1.min(t.len()));
+        }
+    }),
+    ("the last entry is lost", |h| {
+        if let Header::Entries(e, t) = h {
+            e.pop();
+            t.pop();
+        }
+    }),
+    ("the entries stand in the other order", |h| {
+        if let Header::Entries(e, t) = h {
+            e.reverse();
+            t.reverse();
+        }
+    }),
+    ("one card more bears each name", |h| times(h, |t| t.iter_mut().for_each(|t| *t += 1))),
+    ("each name is borne once", |h| times(h, |t| t.fill(1))),
+    ("how often two names are borne changes places", |h| {
+        times(h, |t| {
+            if t.len() > 1 {
+                t.swap(0, 1);
             }
         })
     }),
-    ("the last entry is lost", |h| entries(h, |e| e.truncate(e.len().saturating_sub(1)))),
-    ("the entries stand in the other order", |h| entries(h, |e| e.reverse())),
     ("two names change places", |h| {
         entries(h, |e| {
             if let [a, b, ..] = &mut e[..] {
@@ -205,7 +229,7 @@ pub const HEADERS: &[View<Header>] = &[
     }),
     ("a refused header is empty", |h| {
         if let Header::Refused(..) = h {
-            *h = Header::Entries(Vec::new());
+            *h = Header::Entries(Vec::new(), Vec::new());
         }
     }),
 ];

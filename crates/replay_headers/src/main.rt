@@ -75,11 +75,12 @@ fn put_header(header: &[u8]) {
 fn put_names(header: &[u8], listing: Listing) {
     let first = listing.first;
     let last = listing.last;
+    let times = listing.times;
     let count = listing.count;
     // A text or a comment has at most 68 bytes of its own card and 71 of each card that is joined to it.
     let mut text = [0u8; 51200];
     let mut comment = [0u8; 51200];
-    // At most a name, a letter, a text and three bytes more.
+    // At most a name, a letter, a text, the number of cards and six bytes more.
     let mut line = [0u8; 51360];
     let mut k = 0;
     while k < count && k < PLACES {
@@ -87,6 +88,7 @@ fn put_names(header: &[u8], listing: Listing) {
             header,
             first[k],
             last[k],
+            times[k],
             &mut text,
             &mut comment,
             &mut line,
@@ -102,6 +104,7 @@ fn put_entry(
     header: &[u8],
     first: usize,
     last: usize,
+    times: usize,
     text: &mut [u8],
     comment: &mut [u8],
     line: &mut [u8],
@@ -122,7 +125,7 @@ fn put_entry(
     let name = entry.name;
     let digits = looked.digits;
     let shown = text::first_of(text, looked.text);
-    let written = lines::entry_line(name, value, digits, shown, line);
+    let written = lines::entry_line(name, value, digits, shown, times, line);
     put_line(written, line);
     put_comment(commented, text::first_of(comment, remark.comment));
     put_record(value, digits);

@@ -9,11 +9,11 @@ use Rattle.replay_headers.proofs.put_names.Statement.{statement}
 use Rattle.replay_headers.proofs.put_names.Tie as tie
 
 abbrev Inv-loop : tie.InvT-loop
-Inv-loop header first last count text₀ comment₀ line₀ k₀ text comment line k = (k ≤ 720) × (length text ≡ 51200) ×
+Inv-loop header first last times count text₀ comment₀ line₀ k₀ text comment line k = (k ≤ 720) × (length text ≡ 51200) ×
     (length comment ≡ 51200) × (length line ≡ 51360)
 
 abbrev μ-loop : tie.MeasureT-loop
-μ-loop header first last count text₀ comment₀ line₀ k₀ text comment line k = count - k
+μ-loop header first last times count text₀ comment₀ line₀ k₀ text comment line k = count - k
 
 loop-holds : tie.Need-loop-holds Inv-loop μ-loop
 loop-holds c = search needs
@@ -29,6 +29,12 @@ mul-put-entry-2 c = search needs
 
 array-read-put-entry-2 : tie.Need-array-read-put-entry-2 Inv-loop μ-loop
 array-read-put-entry-2 c = search needs
+
+mul-put-entry-3 : tie.Need-mul-put-entry-3 Inv-loop μ-loop
+mul-put-entry-3 c = search needs
+
+array-read-put-entry-3 : tie.Need-array-read-put-entry-3 Inv-loop μ-loop
+array-read-put-entry-3 c = search needs
 
 slice-aggregate-put-entry : tie.Need-slice-aggregate-put-entry Inv-loop μ-loop
 slice-aggregate-put-entry c = search needs
@@ -80,6 +86,8 @@ put-names-spec =
     array-read-put-entry
     mul-put-entry-2
     array-read-put-entry-2
+    mul-put-entry-3
+    array-read-put-entry-3
     slice-aggregate-put-entry
     slice-aggregate-put-entry-2
     slice-aggregate-put-entry-3
