@@ -1,7 +1,9 @@
 -- What the C boundary says of a value, a unit's end, a wrong length and a column.
 use Prim.Native.Nat.{ℕ}
+use mathlib.Core.Path.{_≡_}
 use mathlib.Core.Bool.{Bool, false, cond}
 use lib.IntN.{ℤ, pos}
+use Rattle.laws.specs.Lending.{Lent}
 use Rattle.refusal.specs.declared.Column.{Column}
 use Rattle.refusal.specs.declared.Column.the-variants.{At, Absent}
 use Rattle.numbers.specs.declared.Size.{Size}
@@ -41,6 +43,20 @@ wrongLength = 255
 abbrev pub unitEnd : UnitPlace → ℕ
 unitEnd (Between from to) = to
 unitEnd Nowhere = 0
+
+-- an answer, and the lent start after it
+pub record UnitOutcome : Type 0 where
+  pub answer : ℕ
+  pub start : ℕ
+
+-- the end of a unit, and where it starts; 0 where there is none, and the start stays
+abbrev pub unitTold : UnitPlace → ℕ → UnitOutcome
+unitTold (Between from to) start = record { answer = to; start = from }
+unitTold Nowhere start = record { answer = 0; start = start }
+
+-- what reading a unit past a space leaves, where x is its place and r the answer
+abbrev pub UnitLeft : UnitPlace → Lent ℕ → ℕ → Type 0
+UnitLeft x start r = _≡_ {A = UnitOutcome} (record { answer = r; start = start .left }) (unitTold x (start .was))
 
 -- what a lent column holds behind a refusal: the byte of the refused card; where the refusal has none the column stays
 abbrev pub columnAfter : Column → ℕ → ℕ

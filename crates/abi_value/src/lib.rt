@@ -1,7 +1,8 @@
 // A value as the C boundary gives it, in numbers, and what its records share.
 ghost use mathlib.Core.Path.{_≡_};
-ghost use Rattle.value.specs.Units.{unitOf};
-ghost use Rattle.abi_value.specs.Telling.{sizeTold, valueTold, bitOf, unitEnd, columnAfter};
+ghost use Rattle.laws.specs.Lending.{lentOf};
+ghost use Rattle.value.specs.Units.{unitOf, unitPastSpace};
+ghost use Rattle.abi_value.specs.Telling.{sizeTold, valueTold, bitOf, unitEnd, UnitLeft, columnAfter};
 use numbers::Size;
 use numbers::Value;
 use refusal::Column;
@@ -80,7 +81,7 @@ pub fn bit(t: bool) -> u8
     if t { 1 } else { 0 }
 }
 
-// The end of the unit that a comment names, which starts at byte 1; 0 where it names none.
+// The end of the unit that a comment names as fitsrs reads it, which starts at byte 1; 0 where it names none.
 pub fn unit_end(comment: &[u8]) -> usize
     ensures { λ r. ⌜ r ≡ unitEnd (unitOf (now (comment .entry))) ⌝ }
 {
@@ -89,6 +90,18 @@ pub fn unit_end(comment: &[u8]) -> usize
         UnitPlace::Between(_, end) => end,
         UnitPlace::Nowhere => 0,
     }
+}
+
+// The end of the unit that a comment names, with one space in front passed over, and where it starts; 0 where it names none, and the start
+// stays as it is.
+pub fn unit_past_space_end(comment: &[u8], start: &mut usize) -> usize
+    ensures { λ r. ⌜ UnitLeft (unitPastSpace (now (comment .entry))) (lentOf start) r ⌝ }
+{
+    let UnitPlace::Between(from, end) = value::unit_past_space(comment) else {
+        return 0;
+    };
+    *start = from;
+    end
 }
 
 // What a lent column holds behind a refusal: the byte of the refused card. Where the refusal has none the column stays.

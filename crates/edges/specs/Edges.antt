@@ -1,19 +1,21 @@
 -- The starred rows of SPECIFICATION 15: one table and one statement, proved by computing.
 -- A row is a card, a header of several cards in which KIT is looked up, or a tile. Beside them stand rows of an entry by its card's
--- number, rows of each refusal of a card with its column (SPECIFICATION 2.4), and rows of both halves of a lookup (SPECIFICATION 10).
+-- number, rows of each refusal of a card with its column (SPECIFICATION 2.4), rows of both halves of a lookup (SPECIFICATION 10), and rows
+-- of a comment's unit by both readings (SPECIFICATION 8).
 use Prim.Native.Nat.{ℕ}
 use Prim.Native.Char.{code}
 use Prim.Native.String.{String}
 use mathlib.Core.Path.{_≡_, refl}
 use mathlib.Core.Bool.{Bool, true, false}
 use mathlib.Core.List.{List, [], _∷_, _++_, map}
+use mathlib.Core.Option.{Option, none, some}
 use lib.IntN.{ℤ, pos}
 use lib.ListN.{replicate, take}
 use Rattle.refusal.specs.declared.Column.{Column}
 use Rattle.refusal.specs.declared.Column.the-variants.{At, Absent}
 use Rattle.refusal.specs.declared.Fault.{Fault}
 use Rattle.refusal.specs.Numbers.{numberOf}
-use Rattle.text.specs.Bytes.{ascii, tab, lineFeed, isSpace, isBlank, isPrintable, isDigit, isZero, shown, dToE}
+use Rattle.text.specs.Bytes.{ascii, tab, lineFeed, delete, isSpace, isBlank, isPrintable, isDigit, isZero, shown, dToE}
 use Rattle.text.specs.Trim.{trimStart, leading, consTrimmed, trimEnd, trim}
 use Rattle.text.specs.Same.{same}
 use Rattle.text.specs.Ends.{stem, endsWith}
@@ -32,7 +34,10 @@ use Rattle.numbers.specs.Digits.{isDigits, digitsValueFrom}
 use Rattle.numbers.specs.Integers.{integerOf}
 use Rattle.numbers.specs.Decimals.{fractionOf, afterFraction, isMark, writtenOf, exponentOf, scaled, finiteOf, lowered, isWord, decimalOf}
 use Rattle.numbers.specs.Numbers.{readNumber}
+use Rattle.value.specs.declared.UnitPlace.{UnitPlace}
+use Rattle.value.specs.declared.UnitPlace.the-variants.{Between, Nowhere}
 use Rattle.value.specs.Values.{startsNumber, startOf, ofString, ofNumber, valueWith, valueOf}
+use Rattle.value.specs.Units.{unitOf, unitPastSpace, unitBytes}
 use Rattle.card.specs.declared.Card.{Card}
 use Rattle.card.specs.declared.Card.the-variants as C
 use Rattle.card.specs.declared.CardAnswer.{CardAnswer}
@@ -64,7 +69,7 @@ use Rattle.rice.specs.Steps.{inLimits, widthOf, planOf, stands, stepOf, openOf,
 
 -- a card by its keyword and its value text, by its text from byte 0 on, or by bytes that have no character between two texts; a header
 -- by the texts of its cards, for both halves after the bytes that are lent to each; an entry by its card's number and these texts; a
--- tile by its width, its number of pixels and its bytes
+-- comment by its bytes, or as KIT's in a header; a tile by its width, its number of pixels and its bytes
 pub data Input : Type 0 where
   card : String → String → Input
   line : String → Input
@@ -72,6 +77,8 @@ pub data Input : Type 0 where
   header : List String → Input
   bothHalves : ℕ → ℕ → List String → Input
   entryNo : ℕ → List String → Input
+  bareComment : List ℕ → Input
+  kitComment : List String → Input
   tile : ℕ → ℕ → List ℕ → Input
 
 -- bytes, then spaces up to n
@@ -95,8 +102,9 @@ verticalTab = 11
 
 -- in the terms of SPECIFICATION 15: a string by its text, an integer, a decimal by its sign, digits and power of ten, a refusal without
 -- a column by its number, a refused card by the number and the column, a refused header by the number, the card and the column or that
--- there is none, both halves of a lookup each by its reading and the length beside it, a comment as a string by its text, a tile by its
--- pixels and the bits used, a refused tile by the number, the pixels written and the pixels lent
+-- there is none, both halves of a lookup each by its reading and the length beside it, a comment as a string by its text, a unit by its
+-- place and its bytes, both readings of it side by side, a tile by its pixels and the bits used, a refused tile by the number, the pixels
+-- written and the pixels lent
 pub data Reading : Type 0 where
   string : List ℕ → Reading
   integer : ℤ → Reading
@@ -105,6 +113,8 @@ pub data Reading : Type 0 where
   refusedAt : ℕ → ℕ → Reading
   refusedIn : ℕ → ℕ → Column → Reading
   halves : Reading → ℕ → Reading → ℕ → Reading
+  unitAt : UnitPlace → Option (List ℕ) → Reading
+  bothUnits : Reading → Reading → Reading
   pixels : List ℤ → ℕ → Reading
   stopped : ℕ → ℕ → List ℤ → Reading
   other : Reading
@@ -175,6 +185,16 @@ ofHalves v c =
     halves (ofValue v) (v .answer .text) (byCommentAnswer (c .answer .answer) (take (c .answer .comment) (c .comment)))
     (c .answer .comment)
 
+-- a comment's unit, first as fitsrs reads it, then past a space
+abbrev pub ofPlace : UnitPlace → List ℕ → Reading
+ofPlace p c = unitAt p (unitBytes p c)
+
+abbrev pub ofUnits : List ℕ → Reading
+ofUnits c = bothUnits (ofPlace (unitOf c) c) (ofPlace (unitPastSpace c) c)
+
+abbrev pub ofKit : CommentOutcome → Reading
+ofKit o = ofUnits (take (o .answer .comment) (o .comment))
+
 -- a tile's, with its pixels in the lent slice; its refusals have no column
 abbrev pub byTileColumn : Column → ℕ → ℕ → List ℤ → Reading
 byTileColumn (At byte) number n content = other
@@ -197,6 +217,8 @@ reading (bothHalves m n texts) =
     ofHalves (valueNamed (headerBytes texts) (ascii "KIT") (replicate m 0))
     (commentNamed (headerBytes texts) (ascii "KIT") (replicate n 0))
 reading (entryNo i texts) = ofValue (valueNumbered (headerBytes texts) i (replicate 80 0))
+reading (bareComment c) = ofUnits c
+reading (kitComment texts) = ofKit (commentNamed (headerBytes texts) (ascii "KIT") (replicate 80 0))
 reading (tile bits nx bytes) = ofDecoding (decodeOf bytes nx 32 bits (replicate nx (pos 7)))
 
 -- ---- the table
@@ -327,16 +349,41 @@ halfTable =
     ∷ row (bothHalves 80 80 []) (halves (refusedIn 9 0 Absent) 0 (refusedIn 9 0 Absent) 0)
     ∷ []
 
+-- a unit from one byte up to another, and none
+abbrev pub unitFound : ℕ → ℕ → List ℕ → Reading
+unitFound from to bytes = unitAt (Between from to) (some bytes)
+
+abbrev pub noUnit : Reading
+noUnit = unitAt Nowhere none
+
+-- the unit of a comment by both readings
+abbrev pub unitTable : List Row
+unitTable =
+    -- a space in front hides a unit from the first reading alone
+    row (bareComment (ascii " [s] time")) (bothUnits noUnit (unitFound 2 3 (ascii "s")))
+    ∷ row (bareComment (ascii "[s] time")) (bothUnits (unitFound 1 2 (ascii "s")) (unitFound 1 2 (ascii "s")))
+    ∷ row (bareComment (ascii " []")) (bothUnits noUnit (unitFound 2 2 []))
+    -- a second space is not passed over, nor is a byte that was replaced
+    ∷ row (bareComment (ascii "  [s]")) (bothUnits noUnit noUnit)
+    ∷ row (bareComment (delete ∷ ascii "[s]")) (bothUnits noUnit noUnit)
+    -- a comment that was joined
+    ∷ row (kitComment ("KIT     = 'a&' / [s" ∷ "CONTINUE  'b' /m]" ∷ "END" ∷ []))
+    (bothUnits noUnit (unitFound 2 5 (ascii "s" ++ (lineFeed ∷ ascii "m"))))
+    -- no bracket
+    ∷ row (bareComment (ascii " ")) (bothUnits noUnit noUnit)
+    ∷ row (bareComment []) (bothUnits noUnit noUnit)
+    ∷ []
+
 abbrev pub rows : List Row
-rows = table ++ columnTable ++ halfTable
+rows = table ++ columnTable ++ halfTable ++ unitTable
 
 -- each input has its row's reading
 pub edges : map (λ (r : Row). reading (r .input)) rows ≡ map (λ (r : Row). r .reading) rows
 unfolding isSpace isBlank isPrintable isDigit isZero shown dToE trimStart leading consTrimmed trimEnd trim same stem endsWith filled
     placeFrom after scanFrom byteClass splitOf settledOf opened unopened stringOf firstByte isSign isNegative unsigned isDigits
     digitsValueFrom integerOf fractionOf afterFraction isMark writtenOf exponentOf scaled finiteOf lowered isWord decimalOf readNumber
-    startsNumber startOf ofString ofNumber valueWith valueOf hasHigh classOf namePieces joinPieces highFrom otherOf continuationOf
-    isWithinQuotes quotedCard extensionOf hierarchOf unplacedOf cardOf
+    startsNumber startOf ofString ofNumber valueWith valueOf unitOf unitPastSpace hasHigh classOf namePieces joinPieces highFrom otherOf
+    continuationOf isWithinQuotes quotedCard extensionOf hierarchOf unplacedOf cardOf
     endsOpen addsNothing joinText joinComment opens joinWords joinOn lookup cardsIn isBadLength headerFrom headerOf named numbered
     metOn valueIn commentIn
     decodeOf stepsOf stepOf openOf planOf inLimits widthOf stands blockOf codeOf runOf diffRead runRead fieldRead pixelOf inWidth modulo

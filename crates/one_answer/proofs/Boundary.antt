@@ -4,6 +4,7 @@ use mathlib.Core.List.{List}
 use lib.IntN.{ℤ}
 use mathlib.Core.Path.{_≡_, sym, _∙_}
 use denote.Ref.{now}
+use Rattle.abi_value.specs.Telling.{UnitOutcome}
 use Rattle.abi_card.specs.Records.{cardOutcome}
 use Rattle.abi_header.specs.Headers.{HeaderOutcome, ValueMemory, CommentMemory, listOutcome, NamedOutcome}
 use Rattle.abi_writing.specs.Asking.{WrittenOutcome}
@@ -13,6 +14,7 @@ use Rattle.one_answer.proofs.Both.{both}
 use Rattle.abi_value.proofs.value_told.Reads as value-told-reads
 use Rattle.abi_value.proofs.bit.Reads as bit-reads
 use Rattle.abi_value.proofs.unit_end.Reads as unit-end-reads
+use Rattle.abi_value.proofs.unit_past_space_end.Reads as unit-past-space-end-reads
 use Rattle.abi_value.proofs.column_after.Reads as column-after-reads
 use Rattle.abi_card.proofs.read_into.Reads as read-into-reads
 use Rattle.abi_header.proofs.header_into.Reads as header-into-reads
@@ -28,6 +30,7 @@ use Rattle.abi_tile.proofs.step_into.Reads as step-into-reads
 use Rattle.abi_tile.proofs.decode_into.Reads as decode-into-reads
 use Rattle.widrekas.proofs.widrekas_version.Reads as widrekas-version-reads
 use Rattle.widrekas.proofs.widrekas_unit.Reads as widrekas-unit-reads
+use Rattle.widrekas.proofs.widrekas_unit_past_space.Reads as widrekas-unit-past-space-reads
 use Rattle.widrekas.proofs.widrekas_card.Reads as widrekas-card-reads
 use Rattle.widrekas.proofs.widrekas_header.Reads as widrekas-header-reads
 use Rattle.widrekas.proofs.widrekas_lookup_value.Reads as widrekas-lookup-value-reads
@@ -52,6 +55,9 @@ abbrev commentMemory : ℕ → List ℕ → ℕ → ℕ → ℕ → ℕ → Comm
 commentMemory r comment commented bytes card column =
     record { answer = r; comment = comment; commented = commented; bytes = bytes; card = card; column = column }
 
+abbrev unitLeft : ℕ → ℕ → UnitOutcome
+unitLeft r start = record { answer = r; start = start }
+
 abbrev headerLeft : ℕ → ℕ → ℕ → HeaderOutcome
 headerLeft r card column = record { answer = r; card = card; column = column }
 
@@ -69,6 +75,10 @@ bit κs a r q s t x y = x ∙ sym y
 -- `abi_value::unit_end`
 pub unit-end : OneAnswer unit-end-reads.Post (λ r s. r)
 unit-end κs a r q s t x y = x ∙ sym y
+
+-- `abi_value::unit_past_space_end`
+pub unit-past-space-end : OneAnswer unit-past-space-end-reads.Post (λ r s. unitLeft r (now (s .1 .0)))
+unit-past-space-end κs a r q s t x y = x ∙ sym y
 
 -- `abi_value::column_after`
 pub column-after : OneAnswer column-after-reads.Post (λ r s. r)
@@ -145,6 +155,10 @@ widrekas-version κs a r q s t x y = x ∙ sym y
 -- `widrekas::widrekas_unit`
 pub widrekas-unit : OneAnswer widrekas-unit-reads.Post (λ r s. r)
 widrekas-unit κs a r q s t x y = x ∙ sym y
+
+-- `widrekas::widrekas_unit_past_space`
+pub widrekas-unit-past-space : OneAnswer widrekas-unit-past-space-reads.Post (λ r s. unitLeft r (now (s .1 .0)))
+widrekas-unit-past-space κs a r q s t x y = x ∙ sym y
 
 -- `widrekas::widrekas_card`
 pub widrekas-card : OneAnswer widrekas-card-reads.Post

@@ -37,6 +37,7 @@ use Rattle.splitting.proofs.split.Reads as split-reads
 use Rattle.splitting.proofs.parse_string.Reads as parse-string-reads
 use Rattle.value.proofs.read_value.Reads as read-value-reads
 use Rattle.value.proofs.unit.Reads as unit-reads
+use Rattle.value.proofs.unit_past_space.Reads as unit-past-space-reads
 use Rattle.card.proofs.read_card.Reads as read-card-reads
 use Rattle.card.proofs.class_of.Reads as class-of-reads
 use Rattle.writing.proofs.write.Reads as write-reads
@@ -172,6 +173,10 @@ read-value κs a r q s t x y = x ∙ sym y
 -- `value::unit`
 pub unit : OneAnswer unit-reads.Post (λ r s. r)
 unit κs a r q s t x y = x ∙ sym y
+
+-- `value::unit_past_space`
+pub unit-past-space : OneAnswer unit-past-space-reads.Post (λ r s. r)
+unit-past-space κs a r q s t x y = x ∙ sym y
 
 -- `card::read_card`
 pub read-card : OneAnswer read-card-reads.Post (λ r s. r)

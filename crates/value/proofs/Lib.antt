@@ -2,3 +2,4 @@
 pub mod Starts
 pub mod Reading
 pub mod Placing
+pub mod Units

@@ -1,4 +1,4 @@
-// A value card's text as one of the six kinds of value, and the unit that a comment names.
+// A value card's text as one of the six kinds of value, and the unit that a comment names, by two readings.
 ghost use mathlib.Core.Path.{_≡_};
 ghost use Prim.Native.Nat.{_≤_};
 ghost use lib.ListN.{length, drop};
@@ -6,7 +6,7 @@ ghost use Rattle.text.specs.Text.{size};
 ghost use Rattle.splitting.specs.Columns.{atByte};
 ghost use Rattle.value.specs.Values.{startsNumber, startOf, keepsComment, valueAs, valueRefused};
 ghost use Rattle.value.specs.Values.{ofString, ofNumber, valueWith, valuePlaced, valueFrom};
-ghost use Rattle.value.specs.Units.{unitOf};
+ghost use Rattle.value.specs.Units.{unitOf, unitPastSpace};
 use numbers::Value;
 use refusal::Fault;
 use refusal::Refusal;
@@ -63,7 +63,7 @@ pub fn read_value(card: &[u8; 80], from: usize) -> ValueRead
     }
 }
 
-// The unit of a comment: between its first byte, a bracket, and the first closing bracket.
+// The unit of a comment as fitsrs reads it: between its first byte, a bracket, and the first closing bracket.
 pub fn unit(comment: &[u8]) -> UnitPlace
     ensures { λ r. ⌜ r ≡ unitOf (now (comment .entry)) ⌝ }
 {
@@ -77,6 +77,22 @@ pub fn unit(comment: &[u8]) -> UnitPlace
         return UnitPlace::Nowhere;
     };
     UnitPlace::Between(1, i + 1)
+}
+
+// The unit of a comment as the standard recommends to write it: one space in front, or none, is passed over.
+pub fn unit_past_space(comment: &[u8]) -> UnitPlace
+    ensures { λ r. ⌜ r ≡ unitPastSpace (now (comment .entry)) ⌝ }
+{
+    if comment.len() == 0 {
+        return UnitPlace::Nowhere;
+    }
+    if comment[0] != b' ' {
+        return unit(comment);
+    }
+    let UnitPlace::Between(from, to) = unit(&comment[1..]) else {
+        return UnitPlace::Nowhere;
+    };
+    UnitPlace::Between(from + 1, to + 1)
 }
 
 // A digit, a sign or a point.

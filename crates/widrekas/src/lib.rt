@@ -1,7 +1,7 @@
 // The C boundary: functions over slices and numbers, which take anything. A slice is a pointer and a length there.
 ghost use mathlib.Core.Path.{_≡_};
-ghost use Rattle.value.specs.Units.{unitOf};
-ghost use Rattle.abi_value.specs.Telling.{unitEnd};
+ghost use Rattle.value.specs.Units.{unitOf, unitPastSpace};
+ghost use Rattle.abi_value.specs.Telling.{unitEnd, UnitLeft};
 ghost use Rattle.abi_card.specs.Records.{CardLeft};
 ghost use Rattle.finding.specs.Finding.{headerOf};
 ghost use Rattle.entries.specs.Halves.{valueNamed, valueNumbered, commentNamed, commentNumbered};
@@ -39,12 +39,21 @@ pub extern "C" fn widrekas_card(
     abi_card::read_into(card, out, number, column)
 }
 
-// The end of the unit that a comment names, which starts at byte 1; 0 where it names none.
+// The end of the unit that a comment names as fitsrs reads it, which starts at byte 1; 0 where it names none.
 #[no_mangle]
 pub extern "C" fn widrekas_unit(comment: &[u8]) -> usize
     ensures { λ r. ⌜ r ≡ unitEnd (unitOf (now (comment .entry))) ⌝ }
 {
     abi_value::unit_end(comment)
+}
+
+// The end of the unit that a comment names, with one space in front passed over, and where it starts; 0 where it names none, and the start
+// stays as it is.
+#[no_mangle]
+pub extern "C" fn widrekas_unit_past_space(comment: &[u8], start: &mut usize) -> usize
+    ensures { λ r. ⌜ UnitLeft (unitPastSpace (now (comment .entry))) (lentOf start) r ⌝ }
+{
+    abi_value::unit_past_space_end(comment, start)
 }
 
 // ---- headers: an answer of 1 to 8 is a refused card, and the column its byte; any other answer leaves the column as it is

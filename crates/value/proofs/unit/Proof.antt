@@ -11,7 +11,7 @@ use Rattle.text.specs.Place.{placeOf}
 use Rattle.text.proofs.Trimming.{take-rest}
 use Rattle.text.proofs.Finding.{found-within}
 use Rattle.value.specs.Units.{closedAt, unitOf}
-use Rattle.value.proofs.Reading.{unit-empty, unit-none, unit-some}
+use Rattle.value.proofs.Units.{unit-empty, unit-none, unit-some}
 use borrow.Author.Needs.{needs}
 use Rattle.value.proofs.unit.Statement.{statement}
 use Rattle.value.proofs.unit.Tie as tie
