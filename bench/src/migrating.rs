@@ -37,7 +37,7 @@ fn headers() {
     let kit: Option<&Value> = old.get("KIT");
     let entry = new.entry("KIT");
     assert_eq!(kit.and_then(string), entry.as_ref().and_then(|e| e.value.as_str()));
-    assert_eq!(kit.and_then(Value::unit), entry.as_ref().and_then(|e| e.unit()).as_deref());
+    assert_eq!(kit.and_then(Value::unit), entry.as_ref().and_then(|e| e.unit_as_fitsrs()).as_deref());
     let comment = match kit {
         Some(Value::String { comment, .. }) => comment.as_deref(),
         _ => None,

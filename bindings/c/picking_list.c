@@ -113,9 +113,10 @@ static void print_comment(void)
 /* The unit that the comment names, if any. */
 static void print_unit(void)
 {
-    size_t end = widrekas_unit(comment, comment_length);
-    if (end > 1) {
-        print_shown(stdout, comment + 1, end - 1);
+    size_t start;
+    size_t end = widrekas_unit_past_space(comment, comment_length, &start);
+    if (end > 0) {
+        print_shown(stdout, comment + start, end - start);
     }
 }
 

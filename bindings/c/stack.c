@@ -44,6 +44,7 @@ static volatile size_t answer;
 CALL(version, widrekas_version())
 CALL(card, widrekas_card(header, WIDREKAS_CARD, record, WIDREKAS_RECORD, &number, &column))
 CALL(unit, widrekas_unit(header, length))
+CALL(unit_past_space, widrekas_unit_past_space(header, length, &count))
 CALL(header, widrekas_header(header, length, &count, &column))
 CALL(list, widrekas_list(header, length, first, WIDREKAS_PLACES, last, WIDREKAS_PLACES, times, WIDREKAS_PLACES, &count, &column))
 CALL(name, widrekas_name(header, length, card, name, sizeof name, &count, &column))
@@ -70,7 +71,8 @@ struct function {
 
 static struct function of_headers[] = {
     {"widrekas_version", call_version, 4 * KIB, 0}, {"widrekas_card", call_card, 4 * KIB, 0},
-    {"widrekas_unit", call_unit, 4 * KIB, 0},       {"widrekas_header", call_header, 4 * KIB, 0},
+    {"widrekas_unit", call_unit, 4 * KIB, 0},       {"widrekas_unit_past_space", call_unit_past_space, 4 * KIB, 0},
+    {"widrekas_header", call_header, 4 * KIB, 0},
     {"widrekas_list", call_list, 80 * KIB, 0},      {"widrekas_name", call_name, 4 * KIB, 0},
     {"widrekas_entry_value", call_entry_value, 64 * KIB, 0},
     {"widrekas_entry_comment", call_entry_comment, 64 * KIB, 0},

@@ -171,15 +171,19 @@ static void test_cards(void)
 
 static void test_units(void)
 {
+    /* The end by both readings, and the start by the second. */
     static const struct {
         const char *comment;
-        size_t end;
-    } units[] = {{"[mm] ring", 3}, {"[]", 1}, {" [mm]", 0}, {"[mm", 0}, {"", 0}, {"]", 0}, {"[a]]", 2}};
+        size_t end, start, past_space;
+    } units[] = {{"[mm] ring", 3, 1, 3}, {"[]", 1, 1, 1},      {" [mm]", 0, 2, 4},      {" []", 0, 2, 2},    {"  [mm]", 0, KEPT, 0},
+                 {"[mm", 0, KEPT, 0},    {" [mm", 0, KEPT, 0}, {"", 0, KEPT, 0},        {" ", 0, KEPT, 0},   {"]", 0, KEPT, 0},
+                 {"[a]]", 2, 1, 2},      {" [ ]]", 0, 2, 3},   {"\t[mm]", 0, KEPT, 0}, {" [s\nm]", 0, 2, 5}, {"\x7f[s]", 0, KEPT, 0}};
     for (size_t i = 0; i < sizeof units / sizeof units[0]; i++) {
-        size_t length = strlen(units[i].comment);
+        size_t length = strlen(units[i].comment), start = KEPT;
         uint8_t *comment = lent(length);
         memcpy(comment, units[i].comment, length);
         CHECK(widrekas_unit(comment, length) == units[i].end);
+        CHECK(widrekas_unit_past_space(comment, length, &start) == units[i].past_space && start == units[i].start);
         free(comment);
     }
 }

@@ -170,11 +170,21 @@ uint8_t widrekas_card(const uint8_t *card, size_t card_length, uint8_t *out, siz
                       size_t *column);
 
 /*
- * Finds the unit that a comment names: what stands between a [ that is its first byte and the first ] behind it.
+ * Finds the unit that a comment names as fitsrs reads it: what stands between a [ that is its first byte and the first ] behind it. Most
+ * headers have a space before the [, as the standard recommends: widrekas_unit_past_space is for these.
  *
  * Answers the place of the ], so that the unit is the bytes from 1 up to it; or 0 where there is none. An empty unit answers 1.
  */
 size_t widrekas_unit(const uint8_t *comment, size_t comment_length);
+
+/*
+ * Finds the unit that a comment names, with one space in front passed over, or none: "/ [s] time" and "/[s] time" have the unit s. Two
+ * spaces, or any other byte before the [, leave it without one. Where widrekas_unit finds a unit, this is the same.
+ *
+ * Answers the place of the ], and *start is that of the byte behind the [, 1 or 2: the unit is the bytes from *start up to the answer.
+ * Answers 0 where there is none, and *start stays as it was. An empty unit answers *start.
+ */
+size_t widrekas_unit_past_space(const uint8_t *comment, size_t comment_length, size_t *start);
 
 /*
  * Says where END stands. Nothing behind the first END is looked at, so the front of a file may be lent: as many whole cards as there

@@ -14,9 +14,10 @@ const STAMP: &str = "libwidrekas.sources";
 const VERSION: &str = "4";
 
 /// What the archive must have beside `widrekas_version`.
-const FUNCTIONS: [&str; 13] = [
+const FUNCTIONS: [&str; 14] = [
     "widrekas_card",
     "widrekas_unit",
+    "widrekas_unit_past_space",
     "widrekas_header",
     "widrekas_list",
     "widrekas_name",

@@ -51,6 +51,7 @@ pub mod raw {
             column: *mut usize,
         ) -> u8;
         pub fn widrekas_unit(comment: *const u8, len: usize) -> usize;
+        pub fn widrekas_unit_past_space(comment: *const u8, len: usize, start: *mut usize) -> usize;
         pub fn widrekas_header(header: *const u8, len: usize, card: *mut usize, column: *mut usize) -> u8;
         pub fn widrekas_list(
             header: *const u8,
@@ -218,10 +219,16 @@ pub fn card(card: &[u8], record: &mut [u8], number: &mut i64, column: &mut usize
     unsafe { raw::widrekas_card(card.as_ptr(), card.len(), record.as_mut_ptr(), record.len(), number, column) }
 }
 
-/// The end of a comment's unit, or 0.
+/// The end of a comment's unit as fitsrs reads it, or 0. It starts at byte 1.
 pub fn unit(comment: &[u8]) -> usize {
     // SAFETY: one live slice with its length, which is only read.
     unsafe { raw::widrekas_unit(comment.as_ptr(), comment.len()) }
+}
+
+/// The end of a comment's unit, with one space in front passed over, and where it starts; or 0, and the start stays.
+pub fn unit_past_space(comment: &[u8], start: &mut usize) -> usize {
+    // SAFETY: one live slice with its length, which is only read, and a live number, lent alone.
+    unsafe { raw::widrekas_unit_past_space(comment.as_ptr(), comment.len(), start) }
 }
 
 /// Says where END stands: its card's number, or that of a refusal's card.

@@ -84,6 +84,18 @@ fn a_unit_ends_at_its_bracket() {
 }
 
 #[test]
+fn a_unit_may_stand_behind_one_space() {
+    let unit = |comment: &[u8]| {
+        let mut start = KEPT;
+        (boundary::unit_past_space(comment, &mut start), start)
+    };
+    assert_eq!((unit(b" [mm] ring"), unit(b"[mm] ring"), unit(b" []")), ((4, 2), (3, 1), (2, 2)));
+    for none in [&b"  [mm]"[..], b"\t[mm]", b"\x7f[mm]", b" ", b"", b" mm]", b" [mm"] {
+        assert_eq!(unit(none), (0, KEPT), "{none:?}");
+    }
+}
+
+#[test]
 fn a_list_a_lookup_and_an_entry() {
     let header = cards(&["SIZE    = 12", "KIT     = 'FKM-&'", "CONTINUE  '75' /r", "SIZE    = 13", "END"]);
     let [mut first, mut last, mut times] = [[7; PLACES]; 3];

@@ -161,11 +161,22 @@ pub struct Entry {
 }
 
 impl Entry {
-    /// The unit (section 4.3.2): what stands between the brackets with which the comment begins.
+    /// The unit (section 4.3.2): what stands between the brackets with which the comment begins, as in `/[s] time`. One space before
+    /// them, which the standard recommends, is passed over: `/ [s] time`.
+    ///
+    /// [`Entry::unit_as_fitsrs`] finds no unit behind a space.
     pub fn unit(&self) -> Option<Text> {
         let comment = self.comment.as_ref()?.as_bytes();
-        let end = widrekas_sys::unit(comment);
+        let mut start = 1;
+        let end = widrekas_sys::unit_past_space(comment, &mut start);
         // 0, where there is no unit, is before the start.
-        comment.get(1..end).map(Text::new)
+        comment.get(start..end).map(Text::new)
+    }
+
+    /// The unit as fitsrs 0.4.1 reads it: the bracket must be the comment's first byte, so `/ [s] time` has none. Where there is one,
+    /// [`Entry::unit`] is the same.
+    pub fn unit_as_fitsrs(&self) -> Option<Text> {
+        let comment = self.comment.as_ref()?.as_bytes();
+        comment.get(1..widrekas_sys::unit(comment)).map(Text::new)
     }
 }

@@ -73,11 +73,15 @@ fn comments_and_units() {
     assert_eq!(comment("5 /").as_deref(), Some(""));
     assert_eq!(comment("5"), None);
     assert_eq!((comment("/ lost"), comment("what / lost")), (None, None));
-    // FITS Standard 4.0, section 4.3.2: the unit within brackets, where SPECIFICATION 8 wants the bracket first.
+    // FITS Standard 4.0, section 4.3.2: the unit within brackets, behind one space or none; for fitsrs the bracket comes first.
     let unit = |text: &str| entry(text).unit().map(|u| u.to_string());
     assert_eq!(unit("4.2E1 /[km/s] rotation").as_deref(), Some("km/s"));
     assert_eq!(unit("4.2E1 /[] none").as_deref(), Some(""));
-    assert_eq!(unit("4.2E1 / [km/s] a space before"), None);
+    assert_eq!(unit("4.2E1 / [km/s] a space before").as_deref(), Some("km/s"));
+    assert_eq!((unit("4.2E1 /  [km/s]"), unit("4.2E1 / x[km/s]")), (None, None));
+    let unit_as_fitsrs = |text: &str| entry(text).unit_as_fitsrs().map(|u| u.to_string());
+    assert_eq!(unit_as_fitsrs("4.2E1 /[km/s] rotation").as_deref(), Some("km/s"));
+    assert_eq!(unit_as_fitsrs("4.2E1 / [km/s] a space before"), None);
     assert_eq!(unit("4.2E1 /[km/s"), None);
     assert_eq!((unit("4.2E1 /"), unit("4.2E1")), (None, None));
     // Comments are joined by byte 10.

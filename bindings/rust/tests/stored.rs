@@ -46,7 +46,7 @@ fn quoted(bytes: &[u8]) -> String {
     format!("\"{}\"", bytes.iter().map(byte).collect::<String>())
 }
 
-/// The line behind an entry's line: comment, unit, and the digits and power of a finite decimal.
+/// The line behind an entry's line: comment, unit by both readings, and the digits and power of a finite decimal.
 fn more(entry: &Entry) -> String {
     let some = |text: Option<&Text>| text.map_or("none".to_string(), |t| quoted(t.as_bytes()));
     let record = match &entry.value {
@@ -55,7 +55,8 @@ fn more(entry: &Entry) -> String {
         }
         _ => String::new(),
     };
-    format!(" comment {} unit {}{record}\n", some(entry.comment.as_ref()), some(entry.unit().as_ref()))
+    let (unit, past) = (some(entry.unit_as_fitsrs().as_ref()), some(entry.unit().as_ref()));
+    format!(" comment {} unit {unit} past {past}{record}\n", some(entry.comment.as_ref()))
 }
 
 /// What `crates/replay_headers` prints of a header.
