@@ -21,6 +21,8 @@ macro_rules! faults {
 #[derive(Clone, Copy, PartialEq, Eq, Debug)]
 pub enum Subject {
     Cards,
+    /// The unit of a comment past a space.
+    Past,
     /// A card's decimal record, of which the Rust tells the nearest float alone.
     Records,
     /// The byte at which a card is refused, of which the Rust tells nothing.
@@ -124,6 +126,13 @@ faults! {
         UnitEmptyNone = "an empty unit is none",
         UnitBracket = "a unit keeps its brackets",
         UnitUnclosed = "a unit needs no closing bracket",
+    }
+    Past {
+        PastNone = "no space is passed over before a unit",
+        PastTwo = "two spaces are passed over before a unit",
+        PastAll = "all spaces are passed over before a unit",
+        PastOne = "one byte of any kind is passed over before a unit",
+        PastOnly = "a unit past a space needs the space",
     }
     Records {
         ZeroPower = "a decimal zero keeps its power",

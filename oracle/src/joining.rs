@@ -47,7 +47,11 @@ impl Model {
                 Card::Continue(text, comment) => self.go_on(&mut list, text, comment),
                 Card::Xtension(text) => {
                     let name = b"XTENSION".to_vec();
-                    self.put(&mut list, Entry { name, value: Value::Text(text), comment: None, unit: None }, false);
+                    self.put(
+                        &mut list,
+                        Entry { name, value: Value::Text(text), comment: None, unit: None, past: None },
+                        false,
+                    );
                     list.open = None;
                 }
                 Card::Comment(_) => self.close_if(&mut list, Fault::CommentCloses),
@@ -57,7 +61,11 @@ impl Model {
                     self.close_if(&mut list, Fault::UndefinedCloses);
                     if self.has(Fault::UndefinedEntry) {
                         let name = bytes[..8].trim_ascii().to_vec();
-                        self.put(&mut list, Entry { name, value: Value::Undefined, comment: None, unit: None }, false);
+                        self.put(
+                            &mut list,
+                            Entry { name, value: Value::Undefined, comment: None, unit: None, past: None },
+                            false,
+                        );
                     }
                 }
             }
@@ -109,7 +117,7 @@ impl Model {
             Card::Hierarch(entry) => self.put(&mut list, entry, true),
             Card::Xtension(text) => {
                 let name = b"XTENSION".to_vec();
-                return Ok(Entry { name, value: Value::Text(text), comment: None, unit: None });
+                return Ok(Entry { name, value: Value::Text(text), comment: None, unit: None, past: None });
             }
             Card::Refused(number, column) => return Err(Refusal { number, card: Some(at), column }),
             _ => return Err(Refusal::NOT_FOUND),
@@ -196,7 +204,7 @@ impl Model {
         let Some(at) = list.open.or(orphan) else {
             if self.has(Fault::OrphanEntry) {
                 let name = b"CONTINUE".to_vec();
-                list.entries.push(Entry { name, value: Value::Text(text), comment, unit: None });
+                list.entries.push(Entry { name, value: Value::Text(text), comment, unit: None, past: None });
                 list.dotted.push(false);
             }
             return;
@@ -231,6 +239,7 @@ impl Model {
         };
         entry.comment = self.comments(entry.comment.take(), comment);
         entry.unit = unit(&entry.comment);
+        entry.past = self.past(&entry.comment);
         list.open = open.then_some(at);
     }
 

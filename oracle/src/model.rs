@@ -156,6 +156,23 @@ impl Model {
         Some(c)
     }
 
+    /// The unit past a space: at most one space, a bracket, and what stands before the next closing one.
+    pub fn past(self, comment: &Option<Vec<u8>>) -> Option<Vec<u8>> {
+        let c = comment.as_deref()?;
+        let spaces = c.iter().take_while(|&&b| b == b' ').count();
+        let passed = match self.0 {
+            Fault::PastNone => 0,
+            Fault::PastTwo => spaces.min(2),
+            Fault::PastAll => spaces,
+            Fault::PastOne => usize::from(c.first() != Some(&b'[')),
+            Fault::PastOnly if spaces == 0 => return None,
+            _ => spaces.min(1),
+        };
+        let (&open, rest) = c.get(passed..)?.split_first()?;
+        let end = rest.iter().position(|&b| b == b']')?;
+        (open == b'[').then(|| rest[..end].to_vec())
+    }
+
     fn unit(self, comment: &Option<Vec<u8>>) -> Option<Vec<u8>> {
         let mut c = comment.as_deref()?;
         if self.has(Fault::UnitAfterSpace) {
@@ -223,7 +240,7 @@ impl Model {
         if !keeps {
             comment = None;
         }
-        Ok(Entry { name, value, unit: self.unit(&comment), comment })
+        Ok(Entry { name, value, unit: self.unit(&comment), past: self.past(&comment), comment })
     }
 
     fn value(self, v: &[u8], raw: &[u8]) -> Answer<Value> {

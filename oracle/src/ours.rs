@@ -18,6 +18,18 @@ fn unit(comment: &Option<Vec<u8>>) -> Option<Vec<u8>> {
     Some(c[1..end].to_vec())
 }
 
+/// The unit past a space. Where there is none, the lent start stays.
+fn past(comment: &Option<Vec<u8>>) -> Option<Vec<u8>> {
+    let c = comment.as_deref()?;
+    let mut start = LEFT;
+    let end = boundary::unit_past_space(c, &mut start);
+    if end == 0 {
+        assert!(start == LEFT, "a unit that is not there touches its start");
+        return None;
+    }
+    Some(c[start..end].to_vec())
+}
+
 /// What lent memory holds before a call, to see that a refusal leaves it.
 const BEFORE: u8 = 0xa5;
 
@@ -122,8 +134,13 @@ pub fn card(card: &[u8; 80]) -> Card {
         7 => Value::Undefined,
         _ => Value::Invalid(text()),
     };
-    let entry =
-        || Entry { name: part(NAME, record[4]), value: value(), unit: unit(&comment), comment: comment.clone() };
+    let entry = || Entry {
+        name: part(NAME, record[4]),
+        value: value(),
+        unit: unit(&comment),
+        past: past(&comment),
+        comment: comment.clone(),
+    };
     match record[0] {
         1 => Card::Value(entry()),
         2 => Card::Continue(text(), comment.clone()),
@@ -187,7 +204,9 @@ impl Lent {
     pub fn entry(&mut self, header: &[u8], asked: Asked, name: &[u8]) -> Result<Entry, Refusal> {
         let (value, comment) = (self.value(header, asked), self.comment(header, asked));
         match (value, comment) {
-            (Ok(value), Ok(comment)) => Ok(Entry { name: name.to_vec(), value, unit: unit(&comment), comment }),
+            (Ok(value), Ok(comment)) => {
+                Ok(Entry { name: name.to_vec(), value, unit: unit(&comment), past: past(&comment), comment })
+            }
             (Err(one), Err(other)) => {
                 assert!(one == other, "the halves refuse by {one:?} and by {other:?}");
                 Err(one)

@@ -101,7 +101,7 @@ pub fn run(seed: u64, many: usize) -> usize {
     let mut left = 0;
 
     let plain = Model(Fault::None);
-    let mut hunt = Hunt::new(&[Subject::Cards], views::CARDS, 1);
+    let mut hunt = Hunt::new(&[Subject::Cards, Subject::Past], views::CARDS, 1);
     cards::cases(seed, 4, many, &mut |part, card| {
         if cards::aside(card).is_some() {
             return true;

@@ -2,7 +2,7 @@
 //!
 //! A stored header is the number of its cards in two bytes, the higher first, then for each card a length and so many
 //! bytes, which spaces fill to 80. Of a header are printed the lines of SPECIFICATION 13. Behind a name's line stands
-//! one that begins with a space: the comment, the unit, and the digits and power of a finite decimal. What is there
+//! one that begins with a space: the comment, the unit by both readings, and the digits and power of a finite decimal. What is there
 //! stands in double quotes, a byte outside 32..126, a double quote and a backslash as \xNN. The word none says that it
 //! is not there.
 //!
@@ -102,7 +102,7 @@ fn quoted(bytes: &[u8]) -> String {
     format!("\"{}\"", bytes.iter().map(byte).collect::<String>())
 }
 
-/// The line behind a name's line: comment, unit, digits and power.
+/// The line behind a name's line: comment, unit, unit past a space, digits and power.
 fn more(entry: &Entry) -> String {
     let some = |text: &Option<Vec<u8>>| text.as_deref().map_or("none".to_string(), quoted);
     let record = match &entry.value {
@@ -113,7 +113,8 @@ fn more(entry: &Entry) -> String {
         }
         _ => String::new(),
     };
-    format!(" comment {} unit {}{record}\n", some(&entry.comment), some(&entry.unit))
+    let (comment, unit, past) = (some(&entry.comment), some(&entry.unit), some(&entry.past));
+    format!(" comment {comment} unit {unit} past {past}{record}\n")
 }
 
 /// What is printed of a header.

@@ -221,6 +221,24 @@ pub fn borne() -> Purpose<Cards> {
     ("names that several cards bear", all)
 }
 
+/// What may stand before a unit: only one space is passed over.
+const BEFORE_UNITS: [&str; 10] = ["", " ", "  ", "   ", "\t", " \t", "\x0b", "x", " x", "/"];
+
+/// Headers with comments in which something stands before a unit, on one card and joined.
+pub fn past_spaces() -> Purpose<Cards> {
+    let mut all = Vec::new();
+    for before in BEFORE_UNITS {
+        for (at, unit) in ["[s] time", "[]", "[m/s]", "[s", "[a]b]", "s]"].iter().enumerate() {
+            let value = |at: usize| VALUES[at % VALUES.len()];
+            all.push(alone(at, &format!("{} /{before}{unit}", value(at))));
+            all.push(alone(at, &format!("{} /{before}{unit}", value(at + 1))));
+        }
+        all.push(ended(&[&format!("K       = 'a&' /{before}[s"), "CONTINUE 'b' /m] c"]));
+        all.push(ended(&["K       = 'a&'", &format!("CONTINUE 'b' /{before}[s] c")]));
+    }
+    ("something before a unit", all)
+}
+
 /// Headers whose cards up to END are the same, with nothing and then with other cards behind it.
 pub fn behind_end() -> Vec<Vec<Cards>> {
     let fronts: [&[&str]; 4] = [

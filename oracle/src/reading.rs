@@ -49,13 +49,14 @@ pub enum Value {
     Invalid(Vec<u8>),
 }
 
-/// A name with its value, comment and unit.
+/// A name with its value, its comment, and its unit by both readings: with the bracket first, and past a space.
 #[derive(Clone, PartialEq)]
 pub struct Entry {
     pub name: Vec<u8>,
     pub value: Value,
     pub comment: Option<Vec<u8>>,
     pub unit: Option<Vec<u8>>,
+    pub past: Option<Vec<u8>>,
 }
 
 /// One card.
@@ -155,8 +156,8 @@ impl fmt::Debug for Value {
 
 impl fmt::Debug for Entry {
     fn fmt(&self, f: &mut fmt::Formatter) -> fmt::Result {
-        let (comment, unit) = (some(&self.comment), some(&self.unit));
-        write!(f, "{} is {:?}, comment {comment}, unit {unit}", shown(&self.name), self.value)
+        let (comment, unit, past) = (some(&self.comment), some(&self.unit), some(&self.past));
+        write!(f, "{} is {:?}, comment {comment}, unit {unit}, past a space {past}", shown(&self.name), self.value)
     }
 }
 

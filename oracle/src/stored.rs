@@ -67,14 +67,15 @@ fn answer(header: &[[u8; 80]]) -> Option<Header> {
 struct Chosen {
     headers: Vec<(Cards, Header)>,
     seen: HashSet<Vec<u8>>,
-    /// Those of a misread column or of a miscounted name are made on purpose, not chosen.
+    /// Those of a misread column, of a miscounted name or of a unit past a space are made on purpose, not chosen.
     witnesses: Vec<(Subject, Fault, usize)>,
     refusals: BTreeMap<u8, usize>,
 }
 
 impl Chosen {
     fn new() -> Self {
-        let witnesses = variants::misreadings().filter(|m| !matches!(m.0, Subject::Columns | Subject::Times));
+        let witnesses =
+            variants::misreadings().filter(|m| !matches!(m.0, Subject::Columns | Subject::Times | Subject::Past));
         let witnesses = witnesses.map(|m| (m.0, m.1, 0)).collect();
         Chosen { headers: Vec::new(), seen: HashSet::new(), witnesses, refusals: BTreeMap::new() }
     }
@@ -201,6 +202,7 @@ fn choose(seed: u64) -> Chosen {
     chosen.take(&most(), rust);
     chosen.take_columns();
     chosen.take_made(purposes::borne(), answer);
+    chosen.take_made(purposes::past_spaces(), answer);
     chosen
 }
 

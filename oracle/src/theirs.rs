@@ -57,6 +57,14 @@ fn number(error: &Error) -> u8 {
     }
 }
 
+/// The unit past a space: the Rust's own of the comment without its first byte where that is a space.
+fn past(comment: &Option<Vec<u8>>) -> Option<Vec<u8>> {
+    let comment = comment.as_deref()?;
+    let behind = comment.strip_prefix(b" ").unwrap_or(comment);
+    let comment = Some(behind.iter().copied().map(char::from).collect());
+    published::Value::Logical { value: true, comment }.unit().map(bytes)
+}
+
 fn entry(name: &str, value: &published::Value) -> Entry {
     let (kind, comment) = match value {
         published::Value::Integer { value, comment } => (Value::Integer(*value), optional(comment)),
@@ -66,7 +74,8 @@ fn entry(name: &str, value: &published::Value) -> Entry {
         published::Value::Undefined => (Value::Undefined, None),
         published::Value::Invalid(text) => (Value::Invalid(bytes(text)), None),
     };
-    Entry { name: bytes(name), value: kind, comment, unit: value.unit().map(bytes) }
+    let unit = value.unit().map(bytes);
+    Entry { name: bytes(name), value: kind, past: past(&comment), comment, unit }
 }
 
 fn told(read: Result<published::Card, Error>) -> Card {

@@ -69,6 +69,8 @@ pub const CARDS: &[View<Card>] = &[
     ("a comment loses its last byte", |c| entry(c, |e| shorten_some(&mut e.comment))),
     ("a unit is lost", |c| entry(c, |e| e.unit = None)),
     ("a unit loses its last byte", |c| entry(c, |e| shorten_some(&mut e.unit))),
+    ("a unit past a space is the one with the bracket first", |c| entry(c, |e| e.past.clone_from(&e.unit))),
+    ("a unit past a space loses its last byte", |c| entry(c, |e| shorten_some(&mut e.past))),
     ("an integer is one higher", |c| {
         value(c, |v| {
             if let Value::Integer(z) = v {
@@ -197,6 +199,7 @@ pub const HEADERS: &[View<Header>] = &[
     }),
     ("comments are lost", |h| entries(h, |e| e.iter_mut().for_each(|e| e.comment = None))),
     ("units are lost", |h| entries(h, |e| e.iter_mut().for_each(|e| e.unit = None))),
+    ("units past a space are lost", |h| entries(h, |e| e.iter_mut().for_each(|e| e.past = None))),
     ("a refusal names the card before", |h| {
         if let Header::Refused(_, at, _) = h {
             *at = at.wrapping_sub(1);

@@ -1,6 +1,6 @@
 // Replays stored headers: reads each one from standard input and prints its lines, as SPECIFICATION 13 has them. Behind a name's line
-// stands one more, which begins with a space: the comment, the unit, and a finite decimal's digits and power. Texts stand in double
-// quotes; the word none stands for a missing one. A byte outside 32..126, a double quote and a backslash are printed as \xNN.
+// stands one more, which begins with a space: the comment, the unit by both readings, the second behind the word past, and a finite
+// decimal's digits and power. Texts stand in double quotes; the word none stands for a missing one. A byte outside 32..126, a double quote and a backslash are printed as \xNN.
 // The expected output comes from the oracle (oracle/README.md).
 // A stored header is the number of its cards in two bytes, the higher first, then for each card a length and so many bytes. Spaces
 // fill a card to 80.
@@ -141,16 +141,23 @@ fn put_line(written: Line, line: &[u8]) {
     put(text::first_of(line, n));
 }
 
-// A comment and its unit.
+// A comment, and its unit by both readings.
 fn put_comment(commented: bool, comment: &[u8]) {
     if !commented {
-        put(b" comment none unit none");
+        put(b" comment none unit none past none");
         return;
     }
     put(b" comment ");
     put_quoted(comment);
     put(b" unit ");
-    match value::unit(comment) {
+    put_unit(comment, value::unit(comment));
+    put(b" past ");
+    put_unit(comment, value::unit_past_space(comment));
+}
+
+// The unit of a comment by its place.
+fn put_unit(comment: &[u8], place: UnitPlace) {
+    match place {
         UnitPlace::Between(from, to) => {
             put_quoted(text::rest_of(text::first_of(comment, to), from))
         }
