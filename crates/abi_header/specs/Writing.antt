@@ -37,7 +37,8 @@ CommentWritten a n commented bytes card column r =
     (commentStored a n c (commented .was) (bytes .was) (card .was) (column .was))
 
 -- what was listed, where a is the header's answer
-abbrev pub ListWritten : Header → Listing → Lent (List ℕ) → Lent (List ℕ) → Lent (List ℕ) → Lent ℕ → Lent ℕ → ℕ → Type 0
+abbrev pub ListWritten :
+    Header → Listing → Lent (List ℕ) → Lent (List ℕ) → Lent (List ℕ) → Lent ℕ → Lent ℕ → ℕ → Type 0
 ListWritten a read first last times count column r =
     listOutcome r (first .left) (last .left) (times .left) (count .left) (column .left)
     ≡ listTold a read (first .was) (last .was) (times .was) (column .was)

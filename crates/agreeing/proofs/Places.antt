@@ -120,7 +120,8 @@ module _ (roles : List Role) where
       where
         other : same n name ≡ false → (p : Place) → placeOfName firsts name ≡ p → readAt d p (set l k x) ≡ readAt d p l
         other a (At j) f =
-            let apart : j ≡ k → ⊥ = λ z. true≢false (sym (same-self n) ∙ ap (same n) (one-name k name e (f ∙ ap At z)) ∙ a) in
+            let alike : j ≡ k → n ≡ name = λ z. one-name k name e (f ∙ ap At z) in
+            let apart : j ≡ k → ⊥ = λ z. true≢false (sym (same-self n) ∙ ap (same n) (alike z) ∙ a) in
             ap At (getD-set-other l k j x d apart)
         other a Nowhere f = refl
 

@@ -52,10 +52,14 @@ TimesAtPlace =
 
 -- a name that stands in the list is borne once or more, and any other never
 abbrev pub SomeBear : Type 0
-SomeBear = (h : List ℕ) (end : ℕ) → headerOf h ≡ Accepted end → (name : List ℕ) → StandsIn h name → 0 < timesBorne name (rolesOf h)
+SomeBear =
+    (h : List ℕ) (end : ℕ) → headerOf h ≡ Accepted end
+    → (name : List ℕ) → StandsIn h name → 0 < timesBorne name (rolesOf h)
 
 abbrev pub NoneBear : Type 0
-NoneBear = (h : List ℕ) (end : ℕ) → headerOf h ≡ Accepted end → (name : List ℕ) → (StandsIn h name → ⊥) → timesBorne name (rolesOf h) ≡ 0
+NoneBear =
+    (h : List ℕ) (end : ℕ) → headerOf h ≡ Accepted end
+    → (name : List ℕ) → (StandsIn h name → ⊥) → timesBorne name (rolesOf h) ≡ 0
 
 -- free places hold 0, whatever the header is
 abbrev pub FreeHoldNone : Type 0

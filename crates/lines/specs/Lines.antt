@@ -67,7 +67,8 @@ plainLine name v digits text = name ++ ascii " " ++ kindLetter v ∷ spacedReadi
 
 abbrev pub PlainOnce : Type 0
 PlainOnce =
-    (name : List ℕ) (v : Value) (digits text : List ℕ) (n : ℕ) → n ≤ 1 → entryLine name v digits text n ≡ plainLine name v digits text
+    (name : List ℕ) (v : Value) (digits text : List ℕ) (n : ℕ) → n ≤ 1
+    → entryLine name v digits text n ≡ plainLine name v digits text
 
 -- ---- the count, and a refusal
 

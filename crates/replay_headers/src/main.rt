@@ -1,6 +1,7 @@
 // Replays stored headers: reads each one from standard input and prints its lines, as SPECIFICATION 13 has them. Behind a name's line
 // stands one more, which begins with a space: the comment, the unit by both readings, the second behind the word past, and a finite
-// decimal's digits and power. Texts stand in double quotes; the word none stands for a missing one. A byte outside 32..126, a double quote and a backslash are printed as \xNN.
+// decimal's digits and power. Texts stand in double quotes; the word none stands for a missing one. A byte outside 32..126, a double
+// quote and a backslash are printed as \xNN.
 // The expected output comes from the oracle (oracle/README.md).
 // A stored header is the number of its cards in two bytes, the higher first, then for each card a length and so many bytes. Spaces
 // fill a card to 80.

@@ -123,6 +123,7 @@ borne-roled {name} (alone shut) = rw (same-self name)
 borne-roled {name} (in-pieces final l o) = rw (same-self name)
 borne-roled {name} (in-pieces (goes-on {ps = ps} cut) l o) = rw (same-self name, borne-more name ps)
 
-pub written-once : (name : List ℕ) → isName name ≡ true → (text : List ℕ) (c : Comment) (v : Value) → isWritable v text c ≡ true
+pub written-once : (name : List ℕ) → isName name ≡ true
+    → (text : List ℕ) (c : Comment) (v : Value) → isWritable v text c ≡ true
     → timesBorne name (map roleOf (writtenCards v name text c)) ≡ 1
 written-once name good text c v e = borne-roled (written-roles name good text c v e)
