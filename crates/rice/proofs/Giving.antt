@@ -5,14 +5,14 @@ use Prim.Native.Nat.{ℕ, _+_, _-_, _*_, _/_, _%_, _^_, _≤_, _<_}
 use native.Mathlib.Omega.{arith}
 use lib.Bits.{bitAnd}
 use lib.Count.{leadingZeros}
-use Rattle.rice.specs.Tile.{bitsIn, fieldAt, zerosAt}
+use Rattle.rice.specs.Tile.{bitsIn, fieldAt}
 use Rattle.rice.specs.Reads.{Read, found, diffRead}
-use Rattle.rice.specs.Held.{heldBits, bareAt, pastOf, Holds, After, Found, Gives}
+use Rattle.rice.specs.Held.{bareAt, pastOf, Holds, After, Found, Gives}
 use Rattle.rice.specs.declared.ahead.Ahead.{Ahead}
 use Rattle.rice.specs.declared.ahead.Got.{Got}
 use Rattle.rice.specs.declared.ahead.Got.the-variants.{Bits}
 use Rattle.rice.specs.declared.width.Code.the-variants.{Raw, Split}
-use Rattle.rice.proofs.HeldBits.{held-shift, held-cut, zeros-held}
+use Rattle.rice.proofs.HeldBits.{held-shift, held-cut}
 use Rattle.rice.proofs.Reading.{field-found, word-cut, word-read}
 
 -- nothing is held at a place of the tile
@@ -47,17 +47,12 @@ module _ (s : List ℕ) (a : Ahead) (H : Holds s a) where
       (sym (ap (λ (x : ℕ). x / 2 ^ 1 / 2 ^ (63 - n)) (H .held) ∙ held-cut s (a .bit) n (a .count) h (H .few) (omega arith))))
 
   -- n zeros, a one and fs bits are
-  module _ (n fs : ℕ) (l : fs ≤ 24) (lead : n < 64 → n ≡ leadingZeros 64 (a .held)) (w : n + 1 + fs < a .count) where
-    run : n ≡ zerosAt s (a .bit) (a .count)
-    run =
-        let is : n ≡ leadingZeros 64 (heldBits s (a .bit) (a .count)) = lead (omega (arith, H .few)) ∙ ap (leadingZeros 64) (H .held) in
-        is ∙ zeros-held s (a .bit) (a .count) (H .few) (omega arith)
-
+  module _ (n fs : ℕ) (l : fs ≤ 24) (lead : n ≡ leadingZeros 64 (a .held)) (w : n + 1 + fs < a .count) where
     pub split-gives : (b : Ahead) → b ≡ pastOf a (n + 1 + fs)
         → After s (diffRead (Split fs) s (a .bit))
         (n * 2 ^ fs % 2 ^ 64 + bitAnd (a .held / 2 ^ (64 - (n + 1 + fs))) (1 * 2 ^ fs % 2 ^ 64 - 1)) b
     split-gives b = past-gives (n + 1 + fs) b (omega arith)
-        (word-read s (a .bit) n fs (a .count) run w (H .few) (H .within) l
+        (word-read s (a .bit) n fs (a .count) (lead ∙ ap (leadingZeros 64) (H .held)) (omega arith) (H .few) (H .within) l
         ∙ ap (λ (u : ℕ). found u (a .bit + (n + 1 + fs)))
         (ap (λ (x : ℕ). n * 2 ^ fs + x / 2 ^ (64 - (n + 1 + fs)) % 2 ^ fs) (sym (H .held))
         ∙ sym (word-cut n fs l (omega (arith, H .few)) _)))

@@ -2,10 +2,10 @@
 -- Assumes nothing.
 use mathlib.Core.Path.{_≡_, sym, ap, _∙_}
 use mathlib.Core.List.{List}
-use Prim.Native.Nat.{ℕ, zero, suc, _+_, _-_, _*_, _/_, _%_, _^_, _≤_, _<_}
+use Prim.Native.Nat.{ℕ, zero, suc, _+_, _-_, _*_, _/_, _%_, _^_, _≤_, _<_, min}
 use native.Mathlib.Nat.{zero-add, add-mul, zero-mul, mul-assoc, pow-suc, mul-le-mul-right}
 use native.Mathlib.Omega.{arith}
-use lib.Count.{leadingZeros, leading-of-zero, leading-top, leading-unique}
+use lib.Count.{leadingZeros, leading-of-zero, leading-unique}
 use lib.Pow.{low, pow-add, shl-lt, shl-shr, shr-shr}
 use Rattle.rice.specs.Tile.{fieldAt, zerosAt}
 use Rattle.rice.specs.Held.{heldBits}
@@ -65,33 +65,22 @@ held-cut s p n m h k l =
     shr-shr (heldBits s p m) 1 (63 - n) ∙ ap (λ (j : ℕ). heldBits s p m / 2 ^ j) e ∙ held-first s p n m h k
 
 -- a number of d digits after z zeros, moved up to the top of a word
-counted : (z f m j d : ℕ) → z + d ≡ m → m + j ≡ 64 → f < 2 ^ d → 2 ^ d ≤ 2 * f + 1 → leadingZeros 64 (f * 2 ^ j) < m
-    → leadingZeros 64 (f * 2 ^ j) ≡ z
-counted z f m j zero e k h l t =
+counted : (z f m j d : ℕ) → z + d ≡ m → m + j ≡ 64 → f < 2 ^ d → 2 ^ d ≤ 2 * f + 1 → min (leadingZeros 64 (f * 2 ^ j)) m ≡ z
+counted z f m j zero e k h l =
     let none : f ≡ 0 = omega arith in
     let all : leadingZeros 64 (f * 2 ^ j) ≡ 64 = ap (λ (x : ℕ). leadingZeros 64 (x * 2 ^ j)) none
     ∙ ap (leadingZeros 64) (zero-mul (2 ^ j)) ∙ leading-of-zero 64 in
-    absurd (omega arith)
-counted z f m j (suc d) e k h l t =
+    omega arith
+counted z f m j (suc d) e k h l =
     let even : 2 ^ suc d ≤ 2 * f = rw pow-suc (let odd : 2 ^ d * 2 ≤ 2 * f + 1 = rw pow-suc at l in omega arith) in
     let long : 2 ^ (suc d + j) ≤ 2 * (f * 2 ^ j) + 1 =
     rw (pow-add 2 (suc d) j) (omega (arith, mul-le-mul-right (2 ^ j) even, mul-assoc 2 f (2 ^ j)))
     in
-    sym (leading-unique 64 (f * 2 ^ j) z (suc d + j) (omega arith) (shl-lt (suc d) j h) long)
+    let is = leading-unique 64 (f * 2 ^ j) z (suc d + j) (omega arith) (shl-lt (suc d) j h) long in
+    omega (arith, is)
 
--- the leading zeros of what is held are the tile's run of zeros, where the run ends in it
-pub zeros-held : (s : List ℕ) (p m : ℕ) → m ≤ 64 → leadingZeros 64 (heldBits s p m) < m
-    → leadingZeros 64 (heldBits s p m) ≡ zerosAt s p m
-zeros-held s p m h t =
+-- the leading zeros of what is held are the tile's run of zeros; those below the bits held do not count
+pub zeros-held : (s : List ℕ) (p m : ℕ) → m ≤ 64 → min (leadingZeros 64 (heldBits s p m)) m ≡ zerosAt s p m
+zeros-held s p m h =
     let r = zeros-long s p m in
-    counted (zerosAt s p m) (fieldAt s p m) m (64 - m) (r .0) (r .1) (omega arith) (r .2) (r .3) t
-
--- a word's leading zeros are those of its first byte, where that is not 0
-pub leading-first : (x : ℕ) → (x / 2 ^ 56 ≡ 0 → ⊥) → x < 2 ^ 64 → leadingZeros 8 (x / 2 ^ 56) ≡ leadingZeros 64 x
-leading-first x h k =
-    let some : 0 < x / 2 ^ 56 = omega arith in
-    let small : x / 2 ^ 56 < 2 ^ 8 = omega arith in
-    let t = leading-top 8 (x / 2 ^ 56) some small in
-    let high : x < 2 ^ (suc (t .0) + 56) = rw (pow-add 2 (suc (t .0)) 56) (omega (arith, t .3)) in
-    let long : 2 ^ (suc (t .0) + 56) ≤ 2 * x + 1 = rw (pow-add 2 (suc (t .0)) 56, pow-suc) (omega (arith, t .2)) in
-    leading-unique 64 x (leadingZeros 8 (x / 2 ^ 56)) (suc (t .0) + 56) (omega (arith, t .1)) high long
+    counted (zerosAt s p m) (fieldAt s p m) m (64 - m) (r .0) (r .1) (omega arith) (r .2) (r .3)

@@ -1,4 +1,3 @@
-pub mod Tables
 pub mod Fields
 pub mod ZeroRuns
 pub mod HeldBits
@@ -8,7 +7,14 @@ pub mod Wrapping
 pub mod FsCodes
 pub mod Reading
 pub mod Giving
+pub mod Cutting
 pub mod Filling
+pub mod RawPixels
+pub mod Landing
 pub mod Stepping
 pub mod Decoding
 pub mod Whole
+pub mod Reaching
+pub mod Blockwise
+pub mod Levelling
+pub mod Singles

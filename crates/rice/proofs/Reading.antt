@@ -7,6 +7,7 @@ use native.Mathlib.Nat.{one-mul, mod-lt, mod-eq-of-lt, mul-le-mul}
 use native.Mathlib.Omega.{arith}
 use borrow.Author.Tests.{lt-ltb, le-ltb, le-leb, lt-leb, leb-true, ltb-true}
 use lib.Bits.{bitAnd, and-mask}
+use lib.Count.{leadingZeros}
 use lib.Dec.{leb, ltb}
 use lib.ListN.{length}
 use lib.Pow.{pow-mono, pow-pos}
@@ -18,8 +19,8 @@ use Rattle.rice.specs.declared.Cursor.{Cursor}
 use Rattle.rice.specs.declared.Taken.the-variants.{Bits, Short}
 use Rattle.rice.specs.declared.width.Code.the-variants.{Split}
 use Rattle.rice.proofs.Fields.{field-end}
-use Rattle.rice.proofs.ZeroRuns.{zeros-same}
-use Rattle.rice.proofs.HeldBits.{held-first}
+use Rattle.rice.proofs.ZeroRuns.{zeros-within}
+use Rattle.rice.proofs.HeldBits.{held-first, zeros-held}
 
 -- ---- fields and runs of zeros
 
@@ -51,6 +52,7 @@ cond-found false e = let z : _≡_ {A = ℕ} 0 1 = cc in absurd (omega arith)
 
 pub record FieldFound (s : List ℕ) (p n u q : ℕ) : Type 0 where
   pub value : u ≡ fieldAt s p n
+  pub place : q ≡ p + n
   pub within : q ≤ bitsIn s
 
 pub field-of : (s : List ℕ) (p n u q : ℕ) → fieldRead s p n ≡ found u q → FieldFound s p n u q
@@ -58,7 +60,7 @@ unfolding fieldRead
 field-of s p n u q e =
     let f = cond-found (leb (p + n) (bitsIn s)) e in
     let h : p + n ≤ bitsIn s = leb-true _ _ (f .0) in
-    record { value = sym (f .1); within = rw (← f .2) h }
+    record { value = sym (f .1); place = sym (f .2); within = rw (← f .2) h }
 
 -- the zeros of a run that is found are no more than the tile's bits
 pub run-of : (s : List ℕ) (p n q : ℕ) → runRead s p ≡ found n q → n < bitsIn s
@@ -142,10 +144,12 @@ module _ (n fs : ℕ) (l : fs ≤ 24) (k : n < 64) where
   pub word-fits : (y : ℕ) → n * 2 ^ fs + y % 2 ^ fs < 2 ^ 32
   word-fits y = omega (arith, shifted-small, mod-lt y (pow-pos fs), pow-mono l)
 
-module _ (s : List ℕ) (p n fs c : ℕ) (e : n ≡ zerosAt s p c) (w : n + 1 + fs < c) (m : c ≤ 64) (h : p + c ≤ bitsIn s)
-    (l : fs ≤ 24) where
+module _ (s : List ℕ) (p n fs c : ℕ) (e : n ≡ leadingZeros 64 (heldBits s p c)) (w : n + 1 + fs ≤ c) (m : c ≤ 64)
+    (h : p + c ≤ bitsIn s) (l : fs ≤ 24) where
   word-run : runRead s p ≡ found n (p + n + 1)
-  word-run = run-found s p n (e ∙ sym (zeros-same s p (bitsIn s - p) c (omega arith) (omega arith))) (omega arith)
+  word-run =
+      let run : n ≡ zerosAt s p c = omega (arith, e, zeros-held s p c m) in
+      run-found s p n (omega (arith, zeros-within s p (bitsIn s - p) c (omega arith))) (omega arith)
 
   word-rest : heldBits s p c / 2 ^ (64 - (n + 1 + fs)) % 2 ^ fs ≡ fieldAt s (p + n + 1) fs
   word-rest =

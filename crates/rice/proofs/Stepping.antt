@@ -66,6 +66,7 @@ pub record Standing (w : Width) (s : List ℕ) (nx nblock : ℕ) (c : Cursor) : 
   pub low : startBytes w * 8 ≤ c .bit
   pub high : c .bit ≤ bitsIn s
   pub done : c .done ≤ nx
+  pub even : (eqb (c .done) nx || eqb (c .done % nblock) 0) ≡ true
   pub last : inWidth w (c .last) ≡ true
 
 module _ (w : Width) (s : List ℕ) (nx nblock : ℕ) (c : Cursor) where
@@ -76,7 +77,13 @@ module _ (w : Width) (s : List ℕ) (nx nblock : ℕ) (c : Cursor) where
       let b = and-both _ _ (a .1) in
       let d = and-both _ _ (b .1) in
       let l = and-both (eqb (c .done) nx || eqb (c .done % nblock) 0) (inWidth w (c .last)) (d .1) in
-      record { low = leb-true _ _ (a .0); high = leb-true _ _ (b .0); done = leb-true _ _ (d .0); last = l .1 }
+      record {
+        low = leb-true _ _ (a .0);
+        high = leb-true _ _ (b .0);
+        done = leb-true _ _ (d .0);
+        even = l .0;
+        last = l .1;
+      }
 
   pub stands-low : c .bit < startBytes w * 8 → false ≡ stands w s nx nblock c
   unfolding stands

@@ -1,18 +1,19 @@
--- What holds at each width: its sizes, a pixel and its bits, and the bits of the pixel that follows. Assumes nothing.
+-- What holds at each width: its sizes, a pixel and its bits, the pixel that follows, pixels counted from the lowest one. Assumes nothing.
 use mathlib.Core.Path.{_≡_, refl, sym, ap, ap₂, subst, _∙_}
 use mathlib.Core.Bool.{Bool, true, false}
 use Prim.Native.Nat.{ℕ, suc, _+_, _-_, _*_, _/_, _%_, _^_, _≤_, _<_}
 use native.Mathlib.Omega.{arith}
-use native.Mathlib.Nat.{mod-lt, mod-eq-of-lt, mod-eq-sub-mod, add-mod-mod, lt-of-lt-of-le, pos-of-ne-zero}
+use native.Mathlib.Nat.{mod-lt, mod-eq-of-lt, mod-eq-sub-mod, add-mod-mod, mod-add-mod, pos-of-ne-zero}
 use borrow.Author.Tests.{lt-ltb, le-ltb, ltb-true, ltb-false, eq-eqb, ne-eqb}
 use lib.Dec.{ltb, lit≤}
 use lib.Bits.{bitAnd, and-mask}
-use lib.IntN.{ℤ, pos, negsuc, _-ℤ_, +ℤ-idr}
+use lib.IntN.{ℤ, pos, negsuc, _+ℤ_, _-ℤ_, +ℤ-idr}
 use lib.Pow.{pow-pos}
 use mir.Syntax.{w32, w64}
 use mir.Val.{toZ, SFits}
 use mir.Facts.{toZ-pos}
 use Rattle.rice.specs.Widths.{bitsOf, fsBits, fsTop, startBytes, positives, pixelOf, inWidth, modulo, wrap, difference, following}
+use Rattle.rice.specs.Filling.{raised}
 use Rattle.rice.specs.declared.width.Width.{Width}
 use Rattle.rice.specs.declared.width.Width.the-variants.{Eight, Sixteen, ThirtyTwo}
 use Rattle.rice.proofs.Signs.{minus-pos, minus-neg}
@@ -26,17 +27,29 @@ pub record Sizes (w : Width) : Type 0 where
   pub high : 2 ^ bitsOf w ≤ positives w + 2 ^ 31
   pub all : 2 ^ bitsOf w ≤ 2 ^ 32
   pub width : bitsOf w ≤ 32
+  pub least : 8 ≤ bitsOf w
   pub top : fsTop w ≤ 25
   pub field : fsBits w ≤ 5
 
 made : (w : Width) → positives w ≤ 2 ^ bitsOf w → positives w ≤ 2 ^ 31 → startBytes w * 8 ≡ bitsOf w
-    → 2 ^ bitsOf w ≤ positives w + 2 ^ 31 → 2 ^ bitsOf w ≤ 2 ^ 32 → bitsOf w ≤ 32 → fsTop w ≤ 25 → fsBits w ≤ 5 → Sizes w
-made w a b c d e f g h = record { some = a; low = b; start = c; high = d; all = e; width = f; top = g; field = h }
+    → 2 ^ bitsOf w ≤ positives w + 2 ^ 31 → 2 ^ bitsOf w ≤ 2 ^ 32 → bitsOf w ≤ 32 → 8 ≤ bitsOf w
+    → fsTop w ≤ 25 → fsBits w ≤ 5 → Sizes w
+made w a b c d e f l g h = record {
+  some = a;
+  low = b;
+  start = c;
+  high = d;
+  all = e;
+  width = f;
+  least = l;
+  top = g;
+  field = h;
+}
 
 pub sizes : (w : Width) → Sizes w
-sizes Eight = made Eight (lit≤ tt) (lit≤ tt) refl (lit≤ tt) (lit≤ tt) (lit≤ tt) (lit≤ tt) (lit≤ tt)
-sizes Sixteen = made Sixteen (lit≤ tt) (lit≤ tt) refl (lit≤ tt) (lit≤ tt) (lit≤ tt) (lit≤ tt) (lit≤ tt)
-sizes ThirtyTwo = made ThirtyTwo (lit≤ tt) (lit≤ tt) refl (lit≤ tt) (lit≤ tt) (lit≤ tt) (lit≤ tt) (lit≤ tt)
+sizes Eight = made Eight (lit≤ tt) (lit≤ tt) refl (lit≤ tt) (lit≤ tt) (lit≤ tt) (lit≤ tt) (lit≤ tt) (lit≤ tt)
+sizes Sixteen = made Sixteen (lit≤ tt) (lit≤ tt) refl (lit≤ tt) (lit≤ tt) (lit≤ tt) (lit≤ tt) (lit≤ tt) (lit≤ tt)
+sizes ThirtyTwo = made ThirtyTwo (lit≤ tt) (lit≤ tt) refl (lit≤ tt) (lit≤ tt) (lit≤ tt) (lit≤ tt) (lit≤ tt) (lit≤ tt)
 
 -- ---- a pixel and its bits
 
@@ -117,44 +130,93 @@ and-width w n mask e = ap (bitAnd n) (omega arith) ∙ and-mask n (bitsOf w)
 pub and-width-lt : (w : Width) (n mask : ℕ) → mask + 1 ≡ 2 ^ bitsOf w → bitAnd n mask < 2 ^ bitsOf w
 and-width-lt w n mask e = rw (and-width w n mask e) (mod-lt n (pow-pos (bitsOf w)))
 
--- a pixel made from its bits: turned so that they count from the lowest pixel, and moved down
-module _ (w : Width) (v mask below : ℕ) (m : mask + 1 ≡ 2 ^ bitsOf w) (b : below + positives w ≡ 2 ^ bitsOf w)
-    (small : v < 2 ^ bitsOf w) where
-  pixel-turned : (t : Bool) → ltb v (positives w) ≡ t → pos ((v + below) % 2 ^ bitsOf w) -ℤ pos below ≡ pixelOf w v
-  pixel-turned true e =
-      let low : v < positives w = ltb-true v (positives w) e in
-      let turned : (v + below) % 2 ^ bitsOf w ≡ v + below = mod-eq-of-lt (omega arith) in
-      ap (λ n. pos n -ℤ pos below) turned ∙ minus-pos (v + below) below (omega arith) ∙ ap pos (omega arith)
-      ∙ sym (pixel-low w v low)
-  pixel-turned false e =
-      let high : positives w ≤ v = ltb-false v (positives w) e in
-      let over : 2 ^ bitsOf w ≤ v + below = omega arith in
-      let turned : (v + below) % 2 ^ bitsOf w ≡ v + below - 2 ^ bitsOf w = mod-eq-sub-mod over
-      ∙ mod-eq-of-lt (omega (arith, sizes w)) in
-      ap (λ n. pos n -ℤ pos below) turned ∙ minus-neg (v + below - 2 ^ bitsOf w) below (omega (arith, sizes w))
-      ∙ ap negsuc (omega (arith, sizes w))
-      ∙ sym (pixel-high w v high small)
+-- ---- a pixel counted from the lowest one
 
-  pixel-fits : (t : Bool) → ltb v (positives w) ≡ t → SFits w32 (pixelOf w v)
-  pixel-fits true e =
-      subst (SFits w32) (sym (pixel-low w v (ltb-true v (positives w) e)))
-      (record { sfits = omega (arith, sizes w, ltb-true v (positives w) e) })
-  pixel-fits false e =
-      subst (SFits w32) (sym (pixel-high w v (ltb-false v (positives w) e) small))
-      (record { sfits = omega (arith, sizes w, ltb-false v (positives w) e) })
+module _ (w : Width) where
+  -- the pixel with the bits that are so many above those of the lowest one
+  raised-by : (n : ℕ) → n < 2 ^ bitsOf w → (t : Bool) → ltb n (2 ^ bitsOf w - positives w) ≡ t
+      → (raised w n ≡ pixelOf w ((n + positives w) % 2 ^ bitsOf w)) × SFits w32 (raised w n)
+  raised-by n h true e =
+      let low : n < 2 ^ bitsOf w - positives w = ltb-true n (2 ^ bitsOf w - positives w) e in
+      let turned : (n + positives w) % 2 ^ bitsOf w ≡ n + positives w = mod-eq-of-lt (omega arith) in
+      let is : raised w n ≡ negsuc (2 ^ bitsOf w - positives w - suc n) = minus-neg n (2 ^ bitsOf w - positives w) low in (
+        is ∙ ap negsuc (omega arith) ∙ sym (ap (pixelOf w) turned ∙ pixel-high w (n + positives w) (omega arith) (omega arith)),
+        subst (SFits w32) (sym is) (record { sfits = omega (arith, sizes w) }),
+      )
+  raised-by n h false e =
+      let high : 2 ^ bitsOf w - positives w ≤ n = ltb-false n (2 ^ bitsOf w - positives w) e in
+      let turned : (n + positives w) % 2 ^ bitsOf w ≡ n + positives w - 2 ^ bitsOf w =
+      mod-eq-sub-mod (omega (arith, sizes w)) ∙ mod-eq-of-lt (omega (arith, sizes w)) in
+      let is : raised w n ≡ pos (n - (2 ^ bitsOf w - positives w)) = minus-pos n (2 ^ bitsOf w - positives w) high in (
+        is ∙ ap pos (omega (arith, sizes w))
+            ∙ sym (ap (pixelOf w) turned ∙ pixel-low w (n + positives w - 2 ^ bitsOf w) (omega (arith, sizes w))),
+        subst (SFits w32) (sym is) (record { sfits = omega (arith, sizes w) }),
+      )
 
-  pub pixel-32 : SFits w32 (pixelOf w v)
-  pixel-32 = pixel-fits (ltb v (positives w)) refl
+  raised-bits : (n : ℕ) → n < 2 ^ bitsOf w → raised w n ≡ pixelOf w ((n + positives w) % 2 ^ bitsOf w)
+  raised-bits n h = raised-by n h (ltb n (2 ^ bitsOf w - positives w)) refl .0
 
-  pub turned-small : bitAnd (v + below) mask < 2 ^ 32
-  turned-small = lt-of-lt-of-le (and-width-lt w (v + below) mask m) (sizes w .all)
+  pub raised-32 : (n : ℕ) → n < 2 ^ bitsOf w → SFits w32 (raised w n)
+  raised-32 n h = raised-by n h (ltb n (2 ^ bitsOf w - positives w)) refl .1
 
-  pub below-small : below ≤ 2 ^ 31
-  below-small = omega (arith, sizes w)
+  -- the running sum, counted from the lowest pixel
+  pub raised-following : (n u : ℕ) → n < 2 ^ bitsOf w
+      → raised w ((n + modulo (difference u) (2 ^ 32)) % 2 ^ bitsOf w) ≡ following w (raised w n) u
+  raised-following n u h =
+      let M = 2 ^ bitsOf w in
+      let d = modulo (difference u) (2 ^ 32) in
+      let v = (n + positives w) % M in
+      let same : ((n + d) % M + positives w) % M ≡ (v + d) % M =
+      mod-add-mod (n + d) M (positives w) ∙ ap (λ (k : ℕ). k % M) (omega arith) ∙ sym (mod-add-mod (n + positives w) M d) in
+      raised-bits ((n + d) % M) (mod-lt (n + d) (pow-pos (bitsOf w))) ∙ ap (pixelOf w) same
+      ∙ following-bits w v u (mod-lt (n + positives w) (pow-pos (bitsOf w)))
+      ∙ ap (λ (z : ℤ). following w z u) (sym (raised-bits n h))
 
-  pub pixel-made : toZ w64 (bitAnd (v + below) mask) -ℤ toZ w64 below ≡ pixelOf w v
-  pixel-made =
-      ap₂ (λ x y. x -ℤ y)
-      (toZ-pos w64 (omega (arith, turned-small)) ∙ ap pos (and-width w (v + below) mask m))
-      (toZ-pos w64 {n = below} (omega (arith, below-small)))
-      ∙ pixel-turned (ltb v (positives w)) refl
+  module _ (below : ℕ) (b : below + positives w ≡ 2 ^ bitsOf w) where
+    pub below-small : below ≤ 2 ^ 31
+    below-small = omega (arith, sizes w)
+
+    below-is : 2 ^ bitsOf w - positives w ≡ below
+    below-is = omega arith
+
+    pub raised-made : (n : ℕ) → n < 2 ^ bitsOf w → toZ w64 n -ℤ toZ w64 below ≡ raised w n
+    raised-made n h =
+        ap₂ (λ x y. x -ℤ y) (toZ-pos w64 {n = n} (omega (arith, sizes w .all))) (toZ-pos w64 {n = below} (omega (arith, below-small)))
+        ∙ ap (λ (k : ℕ). pos n -ℤ pos k) (sym below-is)
+
+    -- the bits of a pixel, turned so that they count from the lowest one
+    pub turned-raised : (v : ℕ) → v < 2 ^ bitsOf w → raised w ((v + below) % 2 ^ bitsOf w) ≡ pixelOf w v
+    turned-raised v h =
+        let M = 2 ^ bitsOf w in
+        let back : ((v + below) % M + positives w) % M ≡ v =
+        mod-add-mod (v + below) M (positives w) ∙ ap (λ (k : ℕ). k % M) (omega arith) ∙ mod-eq-sub-mod {n = v + M} (omega arith)
+        ∙ ap (λ (k : ℕ). k % M) (omega arith) ∙ mod-eq-of-lt h
+        in
+        raised-bits ((v + below) % M) (mod-lt (v + below) (pow-pos (bitsOf w))) ∙ ap (pixelOf w) back
+
+    -- a pixel of the width, counted from the lowest one
+    pub record Level (z : ℤ) : Type 0 where
+      pub level : ℕ
+      pub small : level < 2 ^ bitsOf w
+      pub is : raised w level ≡ z
+      pub sum : z +ℤ pos below ≡ pos level
+
+    pub level-in : (z : ℤ) → inWidth w z ≡ true → Level z
+    unfolding inWidth
+    level-in (pos k) h =
+        let low : k < positives w = ltb-true k (positives w) h in
+        record {
+          level = k + below;
+          small = omega arith;
+          is = minus-pos (k + below) (2 ^ bitsOf w - positives w) (omega arith) ∙ ap pos (omega arith);
+          sum = refl;
+        }
+    level-in (negsuc k) h =
+        let few : k < 2 ^ bitsOf w - positives w = ltb-true k (2 ^ bitsOf w - positives w) h in
+        let over : suc k ≤ below = omega arith in
+        record {
+          level = below - suc k;
+          small = omega arith;
+          is = minus-neg (below - suc k) (2 ^ bitsOf w - positives w) (omega arith) ∙ ap negsuc (omega arith);
+          sum = rw (le-ltb below (suc k) over);
+        }

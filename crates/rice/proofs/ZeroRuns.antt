@@ -1,23 +1,13 @@
--- Laws of runs of zeros: where they end, how they go on, and that a count of leading zeros finds them.
--- Assumes nothing.
+-- Laws of runs of zeros: where they end, how they go on, and how many digits stand after them. Assumes nothing.
 use mathlib.Core.Path.{_≡_, refl, sym, ap, _∙_}
 use mathlib.Core.List.{List}
-use Prim.Native.Nat.{ℕ, zero, suc, _+_, _*_, _^_, _≤_, _<_}
+use Prim.Native.Nat.{ℕ, zero, suc, _+_, _*_, _^_, _≤_, _<_, min}
 use native.Mathlib.Nat.{add-zero, zero-add, suc-add, pow-suc, le-of-suc-le-suc, not-suc-le-zero, suc-inj}
 use native.Mathlib.Numerals.{one-add}
 use native.Mathlib.Omega.{arith}
-use lib.Count.{under, leadingZeros, leading-unique}
+use lib.Count.{under}
 use Rattle.rice.specs.Tile.{bitAt, fieldAt, zerosAt}
 use Rattle.rice.proofs.Fields.{bit-lt, field-lt, field-split}
-
-under-le : (b t n : ℕ) → t ≤ n → under b t ≤ suc n
-under-le zero t n h = omega arith
-under-le (suc b) t n h = omega arith
-
-pub zeros-le : (s : List ℕ) (p n : ℕ) → zerosAt s p n ≤ n
-unfolding zerosAt
-zeros-le s p zero = omega arith
-zeros-le s p (suc n) = under-le (bitAt s p) _ n (zeros-le s (p + 1) n)
 
 -- the first m bits of a run are all zeros
 under-all : (b t u m : ℕ) → suc m ≤ under b t → (m ≤ t → u ≡ m) → under b u ≡ suc m
@@ -30,16 +20,16 @@ zeros-all s p zero n h = refl
 zeros-all s p (suc m) zero h = absurd (not-suc-le-zero h)
 zeros-all s p (suc m) (suc n) h = under-all (bitAt s p) _ _ m h (zeros-all s (p + 1) m n)
 
--- a run that ends within both bounds is the same under either
-under-same : (b t u m n : ℕ) → under b t < suc n → under b t < suc m → (t < n → t < m → u ≡ t) → under b u ≡ under b t
-under-same zero t u m n h k f = ap suc (f (le-of-suc-le-suc h) (le-of-suc-le-suc k))
-under-same (suc b) t u m n h k f = refl
+-- a run that ends is known under any other bound
+under-within : (b t u m n : ℕ) → under b t < suc n → (t < n → u ≡ min t m) → under b u ≡ min (under b t) (suc m)
+under-within zero t u m n h f = let e = f (le-of-suc-le-suc h) in omega (arith, e)
+under-within (suc b) t u m n h f = omega arith
 
-pub zeros-same : (s : List ℕ) (p m n : ℕ) → zerosAt s p n < n → zerosAt s p n < m → zerosAt s p m ≡ zerosAt s p n
+pub zeros-within : (s : List ℕ) (p m n : ℕ) → zerosAt s p n < n → zerosAt s p m ≡ min (zerosAt s p n) m
 unfolding zerosAt
-zeros-same s p zero n h k = absurd (not-suc-le-zero k)
-zeros-same s p (suc m) zero h k = absurd (not-suc-le-zero h)
-zeros-same s p (suc m) (suc n) h k = under-same (bitAt s p) _ _ m n h k (zeros-same s (p + 1) m n)
+zeros-within s p zero n h = omega arith
+zeros-within s p (suc m) zero h = absurd (not-suc-le-zero h)
+zeros-within s p (suc m) (suc n) h = under-within (bitAt s p) _ _ m n h (zeros-within s (p + 1) m n)
 
 -- after a zeros the run goes on
 under-on : (b t u a v : ℕ) → under b t ≡ suc a → (t ≡ a → u ≡ a + v) → under b u ≡ suc (a + v)
@@ -75,9 +65,3 @@ unfolding zerosAt fieldAt
 zeros-long s p zero = (0, refl, omega arith, omega arith)
 zeros-long s p (suc n) =
     rw field-top (long-under (bitAt s p) _ _ n (bit-lt s p) (field-lt s (p + 1) n) (zeros-long s (p + 1) n))
-
--- n bits in a word of k more: the leading zeros are the k above them and the run
-pub zeros-leading : (s : List ℕ) (p k n : ℕ) → leadingZeros (k + n) (fieldAt s p n) ≡ k + zerosAt s p n
-zeros-leading s p k n =
-    let r = zeros-long s p n in
-    sym (leading-unique (k + n) (fieldAt s p n) (k + zerosAt s p n) (r .0) (omega (arith, r .1)) (r .2) (r .3))

@@ -2,10 +2,8 @@
 use mathlib.Core.Path.{_≡_}
 use mathlib.Core.Bool.{true}
 use mathlib.Core.List.{List}
-use Prim.Native.Nat.{ℕ, _+_, _-_, _*_, _%_, _^_, _≤_, _<_}
-use lib.Count.{leadingZeros}
+use Prim.Native.Nat.{ℕ, _+_, _-_, _*_, _%_, _^_, _≤_}
 use lib.IntN.{ℤ}
-use lib.ListN.{getD}
 use Rattle.rice.specs.Tile.{bitsIn, fieldAt}
 use Rattle.rice.specs.Widths.{inWidth}
 use Rattle.rice.specs.Reads.{Read, found, short}
@@ -19,10 +17,6 @@ use Rattle.rice.specs.declared.Stepped.{Stepped}
 use Rattle.rice.specs.declared.ahead.Ahead.{Ahead}
 use Rattle.rice.specs.declared.ahead.Got.{Got}
 use Rattle.rice.specs.declared.ahead.Got.the-variants.{Bits, Short}
-
--- a table of how many bits each byte has up to its leading one
-pub record Counts (t : List ℕ) : Type 0 where
-  pub rule : (x : ℕ) → x < 256 → leadingZeros 8 x + getD t x 0 ≡ 8
 
 -- the n bits from place p on at the top of a word, with zeros below them
 abbrev pub heldBits : List ℕ → ℕ → ℕ → ℕ

@@ -8,3 +8,6 @@ pub mod Blocks
 pub mod Steps
 -- What private contracts cite alone
 pub mod Held
+pub mod Words
+pub mod Filling
+pub mod Easy

@@ -5,7 +5,7 @@ ghost use Prim.Native.Nat.{ℕ, _+_, _^_, _<_, _≤_};
 ghost use lib.ListN.{length};
 ghost use Rattle.rice.specs.Tile.{bitsIn};
 ghost use Rattle.rice.specs.Reads.{diffRead, mostBytes};
-ghost use Rattle.rice.specs.Held.{bareAt, pastOf, Holds, Found, Gives, CodeFits, Counts};
+ghost use Rattle.rice.specs.Held.{bareAt, pastOf, Holds, Found, Gives, CodeFits};
 use super::Cursor;
 use super::Taken;
 use super::bits;
@@ -132,11 +132,11 @@ impl Ahead {
     }
 
     // In n zeros, a one and fs bits.
-    fn held_split(self, table: &[u8; 256], fs: usize) -> Got
-        requires { ⌜ Counts (now table) × (self .count ≤ 64) × (fs ≤ 24) × (self .bit < 2 ^ 32) ⌝ }
+    fn held_split(self, fs: usize) -> Got
+        requires { ⌜ (self .count ≤ 64) × (fs ≤ 24) × (self .bit < 2 ^ 32) ⌝ }
         ensures { λ r. ⌜ ((s : List ℕ) → Holds s self → Found s (diffRead (Code.Split fs) s (self .bit)) r) ⌝ }
     {
-        let n = bits::leading(table, self.held);
+        let n = u64::leading_zeros(self.held) as usize;
         let used = n + 1 + fs;
         if used < self.count {
             let rest = self.held >> (64 - used) & (1 << fs) - 1;
@@ -147,28 +147,28 @@ impl Ahead {
         }
     }
 
-    fn held_one(self, table: &[u8; 256], code: Code) -> Got
-        requires { ⌜ Counts (now table) × (self .count ≤ 64) × CodeFits code × (self .bit < 2 ^ 32) ⌝ }
+    fn held_one(self, code: Code) -> Got
+        requires { ⌜ (self .count ≤ 64) × CodeFits code × (self .bit < 2 ^ 32) ⌝ }
         ensures { λ r. ⌜ ((s : List ℕ) → Holds s self → Found s (diffRead code s (self .bit)) r) ⌝ }
     {
         match code {
             Code::Same => Got::Bits(0, self),
             Code::Raw(n) => self.held_raw(n),
-            Code::Split(fs) => self.held_split(table, fs),
+            Code::Split(fs) => self.held_split(fs),
         }
     }
 
     // The next number that stands for a difference: from the bits held, from a word held afresh, or from the tile.
-    pub(crate) fn difference(self, tile: &[u8], table: &[u8; 256], code: Code) -> Got
-        requires { ⌜ (length (now tile) ≤ mostBytes) × Holds (now tile) self × CodeFits code × Counts (now table) ⌝ }
+    pub(crate) fn difference(self, tile: &[u8], code: Code) -> Got
+        requires { ⌜ (length (now tile) ≤ mostBytes) × Holds (now tile) self × CodeFits code ⌝ }
         ensures { λ r. ⌜ Gives (now (tile .entry)) (diffRead code (now (tile .entry)) (self .bit)) r ⌝ }
     {
-        let held = self.held_one(table, code);
+        let held = self.held_one(code);
         let Got::Short = held else {
             return held;
         };
         let bit = self.bit;
-        let fresh = full(bit, tile).held_one(table, code);
+        let fresh = full(bit, tile).held_one(code);
         let Got::Short = fresh else {
             return fresh;
         };

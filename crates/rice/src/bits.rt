@@ -1,11 +1,9 @@
 // Fields of bits and runs of zeros in a slice of bytes, highest bit first. Past the slice's end every bit is 0.
 ghost use mathlib.Core.Path.{_≡_};
-ghost use Prim.Native.Nat.{_+_, _-_, _*_, _/_, _%_, _^_, _<_, _≤_};
-ghost use lib.Count.{leadingZeros};
+ghost use Prim.Native.Nat.{_+_, _-_, _*_, _/_, _%_, _^_, _<_, _≤_, min};
 ghost use lib.ListN.{length, getD};
 ghost use Rattle.rice.specs.Tile.{fieldAt, zerosAt};
-ghost use Rattle.rice.specs.Held.{heldBits, Counts};
-use super::table;
+ghost use Rattle.rice.specs.Held.{heldBits};
 
 // One byte more, below what is there.
 fn push(high: u64, byte: u8) -> u64
@@ -59,7 +57,7 @@ fn edge_quad(s: &[u8], i: usize) -> u64
 }
 
 // The 64 bits from byte i on, where they are all there.
-fn whole_word(s: &[u8], i: usize) -> u64
+pub(crate) fn whole_word(s: &[u8], i: usize) -> u64
     requires { ⌜ i + 8 ≤ length (now s) ⌝ }
     ensures { λ r. ⌜ r ≡ fieldAt (now (s .entry)) (i * 8) 64 ⌝ }
 {
@@ -94,43 +92,28 @@ pub(crate) fn field(s: &[u8], p: usize, n: usize) -> u64
     (word(s, p / 8) << (p % 8)) >> 1 >> (63 - n)
 }
 
-// How many zeros stand before the first one of the 8 bits of x.
-fn leading8(table: &[u8; 256], x: u64) -> usize
-    requires { ⌜ Counts (now table) × (x < 256) ⌝ }
-    ensures { λ r. ⌜ r ≡ leadingZeros 8 x ⌝ }
+// The lesser of two numbers.
+pub(crate) fn least(a: usize, b: usize) -> usize
+    ensures { λ r. ⌜ r ≡ min a b ⌝ }
 {
-    8 - table[x as usize] as usize
+    if a < b { a } else { b }
 }
 
-// How many zeros stand before the first one of x's 64 bits, where it is among the first 8; otherwise 64.
-pub(crate) fn leading(table: &[u8; 256], x: u64) -> usize
-    requires { ⌜ Counts (now table) ⌝ }
-    ensures { λ r. ⌜ (r ≤ 64) × (r < 64 → r ≡ leadingZeros 64 x) ⌝ }
-{
-    let first = x >> 56;
-    if first == 0 {
-        64
-    } else {
-        leading8(table, first)
-    }
-}
-
-// How many of the n bits from place p on stand before the first one: n where none is set.
+// How many of the n bits from place p on stand before the first one: n where none is set. A word at a time: the zeros that are shifted in
+// below its bits are not the tile's.
 pub(crate) fn zeros(s: &[u8], p: usize, n: usize) -> usize
-    requires { ⌜ p + n < 2 ^ 63 ⌝ }
+    requires { ⌜ p + n < 2 ^ 62 ⌝ }
     ensures { λ r. ⌜ r ≡ zerosAt (now (s .entry)) p n ⌝ }
 {
-    let table = table::nonzero_count();
     let mut k = 0;
     while k < n {
-        let z = leading8(&table, field(s, p + k, 8));
-        if n - k <= z {
-            return n;
+        let at = p + k;
+        let held = 64 - at % 8;
+        let z = u64::leading_zeros(word(s, at / 8) << (at % 8)) as usize;
+        if z < held {
+            return least(k + z, n);
         }
-        if z < 8 {
-            return k + z;
-        }
-        k += 8;
+        k += held;
     }
     n
 }

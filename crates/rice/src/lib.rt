@@ -5,18 +5,21 @@ ghost use Prim.Native.Nat.{_+_, _^_, _<_, _≤_, min, suc};
 ghost use lib.ListN.{length};
 ghost use Rattle.refusal.specs.Numbers.{faultOf};
 ghost use Rattle.rice.specs.Tile.{bitsIn};
-ghost use Rattle.rice.specs.Widths.{inWidth};
+ghost use Rattle.rice.specs.Widths.{bitsOf, inWidth};
 ghost use Rattle.rice.specs.Reads.{moved, takeOf, skipOf, mostBytes};
 ghost use Rattle.rice.specs.Held.{CodeFits, Levelled};
+ghost use Rattle.rice.specs.Easy.{Standing, Reaches};
 ghost use Rattle.rice.specs.Blocks.{coded, blockOf};
 ghost use Rattle.rice.specs.Steps.{planOf, stands, stepOf, openOf, stepsOf, decodeOf};
 
 mod ahead; // a cursor with the next bits at hand
 mod bits; // fields of bits and runs of zeros
-mod table; // how many bits a byte has up to its leading one
+mod pixels; // the pixels of a block
 mod width; // the three widths
+mod words; // several code words at a time
 
-use ahead::Got;
+use pixels::Came;
+use pixels::Spot;
 use refusal::Fault;
 use refusal::Refusal;
 use refusal::fault_of;
@@ -24,6 +27,7 @@ use width::Code;
 use width::Coded;
 use width::Planned;
 use width::Width;
+use words::One;
 
 // The most pixels of a tile and of a block, bytes of a tile, and bits that are taken at once.
 pub const MOST_PIXELS: usize = 1_048_576;
@@ -91,7 +95,7 @@ pub fn decode(tile: &[u8], nx: usize, nblock: usize, bits: usize, pixels: &mut [
     ensures { λ r. ⌜ r ≡ decodeOf (now (tile .entry)) nx nblock bits (now (pixels .entry)) .answer ⌝ }
     ensures { λ _. ⌜ now (pixels .exit) ≡ decodeOf (now (tile .entry)) nx nblock bits (now (pixels .entry)) .content ⌝ }
 {
-    let Planned::Of(_) = plan(tile.len(), nx, nblock, bits) else {
+    let Planned::Of(width) = plan(tile.len(), nx, nblock, bits) else {
         return Decoded::Refused {
             fault: fault_of(Refusal::Limits),
             written: 0,
@@ -105,7 +109,7 @@ pub fn decode(tile: &[u8], nx: usize, nblock: usize, bits: usize, pixels: &mut [
     }
     match open(tile, nx, nblock, bits) {
         Opened::Refused(fault) => Decoded::Refused { fault, written: 0 },
-        Opened::At(start) => start.run(tile, nx, nblock, bits, pixels),
+        Opened::At(start) => start.run(tile, width, nx, nblock, pixels),
     }
 }
 
@@ -190,29 +194,193 @@ impl Cursor {
         c
     }
 
-    // Step after step, to the end.
-    fn run(self, tile: &[u8], nx: usize, nblock: usize, bits: usize, pixels: &mut [i32]) -> Decoded
-        requires { ⌜ (self .done ≤ nx) × (nx ≤ 2 ^ 20) × (length (now pixels) ≤ 2 ^ 20) ⌝ }
-        ensures { λ r. ⌜ r ≡ stepsOf (now (tile .entry)) nx nblock bits (suc nx) self (now (pixels .entry)) .answer ⌝ }
-        ensures { λ _. ⌜ now (pixels .exit) ≡ stepsOf (now (tile .entry)) nx nblock bits (suc nx) self (now (pixels .entry)) .content ⌝ }
+    // Block after block, to the end. The cursor keeps its rules all the way, so they are not tested again.
+    fn run(self, tile: &[u8], width: Width, nx: usize, nblock: usize, pixels: &mut [i32]) -> Decoded
+        requires { ⌜ Standing width (now tile) nx nblock self (now pixels) ⌝ }
+        ensures { λ r. ⌜ r ≡ stepsOf (now (tile .entry)) nx nblock (bitsOf width) (suc nx) self (now (pixels .entry)) .answer ⌝ }
+        ensures { λ _. ⌜ now (pixels .exit)
+            ≡ stepsOf (now (tile .entry)) nx nblock (bitsOf width) (suc nx) self (now (pixels .entry)) .content ⌝ }
     {
         let mut c = self;
-        loop {
-            match c.step(tile, nx, nblock, bits, pixels) {
-                Stepped::Done => {
-                    return Decoded::Whole(c.bit);
-                }
-                Stepped::Refused { fault, written } => {
-                    let all = c.done + written;
-                    return Decoded::Refused {
-                        fault,
-                        written: all,
-                    };
-                }
-                Stepped::Next(next) => {
-                    c = next;
+        while c.done < nx {
+            let done = c.done;
+            let easy = c.easy(tile, width, nx, nblock, pixels);
+            if done < easy.done {
+                c = easy;
+            } else {
+                let end = block_end(done, nx, nblock);
+                match easy.block(tile, width, &mut pixels[done..end]) {
+                    Stepped::Next(next) => {
+                        c = next;
+                    }
+                    Stepped::Refused { fault, written } => {
+                        let all = done + written;
+                        return Decoded::Refused {
+                            fault,
+                            written: all,
+                        };
+                    }
+                    Stepped::Done => {
+                        return Decoded::Whole(easy.bit);
+                    }
                 }
             }
+        }
+        Decoded::Whole(c.bit)
+    }
+
+    // As many whole blocks as can be had at once by what the next FS field says; the cursor itself, where none can.
+    fn easy(self, tile: &[u8], width: Width, nx: usize, nblock: usize, pixels: &mut [i32]) -> Self
+        requires { ⌜ Standing width (now tile) nx nblock self (now pixels) ⌝ }
+        ensures { λ r. ⌜ Reaches width (now (tile .entry)) nx nblock self (now (pixels .entry)) r (now (pixels .exit)) ⌝ }
+    {
+        let bit = self.bit;
+        if tile.len() < bit / 8 + 8 {
+            return self;
+        }
+        let field = bits::window(tile, bit) >> (64 - width.fs_bits());
+        if field == 0 {
+            return self.levels(tile, width, nx, nblock, pixels);
+        }
+        if width.fs_top() < field {
+            return self.raws(tile, width, nx, nblock, pixels);
+        }
+        if nblock == 1 {
+            return self.ones(tile, width, nx, pixels);
+        }
+        self.splits(tile, width, nx, nblock, pixels)
+    }
+
+    // Blocks whose differences are all 0: as many as there are FS fields of zeros.
+    fn levels(self, tile: &[u8], width: Width, nx: usize, nblock: usize, pixels: &mut [i32]) -> Self
+        requires { ⌜ Standing width (now tile) nx nblock self (now pixels) ⌝ }
+        ensures { λ r. ⌜ Reaches width (now (tile .entry)) nx nblock self (now (pixels .entry)) r (now (pixels .exit)) ⌝ }
+    {
+        let bit = self.bit;
+        let done = self.done;
+        let size = width.fs_bits();
+        let left = nx - done;
+        let zeros = bits::zeros(tile, bit, bits::least(tile.len() * 8 - bit, left * size));
+        let many = bits::least(zeros / size, left / nblock);
+        let end = done + many * nblock;
+        self.level(&mut pixels[done..end]);
+        Cursor {
+            bit: bit + many * size,
+            done: end,
+            last: self.last,
+        }
+    }
+
+    // Raw blocks, as many as come with eight bytes of the tile at each number.
+    fn raws(self, tile: &[u8], width: Width, nx: usize, nblock: usize, pixels: &mut [i32]) -> Self
+        requires { ⌜ Standing width (now tile) nx nblock self (now pixels) ⌝ }
+        ensures { λ r. ⌜ Reaches width (now (tile .entry)) nx nblock self (now (pixels .entry)) r (now (pixels .exit)) ⌝ }
+    {
+        let size = width.fs_bits();
+        let raw = width.fs_top() + 1;
+        let mask = width.mask();
+        let below = width.negatives();
+        let last = self.last;
+        let mut bit = self.bit;
+        let mut done = self.done;
+        let mut level = width.level_of(last);
+        'raws: while nblock <= nx - done {
+            if tile.len() < bit / 8 + width.start_bytes() * nblock + 9 {
+                break 'raws;
+            }
+            if bits::window(tile, bit) >> (64 - size) != raw {
+                break 'raws;
+            }
+            let end = done + nblock;
+            bit += size;
+            level = width.raw_block(tile, mask, below, level, bit, &mut pixels[done..end]);
+            bit += width.bits() * nblock;
+            done = end;
+        }
+        Cursor {
+            bit,
+            done,
+            last: width.pixel_by(below, level),
+        }
+    }
+
+    // Blocks of one pixel each, as many as come with their code word in one window.
+    fn ones(self, tile: &[u8], width: Width, nx: usize, pixels: &mut [i32]) -> Self
+        requires { ⌜ Standing width (now tile) nx 1 self (now pixels) ⌝ }
+        ensures { λ r. ⌜ Reaches width (now (tile .entry)) nx 1 self (now (pixels .entry)) r (now (pixels .exit)) ⌝ }
+    {
+        let size = width.fs_bits();
+        let top = width.fs_top();
+        let mask = width.mask();
+        let below = width.negatives();
+        let last = self.last;
+        let mut bit = self.bit;
+        let mut done = self.done;
+        let mut level = width.level_of(last);
+        'ones: while done < nx {
+            let One::Of(u, end) = width.next_one(size, top, bit, tile) else {
+                break 'ones;
+            };
+            level = width.store(mask, below, level, u, pixels, done);
+            bit = end;
+            done += 1;
+        }
+        Cursor {
+            bit,
+            done,
+            last: width.pixel_by(below, level),
+        }
+    }
+
+    // Blocks of code words, as many as come before the tile's end. A block in which the tile ends is left to be filled again.
+    fn splits(self, tile: &[u8], width: Width, nx: usize, nblock: usize, pixels: &mut [i32]) -> Self
+        requires { ⌜ Standing width (now tile) nx nblock self (now pixels) ⌝ }
+        ensures { λ r. ⌜ Reaches width (now (tile .entry)) nx nblock self (now (pixels .entry)) r (now (pixels .exit)) ⌝ }
+    {
+        let size = width.fs_bits();
+        let top = width.fs_top();
+        let mask = width.mask();
+        let below = width.negatives();
+        let last = self.last;
+        let mut bit = self.bit;
+        let mut done = self.done;
+        let mut level = width.level_of(last);
+        'splits: while nblock <= nx - done {
+            if tile.len() < bit / 8 + 8 {
+                break 'splits;
+            }
+            let field = bits::window(tile, bit) >> (64 - size);
+            if field == 0 {
+                break 'splits;
+            }
+            if top < field {
+                break 'splits;
+            }
+            let end = done + nblock;
+            let start = Spot {
+                bit: bit + size,
+                level,
+                next: 0,
+            };
+            let fs = field - 1;
+            let Came::To(at) = width.split_block(
+                tile,
+                fs as usize,
+                mask,
+                below,
+                start,
+                &mut pixels[done..end],
+            ) else {
+                break 'splits;
+            };
+            bit = at.bit;
+            level = at.level;
+            done = end;
+        }
+        Cursor {
+            bit,
+            done,
+            last: width.pixel_by(below, level),
         }
     }
 
@@ -284,30 +452,24 @@ impl Cursor {
         ensures { λ r. ⌜ r ≡ coded width (now (tile .entry)) self (now (part .entry)) (Coded.Known code) .answer ⌝ }
         ensures { λ _. ⌜ now (part .exit) ≡ coded width (now (tile .entry)) self (now (part .entry)) (Coded.Known code) .content ⌝ }
     {
-        let table = table::nonzero_count();
-        let mut a = ahead::bare(self.bit);
         let last = self.last;
-        let mut v = width.bits_of(last);
-        let mask = width.mask();
         let below = width.negatives();
-        let mut i = 0;
-        while i < part.len() {
-            let Got::Bits(u, next) = a.difference(tile, &table, code) else {
-                return step_refused(Refusal::TileEnds, i);
-            };
-            v = width.next_by(mask, v, u);
-            let pixel = width.pixel_by(mask, below, v);
-            part[i] = pixel;
-            a = next;
-            i += 1;
+        let start = Spot {
+            bit: self.bit,
+            level: width.level_of(last),
+            next: 0,
+        };
+        match width.each(tile, code, width.mask(), below, start, part) {
+            Came::Short(written) => step_refused(Refusal::TileEnds, written),
+            Came::To(at) => {
+                let done = self.done + part.len();
+                Stepped::Next(Cursor {
+                    bit: at.bit,
+                    done,
+                    last: width.pixel_by(below, at.level),
+                })
+            }
         }
-        let last = width.pixel(v);
-        let done = self.done + i;
-        Stepped::Next(Cursor {
-            bit: a.bit,
-            done,
-            last,
-        })
     }
 }
 

@@ -5,6 +5,7 @@ ghost use Prim.Native.Nat.{_+_, _^_, _<_};
 ghost use Rattle.rice.specs.Widths.{bitsOf, fsBits, fsTop, startBytes, positives, pixelOf, inWidth, modulo, difference, following};
 ghost use Rattle.rice.specs.Blocks.{codeOf};
 ghost use Rattle.rice.specs.Steps.{widthOf};
+ghost use Rattle.rice.specs.Filling.{raised};
 
 // The highest number of 32 bits.
 const HIGHEST: u64 = 0xffff_ffff;
@@ -169,37 +170,37 @@ impl Width {
         }
     }
 
-    // The pixel whose bits are v.
+    // The pixel whose bits are v: they are turned so that they count from the lowest pixel.
     pub(crate) fn pixel(self, v: u64) -> i32
         requires { ⌜ v < 2 ^ bitsOf self ⌝ }
         ensures { λ r. ⌜ r ≡ pixelOf self v ⌝ }
     {
-        self.pixel_by(self.mask(), self.negatives(), v)
+        let below = self.negatives();
+        self.pixel_by(below, (v + below) & self.mask())
     }
 
-    // The same with the width's numbers at hand, and with no branch: the bits are turned so that they count from the lowest pixel.
-    pub(crate) fn pixel_by(self, mask: u64, below: u64, v: u64) -> i32
-        requires { ⌜ (mask + 1 ≡ 2 ^ bitsOf self) × (below + positives self ≡ 2 ^ bitsOf self) × (v < 2 ^ bitsOf self) ⌝ }
-        ensures { λ r. ⌜ r ≡ pixelOf self v ⌝ }
+    // The pixel that stands so many above the lowest one, with the width's numbers at hand.
+    pub(crate) fn pixel_by(self, below: u64, level: u64) -> i32
+        requires { ⌜ (below + positives self ≡ 2 ^ bitsOf self) × (level < 2 ^ bitsOf self) ⌝ }
+        ensures { λ r. ⌜ r ≡ raised self level ⌝ }
     {
-        let turned = (v + below) & mask;
-        (turned as i64 - below as i64) as i32
+        (level as i64 - below as i64) as i32
     }
 
-    // The bits of the pixel that follows the one with the bits v, with the mask at hand.
-    pub(crate) fn next_by(self, mask: u64, v: u64, u: u64) -> u64
-        requires { ⌜ (mask + 1 ≡ 2 ^ bitsOf self) × (v < 2 ^ bitsOf self) × (u < 2 ^ 32) ⌝ }
-        ensures { λ r. ⌜ (r < 2 ^ bitsOf self) × (pixelOf self r ≡ following self (pixelOf self v) u) ⌝ }
-    {
-        (v + unmap(u)) & mask
-    }
-
-    // The bits of a pixel.
-    pub(crate) fn bits_of(self, z: i32) -> u64
+    // How many pixels a pixel stands above the lowest one.
+    pub(crate) fn level_of(self, z: i32) -> u64
         requires { ⌜ inWidth self z ≡ true ⌝ }
-        ensures { λ r. ⌜ (r < 2 ^ bitsOf self) × (pixelOf self r ≡ z) ⌝ }
+        ensures { λ r. ⌜ (r < 2 ^ bitsOf self) × (raised self r ≡ z) ⌝ }
     {
-        raw(z) & self.mask()
+        (z as i64 + self.negatives() as i64) as u64
+    }
+
+    // The pixel that follows one, both counted from the lowest.
+    pub(crate) fn next_by(self, mask: u64, level: u64, u: u64) -> u64
+        requires { ⌜ (mask + 1 ≡ 2 ^ bitsOf self) × (level < 2 ^ bitsOf self) × (u < 2 ^ 32) ⌝ }
+        ensures { λ r. ⌜ (r < 2 ^ bitsOf self) × (raised self r ≡ following self (raised self level) u) ⌝ }
+    {
+        (level + unmap(u)) & mask
     }
 }
 
@@ -209,15 +210,4 @@ fn unmap(u: u64) -> u64
     ensures { λ r. ⌜ r ≡ modulo (difference u) (2 ^ 32) ⌝ }
 {
     if u % 2 == 0 { u / 2 } else { HIGHEST - u / 2 }
-}
-
-// The 32 bits of a signed number.
-fn raw(z: i32) -> u64
-    ensures { λ r. ⌜ r ≡ modulo z (2 ^ 32) ⌝ }
-{
-    if z < 0 {
-        HIGHEST - (-1 - z) as u64
-    } else {
-        z as u64
-    }
 }

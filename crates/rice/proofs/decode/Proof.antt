@@ -1,6 +1,5 @@
 -- `rice::decode`: opening, then the steps. Assumes nothing.
 use mathlib.Core.Path.{_≡_, refl, ap, sym, _∙_}
-use native.Mathlib.Omega.{arith}
 use borrow.Author.Needs.{needs}
 use denote.Ref.{now}
 use lib.ListN.{length}
@@ -8,22 +7,22 @@ use Rattle.refusal.specs.declared.Fault.{Fault}
 use Rattle.rice.specs.Steps.{planOf}
 use Rattle.rice.specs.declared.Decoded.the-variants as D
 use Rattle.rice.specs.declared.width.Planned.the-variants.{Of}
-use Rattle.rice.proofs.Stepping.{plan-within}
-use Rattle.rice.proofs.Decoding.{open-zero, decode-limits, decode-count, decode-open, finished}
+use Rattle.rice.proofs.Reaching.{decode-steps, opened}
+use Rattle.rice.proofs.Decoding.{decode-limits, decode-count, decode-open, finished}
 use Rattle.rice.proofs.decode.Statement.{statement}
 use Rattle.rice.proofs.decode.Tie as tie
 
-abbrev start : tie.After-enum-told → tie.Start
-start k = k .before .before .before .before
+abbrev start : tie.After-known-told → tie.Start
+start k = k .before .before .before .before .before
 
 plan-requires : tie.Need-plan-requires
 plan-requires c κs = search needs
 
+enum-known-width : tie.Need-enum-known-width
+enum-known-width c = search needs
+
 enum-told : tie.Need-enum-told
 enum-told c = search needs
-
-enum-told-2 : tie.Need-enum-told-2
-enum-told-2 c = search needs
 
 fault-of-requires : tie.Need-fault-of-requires
 fault-of-requires c κs = tt
@@ -38,19 +37,19 @@ returns c =
     let a = p .before .before .args in
     finished (refused (c .fault-of .ensures))
     (decode-limits (now (a .tile)) (a .nx) (a .nblock) (a .bits) (now (a .pixels))
-    (sym (p .plan .ensures) ∙ c .before .enum-told2 .given .1))
+    (sym (p .plan .ensures) ∙ c .before .enum-told .given .1))
 
-plan : (k : tie.After-enum-told)
+plan : (k : tie.After-known-told)
     → planOf (length (now (start k .args .tile))) (start k .args .nx) (start k .args .nblock) (start k .args .bits)
-    ≡ Of (k .enum-told .given .0 .0)
-plan k = sym (k .before .before .plan .ensures) ∙ k .enum-told .given .1
+    ≡ Of (k .before .width .given .0 .0)
+plan k = sym (k .before .before .before .plan .ensures) ∙ k .before .width .given .1
 
 fault-of-requires-2 : tie.Need-fault-of-requires-2
 fault-of-requires-2 c κs = tt
 
 returns-2 : tie.Need-returns-2
 returns-2 c =
-    let a = c .before .before .before .before .before .before .args in
+    let a = start (c .before .before) .args in
     finished (refused (c .fault-of2 .ensures))
     (decode-count (now (a .tile)) (a .nx) (a .nblock) (a .bits) (now (a .pixels)) _ (plan (c .before .before))
     (c .before .if1 .taken))
@@ -69,10 +68,8 @@ run-requires c κs =
     let o = c .before .before .before .before in
     let k = o .before .before in
     let a = start k .args in
-    let limits = plan-within _ _ _ (a .bits) (plan k) in
-    let zero = open-zero (now (a .tile)) (a .nx) (a .nblock) (a .bits)
-    (sym (o .«open» .ensures) ∙ c .before .before .start .given .1) in
-    (omega (arith, zero), limits .few, omega (arith, limits .few, o .before .if1 .left))
+    opened _ _ _ _ (a .bits) _ _ (plan k) (o .before .if1 .left)
+    (sym (o .«open» .ensures) ∙ c .before .before .start .given .1)
 
 returns-3 : tie.Need-returns-3
 returns-3 c =
@@ -90,8 +87,8 @@ returns-4 c =
     let o = c .before .before .before .before .before .before in
     let k = o .before .before in
     let a = start k .args in
-    let f = finished (c .before .run .ensures .0) (decode-open (now (a .tile)) (a .nx) (a .nblock) (a .bits) (now (a .pixels)) _ (plan k)
-    (o .before .if1 .left) _ (sym (o .«open» .ensures) ∙ c .before .before .before .before .start .given .1)) in
+    let f = finished (c .before .run .ensures .0) (decode-steps _ (now (a .tile)) (a .nx) (a .nblock) (a .bits) _ (now (a .pixels)) (plan k)
+    (o .before .if1 .left) (sym (o .«open» .ensures) ∙ c .before .before .before .before .start .given .1)) in
     (f .0, c .before .run .ensures .1 ∙ f .1)
 
 pub decode-spec : {M : Type 1} → statement M
@@ -99,8 +96,8 @@ decode-spec =
     tie.close
     (tie.spec
     plan-requires
+    enum-known-width
     enum-told
-    enum-told-2
     fault-of-requires
     returns
     fault-of-requires-2

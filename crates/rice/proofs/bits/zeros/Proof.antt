@@ -1,81 +1,83 @@
--- `rice::bits::zeros`: the run is the k zeros passed and the run from there on. Assumes nothing.
-use mathlib.Core.Path.{_≡_, ap, _∙_}
+-- `rice::bits::zeros`: the run is the k zeros passed and the run of the word held there. Assumes nothing.
+use mathlib.Core.Path.{_≡_, refl, ap, _∙_}
 use mathlib.Core.List.{List}
-use Prim.Native.Nat.{ℕ, _+_, _-_, _≤_, _<_}
-use native.Mathlib.Nat.{add-zero, zero-add, sub-zero}
+use Prim.Native.Nat.{ℕ, _+_, _-_, _*_, _%_, _^_, _≤_, _<_, min}
 use native.Mathlib.Omega.{arith}
+use borrow.Author.Needs.{needs}
 use denote.Ref.{now}
-use lib.Count.{leadingZeros}
+use lib.Count.{leadingZeros, leading-le}
 use Rattle.rice.specs.Tile.{zerosAt}
-use Rattle.rice.proofs.Fields.{field-lt}
-use Rattle.rice.proofs.ZeroRuns.{zeros-le, zeros-all, zeros-same, zeros-on, zeros-leading}
+use Rattle.rice.proofs.ZeroRuns.{zeros-all, zeros-within, zeros-on}
+use Rattle.rice.proofs.HeldBits.{window-held, zeros-held}
 use Rattle.rice.proofs.bits.zeros.Statement.{statement}
 use Rattle.rice.proofs.bits.zeros.Tie as tie
 
 abbrev Passed : List ℕ → ℕ → ℕ → ℕ → Type 0
-Passed s p n k = (k ≤ n) × (zerosAt s p n ≡ k + zerosAt s (p + k) (n - k))
+Passed s p n k = (k ≤ n + 64) × (zerosAt s p k ≡ k)
 
 abbrev Inv-loop : tie.InvT-loop
-Inv-loop s p n table k₀ k = Passed s p n k
+Inv-loop s p n k₀ k = Passed s p n k
 
 abbrev μ-loop : tie.MeasureT-loop
-μ-loop s p n table k₀ k = n - k
+μ-loop s p n k₀ k = n - k
 
--- with z the zeros among the 8 bits at p + k
-module _ (s : List ℕ) (p n k z : ℕ) (i : Passed s p n k) (e : z ≡ zerosAt s (p + k) 8) where
-  to-the-end : n - k ≤ z → n ≡ zerosAt s p n
-  to-the-end h = omega (arith, zeros-all s (p + k) (n - k) 8 (omega arith))
+-- with z the leading zeros of the word at p + k, of which `held` bits are the tile's
+module _ (s : List ℕ) (p n k held z : ℕ) (i : Passed s p n k) (l : k < n) (e : min z held ≡ zerosAt s (p + k) held) where
+  ends : z < held → min (k + z) n ≡ zerosAt s p n
+  ends h =
+      let left : n ≡ k + (n - k) = omega arith in
+      let on : zerosAt s p n ≡ k + zerosAt s (p + k) (n - k) = ap (zerosAt s p) left ∙ zeros-on s p k (n - k) (i .1) in
+      omega (arith, on, e, zeros-within s (p + k) (n - k) held (omega arith))
 
-  found : z < n - k → z < 8 → k + z ≡ zerosAt s p n
-  found h w = omega (arith, zeros-same s (p + k) (n - k) 8 (omega arith) (omega arith))
-
-  past : z < n - k → 8 ≤ z → Passed s p n (k + 8)
-  past h w =
-      let all : zerosAt s (p + k) 8 ≡ 8 = omega (arith, zeros-le s (p + k) 8) in
-      let left : n - k ≡ 8 + (n - (k + 8)) = omega arith in
-      let on : zerosAt s (p + k) (n - k) ≡ 8 + zerosAt s (p + (k + 8)) (n - (k + 8)) =
-      ap (zerosAt s (p + k)) left ∙ zeros-on s (p + k) 8 (n - (k + 8)) all
-      ∙ ap (λ (q : ℕ). 8 + zerosAt s q (n - (k + 8))) (omega arith)
-      in
-      (omega arith, omega arith)
-
-ended : (s : List ℕ) (p n k : ℕ) → Passed s p n k → n ≤ k → n ≡ zerosAt s p n
-ended s p n k i h = omega (arith, zeros-le s (p + k) (n - k))
-
-nonzero-count-requires : tie.Need-nonzero-count-requires Inv-loop μ-loop
-nonzero-count-requires c κs = tt
+  passes : held ≤ 64 → held ≤ z → Passed s p n (k + held)
+  passes f h = (omega (arith, l), omega (arith, e, zeros-on s p k held (i .1)))
 
 loop-holds : tie.Need-loop-holds Inv-loop μ-loop
-loop-holds c = (omega arith, simp (zero-add, add-zero, sub-zero))
+unfolding zerosAt
+loop-holds c = (omega arith, refl)
 
-add-field : tie.Need-add-field Inv-loop μ-loop
-add-field c = omega arith
+add-at : tie.Need-add-at Inv-loop μ-loop
+add-at c = omega arith
 
-field-requires : tie.Need-field-requires Inv-loop μ-loop
-field-requires c κs = omega arith
+sub-held : tie.Need-sub-held Inv-loop μ-loop
+sub-held c = omega arith
 
-leading8-requires : tie.Need-leading8-requires Inv-loop μ-loop
-leading8-requires c κs =
-    (c .before .before .before .before .nonzero-count .ensures, rw (c .field .ensures) (field-lt _ _ 8))
+word-requires : tie.Need-word-requires Inv-loop μ-loop
+word-requires c κs = omega arith
 
--- the zeros among the next 8 bits
-run : (c : tie.After-leading8 Inv-loop μ-loop)
-    → c .leading8 .result ≡ zerosAt (now (c .before .before .before .before .before .before .before .args .s))
-    (c .before .before .before .before .before .before .before .args .p + c .before .before .before .before .loop .k) 8
-run c = c .leading8 .ensures ∙ ap (leadingZeros 8) (c .before .field .ensures) ∙ zeros-leading _ _ 0 8 ∙ zero-add _
+shl-z : tie.Need-shl-z Inv-loop μ-loop
+shl-z c = omega arith
 
-sub-if1 : tie.Need-sub-if1 Inv-loop μ-loop
-sub-if1 c = omega arith
+abbrev at : tie.After-word Inv-loop μ-loop → ℕ
+at c = c .before .before .before .before .args .p + c .before .before .loop .k
+
+-- the word whose leading zeros are counted
+abbrev held : tie.After-word Inv-loop μ-loop → ℕ
+held c = c .word .result * 2 ^ (at c % 8) % 2 ^ 64
+
+cast-z : tie.Need-cast-z Inv-loop μ-loop
+cast-z c = omega (arith, leading-le 64 (held c))
+
+run : (c : tie.After-word Inv-loop μ-loop)
+    → min (leadingZeros 64 (held c)) (64 - at c % 8)
+    ≡ zerosAt (now (c .before .before .before .before .args .s)) (at c) (64 - at c % 8)
+run c =
+    let s = now (c .before .before .before .before .args .s) in
+    ap (λ (w : ℕ). min (leadingZeros 64 w) (64 - at c % 8))
+    (ap (λ (w : ℕ). w * 2 ^ (at c % 8) % 2 ^ 64) (c .word .ensures) ∙ window-held s (at c))
+    ∙ zeros-held s (at c) (64 - at c % 8) (omega arith)
+
+add-least : tie.Need-add-least Inv-loop μ-loop
+add-least c = omega arith
+
+least-requires : tie.Need-least-requires Inv-loop μ-loop
+least-requires c κs = search needs
 
 returns : tie.Need-returns Inv-loop μ-loop
-returns c = to-the-end _ _ _ _ _ (c .before .before .before .before .before .loop .inv) (run (c .before)) (c .if1 .taken)
-
-add-result : tie.Need-add-result Inv-loop μ-loop
-add-result c = omega arith
-
-returns-2 : tie.Need-returns-2 Inv-loop μ-loop
-returns-2 c = found _ _ _ _ _ (c .before .before .before .before .before .before .loop .inv) (run (c .before .before))
-    (c .before .if1 .left) (c .if2 .taken)
+returns c =
+    let w = c .before .before in
+    c .least .ensures
+    ∙ ends _ _ _ _ _ _ (w .before .before .loop .inv) (w .before .loop-test .taken) (run w) (c .before .if1 .taken)
 
 add-k : tie.Need-add-k Inv-loop μ-loop
 add-k c = omega arith
@@ -84,11 +86,16 @@ loop-less : tie.Need-loop-less Inv-loop μ-loop
 loop-less c = omega arith
 
 loop-again : tie.Need-loop-again Inv-loop μ-loop
-loop-again c = past _ _ _ _ _ (c .before .before .before .before .before .before .loop .inv) (run (c .before .before))
-    (c .before .if1 .left) (c .if2 .left)
+loop-again c =
+    let w = c .before in
+    passes _ _ _ _ _ _ (w .before .before .loop .inv) (w .before .loop-test .taken) (run w) (omega arith) (c .if1 .left)
 
-returns-3 : tie.Need-returns-3 Inv-loop μ-loop
-returns-3 c = ended _ _ _ _ (c .before .loop .inv) (c .loop-test .left)
+returns-2 : tie.Need-returns-2 Inv-loop μ-loop
+returns-2 c =
+    let a = c .before .before .before .args in
+    let k = c .before .loop .k in
+    let i = c .before .loop .inv in
+    omega (arith, zeros-all (now (a .s)) (a .p) (a .n) k (omega (arith, i, c .loop-test .left)))
 
 pub zeros-spec : {M : Type 1} → statement M
 zeros-spec =
@@ -96,16 +103,16 @@ zeros-spec =
     (tie.spec
     Inv-loop
     μ-loop
-    nonzero-count-requires
     loop-holds
-    add-field
-    field-requires
-    leading8-requires
-    sub-if1
+    add-at
+    sub-held
+    word-requires
+    shl-z
+    cast-z
+    add-least
+    least-requires
     returns
-    add-result
-    returns-2
     add-k
     loop-less
     loop-again
-    returns-3)
+    returns-2)

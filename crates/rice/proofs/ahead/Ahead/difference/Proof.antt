@@ -12,7 +12,7 @@ use Rattle.rice.proofs.ahead.Ahead.difference.Tie as tie
 
 held-one-requires : tie.Need-held-one-requires
 held-one-requires c κs =
-    let a = c .before in (a .pre .3, a .pre .1 .few, a .pre .2, omega (arith, a .pre .0, a .pre .1 .within))
+    let a = c .before in (a .pre .1 .few, a .pre .2, omega (arith, a .pre .0, a .pre .1 .within))
 
 enum-told : tie.Need-enum-told
 enum-told c = search needs
@@ -32,7 +32,6 @@ full-requires c κs = let a = c .before .before .before .before in omega (arith,
 held-one-requires-2 : tie.Need-held-one-requires-2
 held-one-requires-2 c κs =
     let a = c .before .before .before .before .before in (
-      a .pre .3,
       c .full .ensures .1 .few,
       a .pre .2,
       subst (λ (p : ℕ). p < 2 ^ 32) (sym (c .full .ensures .0)) (omega (arith, a .pre .0, a .pre .1 .within)),

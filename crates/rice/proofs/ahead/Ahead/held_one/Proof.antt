@@ -15,7 +15,7 @@ enum-known-code c = search needs
 
 held-raw-requires : tie.Need-held-raw-requires
 held-raw-requires c κs =
-    let a = c .before .before .before in (a .pre .1, subst CodeFits (c .before .code .given .1) (a .pre .2), a .pre .3)
+    let a = c .before .before .before in (a .pre .0, subst CodeFits (c .before .code .given .1) (a .pre .1), a .pre .2)
 
 enum-known-code-2 : tie.Need-enum-known-code-2
 enum-known-code-2 c = search needs
@@ -23,7 +23,7 @@ enum-known-code-2 c = search needs
 held-split-requires : tie.Need-held-split-requires
 held-split-requires c κs =
     let a = c .before .before .before in
-    (a .pre .0, a .pre .1, subst CodeFits (c .before .code2 .given .1) (a .pre .2), a .pre .3)
+    (a .pre .0, subst CodeFits (c .before .code2 .given .1) (a .pre .1), a .pre .2)
 
 returns : tie.Need-returns
 unfolding diffRead

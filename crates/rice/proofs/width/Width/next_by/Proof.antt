@@ -4,9 +4,10 @@ use Prim.Native.Nat.{ℕ, _+_, _%_, _^_, _<_}
 use native.Mathlib.Omega.{arith}
 use borrow.Author.Needs.{needs}
 use lib.Pow.{pow-pos}
-use Rattle.rice.specs.Widths.{bitsOf, pixelOf}
+use Rattle.rice.specs.Widths.{bitsOf}
+use Rattle.rice.specs.Filling.{raised}
 use Rattle.rice.proofs.Moduli.{modulo-lt}
-use Rattle.rice.proofs.Wrapping.{and-width, and-width-lt, sizes, following-bits}
+use Rattle.rice.proofs.Wrapping.{and-width, and-width-lt, sizes, raised-following}
 use Rattle.rice.proofs.width.Width.next_by.Statement.{statement}
 use Rattle.rice.proofs.width.Width.next_by.Tie as tie
 
@@ -22,11 +23,11 @@ returns : tie.Need-returns
 returns c =
     let a = c .before .args in
     let mask = c .before .pre .0 in (
-      and-width-lt (a .self) (a .v + c .unmap .result) _ mask,
-      ap (pixelOf (a .self))
-          (and-width (a .self) (a .v + c .unmap .result) _ mask
-          ∙ ap (λ (n : ℕ). (a .v + n) % 2 ^ bitsOf (a .self)) (c .unmap .ensures))
-          ∙ following-bits (a .self) (a .v) (a .u) (c .before .pre .1),
+      and-width-lt (a .self) (a .level + c .unmap .result) _ mask,
+      ap (raised (a .self))
+          (and-width (a .self) (a .level + c .unmap .result) _ mask
+          ∙ ap (λ (n : ℕ). (a .level + n) % 2 ^ bitsOf (a .self)) (c .unmap .ensures))
+          ∙ raised-following (a .self) (a .level) (a .u) (c .before .pre .1),
     )
 
 pub next-by-spec : {M : Type 1} → statement M
