@@ -237,6 +237,8 @@ faults! {
         OnesCounted = "ones are counted, then a zero",
         RemainderFirst = "the remainder stands before the zeros",
         RemainderTurned = "the remainder's lowest bit is first",
+        ZerosStop = "a run has at most 64 zeros",
+        HeldZeros = "behind the eighth byte from its first on a code word has zeros",
         SumTruncated = "n times 2^fs is cut to 16 bits",
         NotWrapped = "u is not wrapped at 2^32",
         OddRounded = "an odd u means -u/2 rounded to zero",

@@ -24,6 +24,9 @@ const REFUSALS: usize = 24;
 const HEADERS: usize = 3_000;
 const TILES: usize = 1_000;
 
+/// How many rows of blocks stand behind the tiles.
+const TILE_ROWS: usize = 100;
+
 /// The most bytes and pixels of a stored tile.
 const TILE_BYTES: usize = 2_000;
 const TILE_PIXELS: usize = 256;
@@ -283,9 +286,13 @@ fn told(case: &Case, whole: &Whole) -> String {
     format!("{}blocks{blocks}\n", whole.lines())
 }
 
-/// The tiles that are taken: those made on purpose, witnesses of each misreading, then random ones.
+/// The tiles that are taken: those made on purpose, witnesses of each misreading, random ones, and rows of blocks behind them. Misreadings
+/// that came when the list stood choose none: the list tells them apart as it is.
 fn choose_tiles(seed: u64) -> Vec<(Case, Whole)> {
-    let mut left: Vec<(Fault, usize)> = FAULTS.iter().filter(|f| f.0 == Subject::Tiles).map(|f| (f.1, 0)).collect();
+    let chooses = |f: Fault| !matches!(f, Fault::ZerosStop | Fault::HeldZeros);
+    let mut left: Vec<(Fault, usize)> =
+        FAULTS.iter().filter(|f| f.0 == Subject::Tiles && chooses(f.1)).map(|f| (f.1, 0)).collect();
+    let mut rows = 0;
     let mut taken = Vec::new();
     for (words, made) in purposes::tiles() {
         println!("    {:>6} tiles on purpose: {words}", made.len());
@@ -307,6 +314,10 @@ fn choose_tiles(seed: u64) -> Vec<(Case, Whole)> {
         let rust = whole(case);
         let told = rust.lines();
         let mut wanted = taken.len() < TILES && random.once_in(60);
+        if part == tiles::ROWS {
+            wanted = rows < TILE_ROWS;
+            rows += usize::from(wanted);
+        }
         for (fault, n) in left.iter_mut().filter(|l| l.1 < WITNESSES) {
             if variants::misread_tile(case, *fault) != told {
                 *n += 1;

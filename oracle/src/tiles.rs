@@ -190,6 +190,59 @@ fn runs(random: &mut Random) -> Case {
     Case { tile: out.bytes, nx, nblock: 32, width }
 }
 
+/// What rows of blocks are called.
+pub const ROWS: &str = "rows of blocks of one kind";
+
+/// Rows of blocks of one kind, by turns: a decoder may take several at once, and cut code words out of words of 64 bits. So they come close
+/// to the bits that such a word holds, and the tile ends within a few bytes of its last block, or in it.
+fn rows(random: &mut Random) -> Case {
+    let width = random.pick(&[8, 16, 32]);
+    let (field_bits, top) = field_of(width);
+    let nblock = random.pick(&[1, 1, 2, 3, 4, 5, 8, 31, 32, 33, 64]);
+    let mut out = Writer::default();
+    out.field(random.next(), width);
+    let mut nx = 0;
+    for _ in 0..1 + random.below(6) {
+        let kind = random.below(3);
+        let fs = random.below(top as usize);
+        for _ in 0..1 + random.below(if nblock == 1 { 90 } else { 8 }) {
+            nx += nblock;
+            match kind {
+                0 => out.field(0, field_bits),
+                1 => {
+                    out.field(top as u64 + 1, field_bits);
+                    for _ in 0..nblock {
+                        out.field(random.next(), width);
+                    }
+                }
+                _ => {
+                    out.field(fs as u64 + 1, field_bits);
+                    for _ in 0..nblock {
+                        let zeros = match random.below(12) {
+                            0 => random.below(70),
+                            1 => 50 - fs + random.below(16),
+                            2 => 16 + random.below(10) - fs.min(16),
+                            _ => random.below(4),
+                        };
+                        for _ in 0..zeros {
+                            out.bit(0);
+                        }
+                        out.bit(1);
+                        out.field(random.next(), fs);
+                    }
+                }
+            }
+        }
+    }
+    let mut tile = out.bytes;
+    match random.below(4) {
+        0 => tile.truncate(tile.len() - random.below(tile.len().min(12))),
+        1 => tile.extend(vec![random.next() as u8; random.below(12)]),
+        _ => (),
+    }
+    Case { tile, nx: nx - random.below(nblock), nblock, width }
+}
+
 /// All the cases: every short one where it is asked for, and so many random ones.
 pub fn cases(seed: u64, all_short: bool, many: usize, visit: Visit) -> bool {
     let mut random = Random::new(seed);
@@ -228,6 +281,11 @@ pub fn cases(seed: u64, all_short: bool, many: usize, visit: Visit) -> bool {
             if !visit("tiles of the most pixels", &Case { tile, nx: 1_048_576, nblock: 32, width }) {
                 return false;
             }
+        }
+    }
+    for _ in 0..many / 2 {
+        if !visit(ROWS, &rows(&mut random)) {
+            return false;
         }
     }
     true

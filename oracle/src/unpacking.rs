@@ -9,6 +9,10 @@ struct Bits<'a> {
     tile: &'a [u8],
     place: usize,
     endless: bool,
+    /// From this place on every bit is 0.
+    edge: usize,
+    /// The most zeros that a run has.
+    most: u64,
 }
 
 impl Bits<'_> {
@@ -18,6 +22,7 @@ impl Bits<'_> {
             None if self.endless => 0,
             None => return None,
         };
+        let byte = if self.place < self.edge { byte } else { 0 };
         self.place += 1;
         Some((byte >> (7 - (self.place - 1) % 8) & 1) as u64)
     }
@@ -31,6 +36,9 @@ impl Bits<'_> {
         let mut n = 0;
         while self.bit()? != stop {
             n += 1;
+            if n == self.most {
+                break;
+            }
             if n > 100_000_000 {
                 return None;
             }
@@ -51,7 +59,8 @@ pub fn field_of(width: usize) -> (usize, i64) {
 impl Model {
     /// One tile, decoded whole.
     pub fn tile(self, tile: &[u8], nx: usize, nblock: usize, width: usize) -> Tile {
-        let mut bits = Bits { tile, place: 0, endless: self.has(Fault::PastEndZeros) };
+        let most = if self.has(Fault::ZerosStop) { 64 } else { u64::MAX };
+        let mut bits = Bits { tile, place: 0, endless: self.has(Fault::PastEndZeros), edge: usize::MAX, most };
         let mut pixels = Vec::new();
         match self.pixels(&mut bits, nx, nblock, width, &mut pixels) {
             Ok(()) => {
@@ -123,6 +132,9 @@ impl Model {
             return Ok(if self.has(Fault::RawNotUnmapped) { u as i64 } else { self.unmapped(u, width) });
         }
         let fs = fs.max(0) as usize;
+        if self.has(Fault::HeldZeros) {
+            bits.edge = (bits.place / 8 + 8) * 8;
+        }
         let stop = u64::from(!self.has(Fault::OnesCounted));
         let (n, mut r);
         if self.has(Fault::RemainderFirst) {
@@ -132,6 +144,7 @@ impl Model {
             n = bits.run(stop).ok_or(16)?;
             r = bits.field(fs).ok_or(16)?;
         }
+        bits.edge = usize::MAX;
         if self.has(Fault::RemainderTurned) && fs > 0 {
             r = r.reverse_bits() >> (64 - fs);
         }
