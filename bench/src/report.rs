@@ -122,24 +122,45 @@ fn faster(figures: &Figures, groups: &[&str], side: &str) -> (usize, usize) {
 
 /// What was aimed at, and what it came to.
 fn aims(text: &mut String, figures: &Figures) -> std::fmt::Result {
-    let median = |row: &Row| row.ratios.get("fitsrs").map(|ratio| ratio[1]);
-    let noise =
-        ["rows", "large"].into_iter().flat_map(|group| figures.of(group)).filter(|row| row.name.contains("noise"));
-    let slowest = noise.filter_map(median).fold(0.0, f64::max);
+    let median = |row: &Row, side: &str| row.ratios.get(side).map(|ratio| ratio[1]);
+    // The largest median over CFITSIO of the tiles whose names begin and go on so.
+    let slowest = |begin: &str, content: &str| {
+        let rows = ["rows", "large"].into_iter().flat_map(|group| figures.of(group));
+        rows.filter(|row| row.name.starts_with(begin) && row.name.contains(content))
+            .filter_map(|row| median(row, "cfitsio"))
+            .fold(0.0, f64::max)
+    };
+    let [eight, sixteen, wide] = ["8 bits", "16 bits", "32 bits"].map(|begin| shown(1.0 / slowest(begin, "noise")));
+    let ours = |name: &str| {
+        figures.of(worst::GROUP).find(|row| row.name == name).and_then(|row| row.times.get("ours")).copied()
+    };
+    // Our largest time in blocks of 1 over that in blocks of 32, for tiles of long code words or for the others.
+    let ones = |long: bool| {
+        let over = |row: &Row| {
+            let many = row.name.strip_suffix("blocks of 1").map(|begin| format!("{begin}blocks of 32"))?;
+            (row.name.contains("code words") == long).then_some(ours(&row.name)? / ours(&many)?)
+        };
+        shown(figures.of(worst::GROUP).filter_map(over).fold(0.0, f64::max))
+    };
     let of = |group: &str, name: &str| {
         figures
             .rows
             .iter()
             .find(|row| row.group == group && row.name == name)
-            .and_then(median)
+            .and_then(|row| median(row, "fitsrs"))
             .map_or("-".into(), shown)
     };
     writeln!(
         text,
-        "Aimed at: noise decoded no slower than by fitsrs at every width; the slowest median is {}. A header of 720 cards read in half of fitsrs'\n\
+        "Aimed at: noise decoded at least twice as fast as by CFITSIO: where it is slowest, CFITSIO's time over ours is {eight} at 8 bits, {sixteen} at\n\
+         16 and {wide} at 32. Raw tiles and tiles of one value no slower than by CFITSIO: at most {} and {} of its time. A pixel in blocks of 1 at\n\
+         most 3 times the time of one in blocks of 32: at most {}; {} where no code word fits in a window. A header of 720 cards read in half of fitsrs'\n\
          time: a lookup, which tests every card, takes {} of it, the list of all names {}, all values {}, and all values and comments {}.\n\
          A string over 100 and 700 CONTINUE cards out of a header's bytes no slower than by fitsrs: {} and {} of its time.\n",
-        shown(slowest),
+        shown(slowest("", "raw")),
+        shown(slowest("", "constant")),
+        ones(false),
+        ones(true),
         of("lookups", "720 cards, bytes to a joined string"),
         of("headers", "720 cards, list"),
         of("headers", "720 cards, all values"),

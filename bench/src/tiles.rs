@@ -17,19 +17,45 @@ pub enum Content {
     Constant,
     /// Any value of the width.
     Raw,
+    /// Two values by turns, so far apart that a code word with no bits behind its one is longer than a window of the tile.
+    Long,
 }
 
-fn pixel(content: Content, bits: usize, random: &mut Random) -> i32 {
+fn pixel(content: Content, bits: usize, at: usize, random: &mut Random) -> i32 {
     let wide = match content {
         Content::Noise(spread) => (100.0 + spread * random.noise()).round() as i32,
         Content::Constant => 100,
         Content::Raw => random.bits() as i32,
+        Content::Long => 100 + at as i32 % 2 * 29,
     };
     match bits {
         8 => i32::from(wide as u8),
         16 => i32::from(wide as i16),
         _ => wide,
     }
+}
+
+/// A tile of 16 bits whose code words all have fs 0, which no encoder would choose for these pixels.
+fn encode_plainly(pixels: &[i32], nblock: usize) -> Vec<u8> {
+    let mut tile = (pixels[0] as i16).to_be_bytes().to_vec();
+    let mut place = tile.len() * 8;
+    let mut skip = |zeros: usize, tile: &mut Vec<u8>| {
+        place += zeros;
+        tile.resize(place / 8 + 1, 0);
+        tile[place / 8] |= 0x80 >> (place % 8);
+        place += 1;
+    };
+    let mut last = pixels[0];
+    for block in pixels.chunks(nblock) {
+        // The FS field 1 is three zeros and a one.
+        skip(3, &mut tile);
+        for &pixel in block {
+            let d = pixel - last;
+            skip(if d < 0 { -2 * d - 1 } else { 2 * d } as usize, &mut tile);
+            last = pixel;
+        }
+    }
+    tile
 }
 
 /// Tiles of equally many pixels, and where each side puts them.
@@ -47,8 +73,12 @@ struct Tiles {
 impl Tiles {
     fn new(bits: usize, nblock: usize, nx: usize, many: usize, content: Content) -> Self {
         let mut random = Random::new(20_261_115 + bits as u64);
-        let truth: Vec<i32> = (0..nx * many).map(|_| pixel(content, bits, &mut random)).collect();
-        let tiles = truth.chunks_exact(nx).map(|row| cfitsio::encode(row, nblock, bits)).collect();
+        let truth: Vec<i32> = (0..nx * many).map(|at| pixel(content, bits, at, &mut random)).collect();
+        let encode = |row| match content {
+            Content::Long => encode_plainly(row, nblock),
+            _ => cfitsio::encode(row, nblock, bits),
+        };
+        let tiles = truth.chunks_exact(nx).map(encode).collect();
         Tiles {
             bits,
             nblock,
@@ -114,6 +144,7 @@ fn told(content: Content, bits: usize) -> String {
     match content {
         Content::Constant => "constant".to_string(),
         Content::Raw => "raw".to_string(),
+        Content::Long => "long".to_string(),
         Content::Noise(_) => format!("noise {:.1}", Tiles::new(bits, NBLOCK, 4096, 4, content).density()),
     }
 }
@@ -122,7 +153,8 @@ fn spec(group: &'static str, name: String, bits: usize, nx: usize, many: usize, 
     Spec { group, name, unit: "pixel", make: Box::new(move || Box::new(Tiles::new(bits, NBLOCK, nx, many, content))) }
 }
 
-/// Rows of 4,096 pixels of each width in blocks of 32, and in blocks of 1, which no writer makes and every side decodes.
+/// Rows of 4,096 pixels of each width in blocks of 32, and in blocks of 1, which no writer makes and every side decodes; then code words
+/// that are longer than a window.
 pub fn blocks(group: &'static str, rows: usize) -> Vec<Spec> {
     let mut specs = Vec::new();
     for (bits, contents) in CONTENTS {
@@ -131,6 +163,14 @@ pub fn blocks(group: &'static str, rows: usize) -> Vec<Spec> {
             for nblock in [NBLOCK, 1] {
                 let make = move || -> Box<dyn Job> { Box::new(Tiles::new(bits, nblock, 4096, rows, content)) };
                 let name = format!("{bits} bits, {}: blocks of {nblock}", told(content, bits));
+                specs.push(Spec { group, name, unit: "pixel", make: Box::new(make) });
+            }
+        }
+        if bits == 16 {
+            for nblock in [NBLOCK, 1] {
+                let make = move || -> Box<dyn Job> { Box::new(Tiles::new(bits, nblock, 4096, rows, Content::Long)) };
+                let name =
+                    format!("{bits} bits, {}: code words of 58 bits, blocks of {nblock}", told(contents[2], bits));
                 specs.push(Spec { group, name, unit: "pixel", make: Box::new(make) });
             }
         }
