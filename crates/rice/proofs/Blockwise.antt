@@ -29,7 +29,8 @@ use Rattle.rice.proofs.Reaching.{facts, reach-start, reach-on, reach-bl
 
 -- ---- the FS field at the top of a window
 
-pub window-field : (w : Width) (s : List ℕ) (p v n : ℕ) → n ≡ fsBits w → p / 8 + 8 ≤ length s → v ≡ heldBits s p (64 - p % 8)
+pub window-field : (w : Width) (s : List ℕ) (p v n : ℕ) → n ≡ fsBits w → p / 8 + 8 ≤ length s
+    → v ≡ heldBits s p (64 - p % 8)
     → fieldRead s p (fsBits w) ≡ found (v / 2 ^ (64 - n)) (p + n)
 window-field w s p v n size h e =
     ap (fieldRead s p) (sym size)
@@ -57,7 +58,8 @@ module _ {A : Type 0} where
 
 -- a block that is filled again comes to the same
 outlook-again : (w : Width) (code : Code) (s : List ℕ) (old : List ℤ) (q level : ℕ) (o : Outlook)
-    → outlook w code s old (spotAt q level) ≡ o → length (o .content) ≡ length old → outlook w code s (o .content) (spotAt q level) ≡ o
+    → outlook w code s old (spotAt q level) ≡ o → length (o .content) ≡ length old
+    → outlook w code s (o .content) (spotAt q level) ≡ o
 outlook-again w code s old q level o e l =
     let R : ℕ → Run = λ (n : ℕ). runOf w code s (n - 0) q (raised w level) in
     let new = o .content in
@@ -161,7 +163,8 @@ part-small {px = px} d e S =
     omega (arith, facts S .few, S .sized)
 
 -- the loop's start, and its end: the last pixels are those of the two cursors
-module _ {w : Width} {s : List ℕ} {nx nblock : ℕ} (c : Cursor) {px₀ : List ℤ} (level₀ : ℕ) (first : raised w level₀ ≡ c .last) where
+module _ {w : Width} {s : List ℕ} {nx nblock : ℕ} (c : Cursor) {px₀ : List ℤ} (level₀ : ℕ)
+    (first : raised w level₀ ≡ c .last) where
   pub onto-start : level₀ < 2 ^ bitsOf w → Standing w s nx nblock c px₀
       → Onto w s nx nblock (counted w (c .bit) (c .done) level₀) px₀ px₀ (c .bit) (c .done) level₀
   onto-start h S = record {

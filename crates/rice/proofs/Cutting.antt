@@ -111,7 +111,8 @@ module _ (w fs most scale : ℕ) (k : w < 2 ^ 64) (l : fs ≤ 24) (d : most ≡ 
             let small : usedIn w most % 64 ≡ usedIn w most - 128 = omega (arith, long-is o, b) in
             ap (λ (n : ℕ). w * 2 ^ n % 2 ^ 64) small;
         none = λ z.
-            ap (λ (n : ℕ). n * 2 ^ (usedIn w most % 64) % 2 ^ 64) z ∙ ap (λ (n : ℕ). n % 2 ^ 64) (zero-mul (2 ^ (usedIn w most % 64)));
+            ap (λ (n : ℕ). n * 2 ^ (usedIn w most % 64) % 2 ^ 64) z
+            ∙ ap (λ (n : ℕ). n % 2 ^ 64) (zero-mul (2 ^ (usedIn w most % 64)));
         most = omega (arith, x, d);
         least = omega (arith, x, d);
       }
@@ -140,7 +141,8 @@ module _ (s : List ℕ) (p m fs : ℕ) {w value used rest : ℕ} (l : fs ≤ 24)
   told-after = t .after o b ∙ ap (λ (x : ℕ). x * 2 ^ (used - 128) % 2 ^ 64) e ∙ held-shift s p m (used - 128) a k
 
 -- two code words, the second out of what the first leaves
-module _ (s : List ℕ) (p m fs : ℕ) {w x a y x′ b z : ℕ} (l : fs ≤ 24) (k : m ≤ 64) (h : p + m ≤ bitsIn s) (e : w ≡ heldBits s p m)
+module _ (s : List ℕ) (p m fs : ℕ) {w x a y x′ b z : ℕ} (l : fs ≤ 24) (k : m ≤ 64) (h : p + m ≤ bitsIn s)
+    (e : w ≡ heldBits s p m)
     (t : Told w fs x a y) (u : Told y fs x′ b z) (o : 0 < y) (i : a + b ≤ 256 + m) (j : a + b ≤ 313) where
   bounds : (129 ≤ a) × (129 ≤ b)
   bounds = (told-least t (told-some t o), told-least u o)
@@ -169,7 +171,8 @@ module _ (s : List ℕ) (p m fs : ℕ) {w x a y x′ b z : ℕ} (l : fs ≤ 24) 
       ∙ ap₂ (λ (q n : ℕ). heldBits s q n) place less
 
 -- four of them
-module _ {fs v w x y z a b c d i j n o : ℕ} (t₁ : Told v fs i a w) (t₂ : Told w fs j b x) (t₃ : Told x fs n c y) (t₄ : Told y fs o d z)
+module _ {fs v w x y z a b c d i j n o : ℕ} (t₁ : Told v fs i a w) (t₂ : Told w fs j b x) (t₃ : Told x fs n c y)
+    (t₄ : Told y fs o d z)
     (some : 0 < y) where
   pub four-least : (129 ≤ a) × (129 ≤ b) × (129 ≤ c) × (129 ≤ d)
   four-least =

@@ -46,7 +46,8 @@ diff-small (Split fs) s p c e = then-small s fs (runRead s p) e
 
 -- ---- and the place after it is within the tile
 
-above-within : (s : List ℕ) (n fs p : ℕ) {u q : ℕ} (r : Read) → fieldRead s p fs ≡ r → above n fs r ≡ found u q → q ≤ bitsIn s
+above-within : (s : List ℕ) (n fs p : ℕ) {u q : ℕ} (r : Read) → fieldRead s p fs ≡ r → above n fs r ≡ found u q
+    → q ≤ bitsIn s
 above-within s n fs p {u} {q} (found v t) f e = let place : t ≡ q = cc in rw (← place) (field-of s p fs v t f .within)
 above-within s n fs p short f e = let z : _≡_ {A = ℕ} 0 1 = cc in absurd (omega arith)
 
@@ -113,7 +114,8 @@ going-stops {new = new} {i = i} g h = record {
 }
 
 -- the answer, where the run is that of the contract
-pub filled-whole : (c : Cursor) (n : ℕ) {R R′ : Run} {old new : List ℤ} {i : ℕ} → R ≡ R′ → {p : ℕ} {z last : ℤ} → i ≡ n → z ≡ last
+pub filled-whole : (c : Cursor) (n : ℕ) {R R′ : Run} {old new : List ℤ} {i : ℕ} → R ≡ R′ → {p : ℕ} {z last : ℤ}
+    → i ≡ n → z ≡ last
     → Stored R old new i (complete p last)
     → (Next (record { bit = p; done = c .done + i; last = z }) ≡ filledOf c n R′) × (new ≡ sets old 0 (R′ .pixels))
 filled-whole c n {R} {R′} {old} same {p} h e s = (
@@ -164,7 +166,8 @@ module _ (w : Width) (code : Code) (s : List ℕ) (part : List ℤ) (a : Spot) w
   onward-start h = record { same = refl; sized = refl; inside = h }
 
   -- one pixel more is stored
-  pub onward-one : {u q : ℕ} (l k : ℕ) (new : List ℤ) → a .next < length part → diffRead code s (a .bit) ≡ found u q → q ≤ bitsIn s
+  pub onward-one : {u q : ℕ} (l k : ℕ) (new : List ℤ) → a .next < length part → diffRead code s (a .bit) ≡ found u q
+      → q ≤ bitsIn s
       → (l < 2 ^ bitsOf w) × (raised w l ≡ following w (raised w (a .level)) u) → new ≡ set part (a .next) (raised w l)
       → k ≡ a .next + 1 → Onward w code s part new a (record { bit = q; level = l; next = k })
   onward-one {u} {q} l k new h e g f n m =

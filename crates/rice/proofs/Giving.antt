@@ -34,7 +34,8 @@ module _ (s : List ℕ) (a : Ahead) (H : Holds s a) where
     held = ap (λ (x : ℕ). x * 2 ^ n % 2 ^ 64) (H .held) ∙ held-shift s (a .bit) (a .count) n h (H .few);
   }
 
-  past-gives : {r : Read} {u : ℕ} (n : ℕ) (b : Ahead) → n ≤ a .count → r ≡ found u (a .bit + n) → b ≡ pastOf a n → After s r u b
+  past-gives : {r : Read} {u : ℕ} (n : ℕ) (b : Ahead) → n ≤ a .count → r ≡ found u (a .bit + n) → b ≡ pastOf a n
+      → After s r u b
   past-gives {r} {u} n b h f e = subst (After s r u) (sym e) (f, past-holds n h)
 
   -- n bits are cut out of what is held

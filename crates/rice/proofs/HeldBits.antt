@@ -59,13 +59,15 @@ held-first s p n m h k =
     ∙ field-first s p n m h
 
 -- the same by two shifts, neither of them by the whole word
-pub held-cut : (s : List ℕ) (p n m : ℕ) → n ≤ m → m ≤ 64 → n ≤ 63 → heldBits s p m / 2 ^ 1 / 2 ^ (63 - n) ≡ fieldAt s p n
+pub held-cut : (s : List ℕ) (p n m : ℕ) → n ≤ m → m ≤ 64 → n ≤ 63
+    → heldBits s p m / 2 ^ 1 / 2 ^ (63 - n) ≡ fieldAt s p n
 held-cut s p n m h k l =
     let e : 1 + (63 - n) ≡ 64 - n = omega arith in
     shr-shr (heldBits s p m) 1 (63 - n) ∙ ap (λ (j : ℕ). heldBits s p m / 2 ^ j) e ∙ held-first s p n m h k
 
 -- a number of d digits after z zeros, moved up to the top of a word
-counted : (z f m j d : ℕ) → z + d ≡ m → m + j ≡ 64 → f < 2 ^ d → 2 ^ d ≤ 2 * f + 1 → min (leadingZeros 64 (f * 2 ^ j)) m ≡ z
+counted : (z f m j d : ℕ) → z + d ≡ m → m + j ≡ 64 → f < 2 ^ d → 2 ^ d ≤ 2 * f + 1
+    → min (leadingZeros 64 (f * 2 ^ j)) m ≡ z
 counted z f m j zero e k h l =
     let none : f ≡ 0 = omega arith in
     let all : leadingZeros 64 (f * 2 ^ j) ≡ 64 = ap (λ (x : ℕ). leadingZeros 64 (x * 2 ^ j)) none

@@ -49,7 +49,8 @@ abbrev Further : List ℕ → ℕ → Read → Type 0
 Further s p (found u q) = (p ≤ q) × (q ≤ bitsIn s)
 Further s p short = Unit {0}
 
-by-test : (s : List ℕ) (p u q : ℕ) (t : Bool) → (t ≡ true → (p ≤ q) × (q ≤ bitsIn s)) → Further s p (cond t (found u q) short)
+by-test : (s : List ℕ) (p u q : ℕ) (t : Bool) → (t ≡ true → (p ≤ q) × (q ≤ bitsIn s))
+    → Further s p (cond t (found u q) short)
 by-test s p u q true h = h refl
 by-test s p u q false h = tt
 
@@ -91,7 +92,8 @@ lands-before w s p q (complete t z) h l = (omega (arith, l .0), l .1, l .2)
 lands-before w s p q cut h l = tt
 
 onward-ends : (w : Width) (s : List ℕ) (p : ℕ) (last : ℤ) (k : ℕ) (rest : ℕ → ℤ → Run) (r : Read) → Further s p r
-    → ((q : ℕ) (z : ℤ) → q ≤ bitsIn s → inWidth w z ≡ true → Ends w s q k (rest q z)) → Ends w s p (suc k) (onward w last rest r)
+    → ((q : ℕ) (z : ℤ) → q ≤ bitsIn s → inWidth w z ≡ true → Ends w s q k (rest q z))
+    → Ends w s p (suc k) (onward w last rest r)
 onward-ends w s p last k rest (found u q) f h =
     let z = following w last u in
     let e = h q z (f .1) (following-in w last u) in

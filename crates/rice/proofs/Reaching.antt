@@ -45,7 +45,8 @@ field-some ThirtyTwo = lit≤ tt
 
 -- ---- the bits that a plan was made for are its width's
 
-bits-by : (a b c : Bool) (bits : ℕ) (w : Width) → (a ≡ true → bits ≡ 8) → (b ≡ true → bits ≡ 16) → (c ≡ true → bits ≡ 32)
+bits-by : (a b c : Bool) (bits : ℕ) (w : Width) → (a ≡ true → bits ≡ 8) → (b ≡ true → bits ≡ 16)
+    → (c ≡ true → bits ≡ 32)
     → cond a (Of Eight) (cond b (Of Sixteen) (cond c (Of ThirtyTwo) None)) ≡ Of w → bits ≡ bitsOf w
 bits-by true b c bits w f g h e = let is : Eight ≡ w = cc in f refl ∙ ap bitsOf is
 bits-by false true c bits w f g h e = let is : Sixteen ≡ w = cc in g refl ∙ ap bitsOf is
@@ -168,7 +169,8 @@ open-stands w s nx nblock bits c plan e =
     (start-stands w s nx nblock (plan-within (length s) nx nblock bits plan .block) (fieldRead s 0 (startBytes w * 8)) refl)
 
 pub opened : (w : Width) (s : List ℕ) (nx nblock bits : ℕ) (c : Cursor) (px : List ℤ)
-    → planOf (length s) nx nblock bits ≡ Of w → length px ≡ nx → openOf s nx nblock bits ≡ O.At c → Standing w s nx nblock c px
+    → planOf (length s) nx nblock bits ≡ Of w → length px ≡ nx → openOf s nx nblock bits ≡ O.At c
+    → Standing w s nx nblock c px
 opened w s nx nblock bits c px plan count e =
     record {
       planned = ap (planOf (length s) nx nblock) (sym (plan-width (length s) nx nblock bits w plan)) ∙ plan;
@@ -258,7 +260,8 @@ module _ {w : Width} {s : List ℕ} {nx nblock : ℕ} {c : Cursor} {px : List �
 
 -- ---- all steps, from where they have come to
 
-module _ {w : Width} {s : List ℕ} {nx nblock : ℕ} {c₀ c : Cursor} {px₀ px : List ℤ} (R : Reaches w s nx nblock c₀ px₀ c px) where
+module _ {w : Width} {s : List ℕ} {nx nblock : ℕ} {c₀ c : Cursor} {px₀ px : List ℤ}
+    (R : Reaches w s nx nblock c₀ px₀ c px) where
   all-steps : stepsOf s nx nblock (bitsOf w) (suc nx) c₀ px₀ ≡ stepsOf s nx nblock (bitsOf w) (suc (nx - R .steps)) c px
   all-steps =
       ap (λ (n : ℕ). stepsOf s nx nblock (bitsOf w) n c₀ px₀) (omega (arith, R .further, facts (R .standing) .done))
@@ -282,7 +285,8 @@ module _ {w : Width} {s : List ℕ} {nx nblock : ℕ} {c₀ c : Cursor} {px₀ p
       (ap (λ (o : StepOutcome). afterStep (stepsOf s nx nblock (bitsOf w) (nx - R .steps)) c (o .content) (o .answer))
       (step-done s nx nblock (bitsOf w) c px w (S .planned) (S .sized) (S .rules) (omega (arith, facts S .done))))
 
-  pub told-refused : (d e : ℕ) → c .done < nx → d ≡ c .done → e ≡ min (c .done + nblock) nx → (ys : List ℤ) (f : Fault) (n : ℕ)
+  pub told-refused : (d e : ℕ) → c .done < nx → d ≡ c .done → e ≡ min (c .done + nblock) nx
+      → (ys : List ℤ) (f : Fault) (n : ℕ)
       → Refused f n ≡ blockOf w s c (midOf d (e - d) px) .answer → ys ≡ blockOf w s c (midOf d (e - d) px) .content
       → Told (D.Refused f (d + n)) (putMid d (e - d) px ys)
   told-refused d e left at is ys f n answer content =

@@ -227,7 +227,8 @@ raws-again c =
     let l = at-raws (here k) in
     let to = ap₂ (λ (m n : ℕ). l .raws .bit + size k + m * n) (sym (c .bits .ensures)) (part-long k) in
     onto-block (l .raws .inv) _ refl (here k .before .raws-test .taken) _ _ _ (field-is k) (code-is k) _ _ _ (b .raw-block .ensures .1)
-    (b .raw-block .ensures .0 ∙ ap (λ (p : ℕ). wholeAt p (raised w (b .raw-block .result)) (b .raw-block .last .1 .1 .1 .1 .1 .1 .0)) to)
+    (b .raw-block .ensures .0
+    ∙ ap (λ (p : ℕ). wholeAt p (raised w (b .raw-block .result)) (b .raw-block .last .1 .1 .1 .1 .1 .1 .0)) to)
 
 pixel-by-requires : tie.Need-pixel-by-requires Inv-raws μ-raws
 pixel-by-requires c κs = (c .before .before .before .before .negatives .ensures, c .before .raws .inv .small)
