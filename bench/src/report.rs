@@ -154,7 +154,7 @@ fn aims(text: &mut String, figures: &Figures) -> std::fmt::Result {
         text,
         "Aimed at: noise decoded at least twice as fast as by CFITSIO: where it is slowest, CFITSIO's time over ours is {eight} at 8 bits, {sixteen} at\n\
          16 and {wide} at 32. Raw tiles and tiles of one value no slower than by CFITSIO: at most {} and {} of its time. A pixel in blocks of 1 at\n\
-         most 3 times the time of one in blocks of 32: at most {}; {} where no code word fits in a window. A header of 720 cards read in half of fitsrs'\n\
+         most 3 times the time of one in blocks of 32: at most {}; {} where every code word is longer than 57 bits. A header of 720 cards read in half of fitsrs'\n\
          time: a lookup, which tests every card, takes {} of it, the list of all names {}, all values {}, and all values and comments {}.\n\
          A string over 100 and 700 CONTINUE cards out of a header's bytes no slower than by fitsrs: {} and {} of its time.\n",
         shown(slowest("", "raw")),
@@ -227,7 +227,8 @@ fn worst_cases(text: &mut String, figures: &Figures) -> std::fmt::Result {
          bytes. Doubled quotes: every card is a string with one near its end. Refused cards: every one has a complex value. Names that\n\
          are slow to tell apart are made by `bench/slow_names.py`. One name is a string out of the bytes. Read on is `Header::read_on`, for fitsrs\n\
          its file reader with undefined cards, for CFITSIO the list. Write is a string of 2,000 bytes;\n\
-         CFITSIO's `fits_update_key_longstr` does not return on the quotes. Tiles are rows of 4,096.\n"
+         CFITSIO's `fits_update_key_longstr` does not return on the quotes. Tiles are rows of 4,096. Code words of 58 and 59 bits have fs 0,\n\
+         which no encoder would choose for their pixels; they are longer than the 57 bits that a window of ours is sure to hold.\n"
     )?;
     writeln!(
         text,

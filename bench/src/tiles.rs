@@ -169,8 +169,10 @@ pub fn blocks(group: &'static str, rows: usize) -> Vec<Spec> {
         if bits == 16 {
             for nblock in [NBLOCK, 1] {
                 let make = move || -> Box<dyn Job> { Box::new(Tiles::new(bits, nblock, 4096, rows, Content::Long)) };
-                let name =
-                    format!("{bits} bits, {}: code words of 58 bits, blocks of {nblock}", told(contents[2], bits));
+                let name = format!(
+                    "{bits} bits, {}: code words of 58 and 59 bits, blocks of {nblock}",
+                    told(contents[2], bits)
+                );
                 specs.push(Spec { group, name, unit: "pixel", make: Box::new(make) });
             }
         }

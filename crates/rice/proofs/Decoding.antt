@@ -23,7 +23,7 @@ use Rattle.rice.specs.declared.width.Planned.{Planned}
 use Rattle.rice.specs.declared.width.Planned.the-variants.{Of, None}
 use Rattle.rice.specs.declared.Decoded.{Decoded}
 use Rattle.rice.proofs.Landing.{Bounded, block-bounded}
-use Rattle.rice.proofs.Stepping.{plan-within, standing}
+use Rattle.rice.proofs.Stepping.{plan-within, kept}
 
 -- ---- a step is done at the end, goes on, or is refused after at most as many pixels as are lent
 
@@ -60,7 +60,7 @@ module _ (s : List ℕ) (nx nblock bits : ℕ) (c : Cursor) (px : List ℤ) wher
       (λ count. by-test FineOf (stands w s nx nblock c)
       (λ stand. by-test FineOf (eqb (c .done) nx) (λ done. eqb-true _ _ done)
       (λ left. lent-fine w (plan-within _ _ _ bits e .block) (eqb-true _ _ count)
-      (lt-of-le-ne (standing w s nx nblock c stand .done) (eqb-false _ _ left)) (standing w s nx nblock c stand .last)))
+      (lt-of-le-ne (kept w s nx nblock c stand .done) (eqb-false _ _ left)) (kept w s nx nblock c stand .last)))
       (λ _. omega arith))
       (λ _. omega arith)
   in-fine None e = omega arith

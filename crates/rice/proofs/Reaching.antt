@@ -35,7 +35,7 @@ use Rattle.rice.proofs.Reading.{field-of}
 use Rattle.rice.proofs.Wrapping.{sizes}
 use Rattle.rice.proofs.Landing.{Bounded, block-bounded, block-length, pixel-in}
 use Rattle.rice.proofs.Decoding.{decode-open}
-use Rattle.rice.proofs.Stepping.{plan-within, standing, step-done, step-block, part-back}
+use Rattle.rice.proofs.Stepping.{plan-within, kept, step-done, step-block, part-back}
 
 -- an FS field has bits
 pub field-some : (w : Width) → 1 ≤ fsBits w
@@ -131,7 +131,7 @@ pub record Facts (w : Width) (s : List ℕ) (nx nblock : ℕ) (c : Cursor) (px :
 pub facts : {w : Width} {s : List ℕ} {nx nblock : ℕ} {c : Cursor} {px : List ℤ} → Standing w s nx nblock c px
     → Facts w s nx nblock c px
 facts {w} {s} {nx} {nblock} {c} {px} S =
-    let r = standing w s nx nblock c (S .rules) in
+    let r = kept w s nx nblock c (S .rules) in
     let p = plan-within (length s) nx nblock (bitsOf w) (S .planned) in
     record {
       low = r .low;
@@ -268,16 +268,16 @@ module _ {w : Width} {s : List ℕ} {nx nblock : ℕ} {c₀ c : Cursor} {px₀ p
       ∙ R .same (nx - R .steps)
 
   -- an answer and the pixels that all steps come to
-  abbrev Told : Decoded → List ℤ → Type 0
-  Told a new = (a ≡ stepsOf s nx nblock (bitsOf w) (suc nx) c₀ px₀ .answer)
+  abbrev Answered : Decoded → List ℤ → Type 0
+  Answered a new = (a ≡ stepsOf s nx nblock (bitsOf w) (suc nx) c₀ px₀ .answer)
       × (new ≡ stepsOf s nx nblock (bitsOf w) (suc nx) c₀ px₀ .content)
 
-  told : (o : DecodeOutcome) → stepsOf s nx nblock (bitsOf w) (suc (nx - R .steps)) c px ≡ o → Told (o .answer) (o .content)
+  told : (o : DecodeOutcome) → stepsOf s nx nblock (bitsOf w) (suc (nx - R .steps)) c px ≡ o → Answered (o .answer) (o .content)
   told o e =
       let all = sym (all-steps ∙ e) in
       (ap (λ (f : DecodeOutcome). f .answer) all, ap (λ (f : DecodeOutcome). f .content) all)
 
-  pub told-whole : nx ≤ c .done → Told (D.Whole (c .bit)) px
+  pub told-whole : nx ≤ c .done → Answered (D.Whole (c .bit)) px
   unfolding stepsOf
   told-whole h =
       let S = R .standing in
@@ -288,7 +288,7 @@ module _ {w : Width} {s : List ℕ} {nx nblock : ℕ} {c₀ c : Cursor} {px₀ p
   pub told-refused : (d e : ℕ) → c .done < nx → d ≡ c .done → e ≡ min (c .done + nblock) nx
       → (ys : List ℤ) (f : Fault) (n : ℕ)
       → Refused f n ≡ blockOf w s c (midOf d (e - d) px) .answer → ys ≡ blockOf w s c (midOf d (e - d) px) .content
-      → Told (D.Refused f (d + n)) (putMid d (e - d) px ys)
+      → Answered (D.Refused f (d + n)) (putMid d (e - d) px ys)
   told-refused d e left at is ys f n answer content =
       let new = putMid d (e - d) px ys in
       told (record { answer = D.Refused f (d + n); content = new })

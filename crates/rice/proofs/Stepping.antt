@@ -62,7 +62,8 @@ plan-within len nx nblock bits e = within len nx nblock (planned (inLimits len n
 
 -- ---- cursors
 
-pub record Standing (w : Width) (s : List ℕ) (nx nblock : ℕ) (c : Cursor) : Type 0 where
+-- the rules of a cursor, kept
+pub record Kept (w : Width) (s : List ℕ) (nx nblock : ℕ) (c : Cursor) : Type 0 where
   pub low : startBytes w * 8 ≤ c .bit
   pub high : c .bit ≤ bitsIn s
   pub done : c .done ≤ nx
@@ -70,9 +71,9 @@ pub record Standing (w : Width) (s : List ℕ) (nx nblock : ℕ) (c : Cursor) : 
   pub last : inWidth w (c .last) ≡ true
 
 module _ (w : Width) (s : List ℕ) (nx nblock : ℕ) (c : Cursor) where
-  pub standing : stands w s nx nblock c ≡ true → Standing w s nx nblock c
+  pub kept : stands w s nx nblock c ≡ true → Kept w s nx nblock c
   unfolding stands
-  standing e =
+  kept e =
       let a = and-both _ _ e in
       let b = and-both _ _ (a .1) in
       let d = and-both _ _ (b .1) in

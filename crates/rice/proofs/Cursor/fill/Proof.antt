@@ -98,9 +98,10 @@ returns-2 c =
     let l = e .before .before .before in
     let a = start l .args in
     let came = whole k in
+    let end = k .before .at .given .0 .0 .bit in
     let all = coded-as (a .width) (a .code) (now (a .tile)) (a .self) (now (a .part)) (l .level-of .result) _ (level-is l) (came .0) in
     let last = toZ-ofZ {w = w32} (record { sfits = c .pixel-by .ok }) ∙ c .pixel-by .ensures in (
-      ap₂ (λ (n : ℕ) (z : ℤ). Next (record { bit = k .before .at .given .0 .0 .bit; done = a .self .done + n; last = z })) (came .2) last
+      ap₂ (λ (n : ℕ) (z : ℤ). Next (record { bit = end; done = a .self .done + n; last = z })) (came .2) last
           ∙ sym (ap (λ (o : StepOutcome). o .answer) all),
       sym (ap (λ (o : StepOutcome). o .content) all),
     )

@@ -8,7 +8,8 @@ use lib.IntN.{ℤ}
 use lib.ListN.{length}
 use mathlib.Core.List.{List}
 use Rattle.rice.specs.Easy.{Reaches}
-use Rattle.rice.proofs.Reaching.{facts, reach-start, reach-on, reach-block, bounded, lent-fits, put-sized, told-whole, told-refused}
+use Rattle.rice.proofs.Reaching.{facts, reach-start, reach-on, reach-block}
+use Rattle.rice.proofs.Reaching.{bounded, lent-fits, put-sized, told-whole, told-refused}
 use Rattle.rice.proofs.Cursor.run.Statement.{statement}
 use Rattle.rice.proofs.Cursor.run.Tie as tie
 

@@ -10,7 +10,7 @@ use lib.ListN.{length, length-take, length-drop}
 use Rattle.rice.specs.Blocks.{StepOutcome}
 use Rattle.rice.specs.Steps.{planOf, stands}
 use Rattle.rice.specs.declared.width.Planned.the-variants.{Of}
-use Rattle.rice.proofs.Stepping.{Within, plan-within, Standing, standing, part-back}
+use Rattle.rice.proofs.Stepping.{Within, plan-within, Kept, kept, part-back}
 use Rattle.rice.proofs.Stepping.{step-limits, step-count, step-cursor, step-done, step-block}
 use Rattle.rice.proofs.FsCodes.{outcome}
 use Rattle.rice.proofs.Cursor.step.Statement.{statement}
@@ -92,12 +92,12 @@ returns-4 c =
     (e .if1 .left) (keeps (c .before)) (c .if3 .taken))
 
 stand : (c : tie.Else2)
-    → Standing (c .before .before .before .before .width .given .0 .0)
+    → Kept (c .before .before .before .before .width .given .0 .0)
     (now (start (c .before .before .before) .args .tile))
     (start (c .before .before .before) .args .nx)
     (start (c .before .before .before) .args .nblock)
     (start (c .before .before .before) .args .self)
-stand c = standing _ _ _ _ _ (keeps c)
+stand c = kept _ _ _ _ _ (keeps c)
 
 block-end-requires : tie.Need-block-end-requires
 block-end-requires c κs = stand (c .before) .done
