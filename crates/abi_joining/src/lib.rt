@@ -1,4 +1,5 @@
 // Two pieces of a long string joined, as the C boundary gives them: their text, and their comment.
+#![tactic(auto)]
 ghost use Rattle.std.specs.Prelude.{◌≡◌};
 ghost use Rattle.laws.specs.Lending.{lent_of};
 ghost use Rattle.abi_value.specs.Telling.{is_set};

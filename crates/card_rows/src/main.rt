@@ -2,6 +2,7 @@
 // It prints a line for each: the card without the spaces that fill it up, and the reading: its class, its name, its value
 // or text, and its comment with the unit; or the refusal's number and the byte of the card at which it is met. A byte outside 32..126 is
 // printed in hexadecimal.
+#![tactic(auto)]
 use card::{CARD, Card, CardAnswer, CardRead};
 use libc::STDOUT_FILENO;
 use numbers::{Size, Value};

@@ -1,6 +1,7 @@
 // The program `cards` (SPECIFICATION 13). Without arguments it reads a header on standard input and prints its names, each with its kind
 // and reading, and their count. The command ./cards gives it arguments: how lines are shown, and then files. It reads the header with
 // which each file begins, tells on standard error why one is refused, and says on descriptor 3 as its last act how all of it went.
+#![tactic(auto)]
 use finding::{Header, Stop};
 use libc::{STDERR_FILENO, STDIN_FILENO, STDOUT_FILENO};
 use output::Printed;

@@ -1,5 +1,6 @@
 // Joining: the text and the comment of two pieces of a long string, put together in lent memory. The definitions of joining, lookup and
 // belonging stand here too, with what is proved of them.
+#![tactic(auto)]
 ghost use Rattle.std.specs.Prelude.{◌≡◌, ◌++◌, ◌≤◌, length};
 ghost use Rattle.std.proofs.Math.Option.{some};
 ghost use Rattle.roles.specs.Roles.{comment_of};

@@ -1,5 +1,6 @@
 // Bytes handed to a descriptor, as they stand or made visible, and how that went. What arrives is outside every contract: one says how
 // many bytes were handed on where no write failed.
+#![tactic(auto)]
 ghost use Rattle.std.specs.Prelude.{◌≡◌, ◌-◌};
 ghost use Rattle.escaping.specs.Escaping.{escaped};
 ghost use Rattle.output.specs.Shown.{printed_line, IsWhole};

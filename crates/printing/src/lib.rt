@@ -1,6 +1,7 @@
 // Prints a header's names, each with its kind, its reading and, above 1, how many cards bear it, and their count; or its refusal
 // (SPECIFICATION 13). Each line is proved up to its write, and none is left out: the buffers hold every line that a header can give, and
 // a write that fails is answered.
+#![tactic(auto)]
 ghost use Rattle.std.specs.Prelude.{◌≡◌, [], ◌++◌, map, ◌<◌, ◌≤◌, length, get_or};
 ghost use Rattle.listing.specs.Listing.{list_of};
 ghost use Rattle.lines.specs.Lines.{count_line, refused_line, line_room};

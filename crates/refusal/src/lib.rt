@@ -1,9 +1,10 @@
 // The refusals, one case for each row of SPECIFICATION 2.1, and the fault that carries one up through every layer.
+#![tactic(auto)]
 ghost use Rattle.std.specs.Prelude.{◌≡◌};
 ghost use Rattle.refusal.specs.Numbers.{number_of, fault_of, fault_at};
 
 // Why an input gets no reading.
-#[derive(Drop)]
+#[derive(Clone, Copy)]
 pub enum Refusal {
     // A card has a byte of 128 or more.
     HighByte,
@@ -48,14 +49,14 @@ pub enum Refusal {
 }
 
 // The byte of a card at which it is refused, counted from 0, or that there is none.
-#[derive(Drop)]
+#[derive(Clone, Copy)]
 pub enum Column {
     At(usize),
     Absent,
 }
 
 // A refusal on its way up: every answer that can be refused holds one, and hands it on unchanged.
-#[derive(Drop)]
+#[derive(Clone, Copy)]
 pub struct Fault {
     pub why: Refusal,
     pub column: Column,

@@ -1,1 +1,2 @@
 // Cards that take the places of old ones: stated over the definitions that the promises cite. There is no code here.
+#![tactic(auto)]

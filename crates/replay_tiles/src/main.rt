@@ -3,6 +3,7 @@
 // number of pixels written stand in place of the bytes. The pixels are all that the lent slice then holds, the untouched ones too.
 // The expected output is that of the published Rust (oracle/README.md).
 // A stored tile is its width in a byte, then nx, nblock and the tile's length in three bytes each, the highest first, then the tile.
+#![tactic(auto)]
 ghost use Rattle.std.specs.Prelude.{◌≡◌, true, ◌+◌, ◌/◌, ◌<◌};
 
 use libc::STDIN_FILENO;

@@ -1,4 +1,5 @@
 // Texts, numbers and pixels put on standard output.
+#![tactic(auto)]
 use libc::STDOUT_FILENO;
 
 // Each pixel behind a space.

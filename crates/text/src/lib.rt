@@ -1,4 +1,5 @@
 // Bytes and texts: classes of bytes, trimming, comparing, laying bytes over lent memory, and texts held in arrays.
+#![tactic(auto)]
 ghost use Rattle.std.specs.Prelude.{◌≡◌, ◌+◌, ◌<◌, min, [], ◌++◌, map, take, drop};
 ghost use Rattle.std.proofs.lemmas.List.Edits.{sets};
 ghost use Rattle.text.specs.Bytes.{is_blank, is_printable, are_printable, is_digit, shown, d_to_e};
@@ -8,14 +9,14 @@ ghost use Rattle.text.specs.Place.{place_of};
 ghost use Rattle.text.specs.Text.{size, text_of, change_of};
 
 // A text in an array: len bytes, then zeros.
-#[derive(Drop)]
+#[derive(Clone, Copy)]
 pub struct Text {
     pub bytes: [u8; 80],
     pub len: usize,
 }
 
 // The bytes that trimming takes away.
-#[derive(Drop)]
+#[derive(Clone, Copy)]
 pub enum Cut {
     Spaces,
     Blanks,
@@ -24,7 +25,7 @@ pub enum Cut {
 }
 
 // What becomes of a byte that is copied: it stays, it is replaced where the standard does not allow it, or a D is made an E.
-#[derive(Drop)]
+#[derive(Clone, Copy)]
 pub enum Change {
     Keep,
     Replace,
@@ -32,7 +33,7 @@ pub enum Change {
 }
 
 // Where a byte stands in a text.
-#[derive(Drop)]
+#[derive(Clone, Copy)]
 pub enum Place {
     At(usize),
     Nowhere,

@@ -1,4 +1,5 @@
 // The C boundary: functions over slices and numbers, which take anything. A slice is a pointer and a length there.
+#![tactic(auto)]
 ghost use Rattle.std.specs.Prelude.{◌≡◌};
 ghost use Rattle.value.specs.Units.{unit_of, unit_past_space};
 ghost use Rattle.abi_value.specs.Telling.{unit_end, UnitLeft};

@@ -1,0 +1,3 @@
+-- What the proofs of several crates cite.
+pub mod Truths
+pub mod Signs

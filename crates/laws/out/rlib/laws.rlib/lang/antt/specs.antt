@@ -1,0 +1,2 @@
+-- What the contracts of several crates cite.
+pub mod Lending
