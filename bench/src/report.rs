@@ -342,7 +342,6 @@ fn text(figures: &Figures) -> Result<String, std::fmt::Error> {
     worst_cases(all, figures)?;
     instructions(all, figures)?;
     writeln!(all, "Memory: behind the boundary no heap is used. What it takes of the stack is said in TRUST.md.")?;
-    write!(all, "\n{}", include_str!("../other-machines.md"))?;
     Ok(text)
 }
 

@@ -20,7 +20,6 @@ static size_t deep;
 /* What the calls are lent. */
 static uint8_t header[WIDREKAS_LONGEST], text[WIDREKAS_ROOM], comment[WIDREKAS_ROOM], digits[WIDREKAS_DIGITS];
 static uint8_t record[WIDREKAS_RECORD], name[WIDREKAS_LONGEST_NAME], tile[20000], block[WIDREKAS_BLOCK];
-static uint8_t whole[2 * WIDREKAS_ROOM + 1];
 static size_t out[WIDREKAS_NUMBERS], first[WIDREKAS_PLACES], last[WIDREKAS_PLACES], times[WIDREKAS_PLACES];
 static int32_t pixels[1000], last_pixel;
 static size_t length, card, count, column, bits, bit, done, kind, remark, room;
@@ -56,8 +55,6 @@ CALL(lookup_value, widrekas_lookup_value(header, length, (const uint8_t *)"KIT",
                                          WIDREKAS_NUMBERS, &number, &column))
 CALL(lookup_comment, widrekas_lookup_comment(header, length, (const uint8_t *)"KIT", 3, comment, sizeof comment, &bit, &count,
                                              &done, &column))
-CALL(join_texts, widrekas_join_texts(text, length, comment, remark, whole, room, &count))
-CALL(join_comments, widrekas_join_comments(kind, text, length, 1, comment, remark, whole, room, &bit, &count))
 CALL(write, widrekas_write((const uint8_t *)"KIT", 3, kind, 1, number, text, length, 1, comment, remark, block, room, &count))
 CALL(open, widrekas_open(tile, length, 1000, 32, bits, &bit, &done, &last_pixel))
 CALL(step, widrekas_step(tile, length, 1000, 32, bits, &bit, &done, &last_pixel, pixels, 1000, &count))
@@ -81,11 +78,6 @@ static struct function of_headers[] = {
     {"widrekas_entry_comment", call_entry_comment, 64 * KIB, 0},
     {"widrekas_lookup_value", call_lookup_value, 64 * KIB, 0},
     {"widrekas_lookup_comment", call_lookup_comment, 64 * KIB, 0},
-};
-
-static struct function of_pieces[] = {
-    {"widrekas_join_texts", call_join_texts, 4 * KIB, 0},
-    {"widrekas_join_comments", call_join_comments, 4 * KIB, 0},
 };
 
 static struct function of_values[] = {{"widrekas_write", call_write, 4 * KIB, 0}};
@@ -174,21 +166,6 @@ static void at_random(void)
     MEASURE(of_headers);
 }
 
-/* Heads of spaces that end in & or not, of any length up to the longest, and tails: empty, one space, or of any length. */
-static void pieces(void)
-{
-    for (int round = 0; round < 400; round++) {
-        kind = below(2);
-        length = round == 0 ? sizeof text : below(round % 2 == 0 ? 100 : sizeof text) + 1;
-        remark = below(3) == 0 ? below(sizeof comment) : below(3);
-        room = round % 4 == 1 ? below(sizeof whole) : sizeof whole;
-        memset(text, ' ', length);
-        text[length - 1] = round % 8 == 7 ? 'x' : '&';
-        memset(comment, ' ', remark);
-        MEASURE(of_pieces);
-    }
-}
-
 /* Values of every kind, with comments: strings of 2,000 bytes, of which any number are quotes, and digits up to where they fit a card. */
 static void values(void)
 {
@@ -251,7 +228,6 @@ int main(void)
     kind = WIDREKAS_LOGICAL;
     room = sizeof block;
     warm(of_values, sizeof of_values / sizeof of_values[0]);
-    warm(of_pieces, sizeof of_pieces / sizeof of_pieces[0]);
     joined(3);
     joined(36);
     joined(108);
@@ -260,11 +236,9 @@ int main(void)
     for (int round = 0; round < 1000; round++) {
         at_random();
     }
-    pieces();
     values();
     tiles();
     int within = told(of_headers, sizeof of_headers / sizeof of_headers[0]);
-    within &= told(of_pieces, sizeof of_pieces / sizeof of_pieces[0]);
     within &= told(of_values, sizeof of_values / sizeof of_values[0]);
     within &= told(of_tiles, sizeof of_tiles / sizeof of_tiles[0]);
     free(area);

@@ -11,19 +11,19 @@
  * - It takes any bytes and any numbers, returns, and reads and writes within the lent lengths alone.
  * - No pointer may be null, also where its length is 0. What is lent to be written (no const) may overlap nothing else that is
  *   lent in the same call, and every byte or number of it is in memory that may be written.
- * - The answer is 0, or the number of one refusal (enum widrekas_refusal), or 253, 254 or 255 where it is said.
+ * - The answer is 0, or the number of one refusal (enum widrekas_refusal), or 254 or 255 where it is said.
  * - 255 is tested first. A function that can answer it looks at no byte before the lengths are right, so with a wrong length no refusal
  *   is given. Refusals are tested in the order in which the comment names them; on one card that is 1, then 6 and 7, then 2, then the rest.
  * - Whatever the comment does not name stays as it was.
  * - *column, which eight functions have last, is where a card is refused: enum widrekas_refusal has the rule. Answers 1 to 8 set it, and
  *   every other answer leaves it as it was.
  *
- * Stack. What a call takes of its caller's stack, as measured, up to the next hundred bytes: widrekas_list 73,800, the two lookups 62,300,
- * the two entries 62,200, widrekas_header 3,300, widrekas_name 3,200, widrekas_card 3,100, widrekas_decode 1,000, widrekas_write 800,
+ * Stack. What a call takes of its caller's stack, as measured, up to the next hundred bytes: widrekas_list 73,800, the two lookups 62,200,
+ * the two entries 62,100, widrekas_header 3,300, widrekas_name 3,200, widrekas_card 3,100, widrekas_decode 1,000, widrekas_write 800,
  * widrekas_step 600, the others 200. stack.c measures it on x86-64 Linux: each call runs in a thread whose stack was painted before, over
- * strings of up to 720 cards, tiles of each width, and at random 1,000 headers, 400 pairs of pieces and 400 values. It holds the list
- * below 80 KiB, lookups and entries below 64, and the others below 4. valgrind's massif sees the same of a lookup and a list. The loader
- * takes some 2 KiB more where it binds memcpy at the first call.
+ * strings of up to 720 cards, 1,000 headers and 400 values at random and tiles of each width. It holds the list below 80 KiB, lookups and
+ * entries below 64, and the others below 4. valgrind's massif sees the same of a lookup and a list. The loader takes some 2 KiB more where
+ * it binds memcpy at the first call.
  */
 #ifndef WIDREKAS_H
 #define WIDREKAS_H
@@ -60,9 +60,7 @@ extern "C" {
 #define WIDREKAS_MOST_BLOCK 65536
 #define WIDREKAS_MOST_BYTES 8388608
 
-/* Answers that are no refusal: the head does not end in &; nothing is left to step over; a slice has another length than the one asked
- * for. */
-#define WIDREKAS_NOT_OPEN 253
+/* Answers that are no refusal: nothing is left to step over; a slice has another length than the one asked for. */
 #define WIDREKAS_NOTHING_LEFT 254
 #define WIDREKAS_WRONG_LENGTH 255
 
@@ -153,7 +151,7 @@ enum widrekas_number {
     WIDREKAS_ENTRY_DIGITS_LENGTH = 4
 };
 
-/* The version of this boundary: 4. Functions may join without a change of it. */
+/* The version of this boundary: 3. Functions may join without a change of it. */
 uint32_t widrekas_version(void);
 
 /*
@@ -283,35 +281,6 @@ uint8_t widrekas_lookup_comment(const uint8_t *header, size_t header_length, con
                                 size_t *column);
 
 /*
- * A long string stands on several cards. Each has a piece of it: a text, and perhaps a comment. Two pieces are joined as a lookup joins a
- * CONTINUE card to its entry, so an editor of cards may keep a tail joined and put it behind its head later. Where all pieces but the last
- * end in &, it is immaterial which of them are joined first: text and comment come out the same.
- *
- * Joins the text of a tail to that of a head. The & at the end of head goes, and tail is put in its place. If tail is empty or one space,
- * it is left out, and the spaces before the & go too.
- *
- * 0: text begins with the joined text, *length is its length, and what is beyond stays. It may end in & again.
- * 253: head does not end in &, so nothing may be joined to it; *length stays as it was. 13: text is shorter than the joined text, and
- * *length is the room that is wanted; head_length + tail_length bytes are always enough. Both leave text as it was.
- */
-uint8_t widrekas_join_texts(const uint8_t *head, size_t head_length, const uint8_t *tail, size_t tail_length, uint8_t *text,
-                            size_t text_length, size_t *length);
-
-/*
- * Joins the comment of a tail to that of a head: the head's, a line feed, the tail's. Where one of them is absent, it is the other. A
- * comment is absent where its number, head_commented or tail_commented, is 0, and its bytes are then not looked at; with any other number
- * it is there, and may be empty. Whether anything may be joined to the head is for widrekas_join_texts to say.
- *
- * 0: *commented is 1 where there is a comment, or 0 where both are absent; comment begins with it, *length is its length, and what is
- * beyond stays.
- * 13: comment is shorter than it, and *length is the room that is wanted; head_length + 1 + tail_length bytes are always enough. comment
- * and *commented stay as they were.
- */
-uint8_t widrekas_join_comments(size_t head_commented, const uint8_t *head, size_t head_length, size_t tail_commented,
-                               const uint8_t *tail, size_t tail_length, uint8_t *comment, size_t comment_length,
-                               size_t *commented, size_t *length);
-
-/*
  * Writes the cards of a name and its value at the front of block, 80 bytes each, one behind the other.
  *
  * The value has the form in which widrekas_lookup_value gives it back: kind is one of enum widrekas_kind; number is the integer or a
@@ -394,7 +363,6 @@ static inline const char *widrekas_meaning(uint8_t answer)
     case 19: return "the name is not 1 to 8 of A to Z, 0 to 9, - and _, or is a special keyword";
     case 20: return "the value or its comment is outside the rules for written cards";
     case 21: return "the block is shorter than the cards for it";
-    case WIDREKAS_NOT_OPEN: return "the head does not end in &, so nothing may be joined to it";
     case WIDREKAS_NOTHING_LEFT: return "nothing is left to step over";
     case WIDREKAS_WRONG_LENGTH: return "a lent slice has another length than the one asked for";
     default: return "no such answer";

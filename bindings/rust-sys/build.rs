@@ -14,7 +14,7 @@ const STAMP: &str = "libwidrekas.sources";
 const VERSION: &str = "4";
 
 /// What the archive must have beside `widrekas_version`.
-const FUNCTIONS: [&str; 16] = [
+const FUNCTIONS: [&str; 14] = [
     "widrekas_card",
     "widrekas_unit",
     "widrekas_unit_past_space",
@@ -25,8 +25,6 @@ const FUNCTIONS: [&str; 16] = [
     "widrekas_entry_comment",
     "widrekas_lookup_value",
     "widrekas_lookup_comment",
-    "widrekas_join_texts",
-    "widrekas_join_comments",
     "widrekas_write",
     "widrekas_open",
     "widrekas_step",

@@ -112,7 +112,7 @@ pub fn card_of(text: &[u8]) -> [u8; 80] {
 }
 
 /// Every text over an alphabet, up to a length.
-pub fn texts(alphabet: &[u8], longest: usize, visit: &mut dyn FnMut(&[u8]) -> bool) -> bool {
+fn texts(alphabet: &[u8], longest: usize, visit: &mut dyn FnMut(&[u8]) -> bool) -> bool {
     let mut places = [0usize; 16];
     let mut text = [0u8; 16];
     for len in 0..=longest {

@@ -30,24 +30,8 @@ pub enum Subject {
     Headers,
     /// How many cards of a header bear a name.
     Times,
-    /// Two pieces of a long string, joined by themselves. `JOINING` has more.
-    Pieces,
     Tiles,
 }
-
-/// The misreadings of headers that are about two pieces too.
-pub const JOINING: &[Fault] = &[
-    Fault::AmpersandStays,
-    Fault::BothAmpersands,
-    Fault::SpacesBeforeCut,
-    Fault::SpacesBeforeStay,
-    Fault::OneSpaceJoins,
-    Fault::CommentLast,
-    Fault::CommentFirst,
-    Fault::CommentSpace,
-    Fault::CommentStraight,
-    Fault::CommentEmptySkipped,
-];
 
 faults! {
     Cards {
@@ -234,24 +218,6 @@ faults! {
         TimesInvalidNot = "a card with an invalid value does not count for its name",
         TimesAtMostTwo = "no more than two cards count for a name",
         TimesBeyondFirst = "the first card does not count for its name",
-    }
-    Pieces {
-        ShutJoins = "a tail is joined to a head that does not end in &",
-        ShutCut = "a head that does not end in & loses its last byte",
-        AloneShut = "a head of & alone is not open",
-        OpenByTail = "open is told by the tail",
-        TailShut = "the & of the tail goes too",
-        NothingLeaves = "a tail that adds nothing leaves the &",
-        SpacesAddNothing = "a tail of two spaces or more adds nothing",
-        TailFrontCut = "a tail loses spaces in front",
-        TailEndCut = "a tail loses spaces at its end",
-        TailCommentLost = "the tail's comment is lost",
-        HeadCommentLost = "the head's comment is lost",
-        TailCommentFirst = "the tail's comment stands first",
-        EmptyCommentLost = "an empty comment is absent when pieces are joined",
-        LineFeedAlways = "a line feed stands before the tail's comment where the head has none",
-        LineFeedBehind = "a line feed stands behind the head's comment where the tail has none",
-        NothingNoComment = "a tail that adds nothing loses its comment",
     }
     Tiles {
         MaskedToWidth = "u is cut to the width before it is unmapped",

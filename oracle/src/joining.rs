@@ -1,8 +1,8 @@
-//! Headers as SPECIFICATION 9 to 11 have them: joining, equal names, order. And two pieces joined by themselves, as section 9 joins.
+//! Headers as SPECIFICATION 9 to 11 have them: joining, equal names, order.
 
 use crate::faults::Fault;
 use crate::model::Model;
-use crate::reading::{Card, Entry, Header, Piece, Refusal, Value};
+use crate::reading::{Card, Entry, Header, Refusal, Value};
 
 /// The entries so far, which of them a CONTINUE joins, and the names that the cards bear, one for each card.
 #[derive(Default)]
@@ -216,7 +216,21 @@ impl Model {
         let Value::Text(joined) = &mut entry.value else {
             return;
         };
-        *joined = self.texts(joined, &text);
+        if joined.last() == Some(&b'&') && !self.has(Fault::AmpersandStays) {
+            joined.pop();
+        }
+        while self.has(Fault::BothAmpersands) && joined.last() == Some(&b'&') {
+            joined.pop();
+        }
+        let empty = text.is_empty() || (text == b" " && !self.has(Fault::OneSpaceJoins));
+        if (empty && !self.has(Fault::SpacesBeforeStay)) || self.has(Fault::SpacesBeforeCut) {
+            while joined.last() == Some(&b' ') {
+                joined.pop();
+            }
+        }
+        if !empty {
+            joined.extend_from_slice(&text);
+        }
         let open = match self.0 {
             Fault::OpenByLast => text.last() == Some(&b'&'),
             Fault::OpenNever => false,
@@ -227,27 +241,6 @@ impl Model {
         entry.unit = unit(&entry.comment);
         entry.past = self.past(&entry.comment);
         list.open = open.then_some(at);
-    }
-
-    /// The text of a tail put on that of a head.
-    fn texts(self, head: &[u8], tail: &[u8]) -> Vec<u8> {
-        let mut joined = head.to_vec();
-        if joined.last() == Some(&b'&') && !self.has(Fault::AmpersandStays) {
-            joined.pop();
-        }
-        while self.has(Fault::BothAmpersands) && joined.last() == Some(&b'&') {
-            joined.pop();
-        }
-        let empty = tail.is_empty() || (tail == b" " && !self.has(Fault::OneSpaceJoins));
-        if (empty && !self.has(Fault::SpacesBeforeStay)) || self.has(Fault::SpacesBeforeCut) {
-            while joined.last() == Some(&b' ') {
-                joined.pop();
-            }
-        }
-        if !empty {
-            joined.extend_from_slice(tail);
-        }
-        joined
     }
 
     fn comments(self, a: Option<Vec<u8>>, c: Option<Vec<u8>>) -> Option<Vec<u8>> {
@@ -265,62 +258,6 @@ impl Model {
         };
         Some([a, between, c].concat())
     }
-
-    /// A tail joined to a head, or nothing where the head does not end in &.
-    pub fn join(self, head: &Piece, tail: &Piece) -> Option<Piece> {
-        let open = match self.0 {
-            Fault::ShutJoins | Fault::ShutCut => true,
-            Fault::AloneShut => head.is_open() && head.text != b"&",
-            Fault::OpenByTail => tail.is_open(),
-            _ => head.is_open(),
-        };
-        if !open {
-            return None;
-        }
-        let (front, rear) = self.misread(head.clone(), tail.clone());
-        let mut text = self.texts(&front.text, &rear.text);
-        if self.has(Fault::TailShut) && rear.is_open() {
-            text.pop();
-        }
-        if self.has(Fault::NothingLeaves) && adds_nothing(&rear.text) {
-            text = front.text;
-        }
-        Some(Piece { text, comment: self.comments(front.comment, rear.comment) })
-    }
-
-    /// Head and tail as they are joined by a reader with a misreading of these.
-    fn misread(self, mut head: Piece, mut tail: Piece) -> (Piece, Piece) {
-        let there = |comment: Option<Vec<u8>>| comment.filter(|c| !c.is_empty());
-        match self.0 {
-            Fault::ShutCut => {
-                head.text.pop();
-                head.text.push(b'&');
-            }
-            Fault::SpacesAddNothing if tail.text.iter().all(|&b| b == b' ') => tail.text.clear(),
-            Fault::TailFrontCut if !adds_nothing(&tail.text) => {
-                let spaces = tail.text.iter().take_while(|&&b| b == b' ').count();
-                tail.text.drain(..spaces);
-            }
-            Fault::TailEndCut if !adds_nothing(&tail.text) => {
-                let kept = tail.text.iter().rposition(|&b| b != b' ').map_or(0, |at| at + 1);
-                tail.text.truncate(kept);
-            }
-            Fault::TailCommentLost => tail.comment = None,
-            Fault::HeadCommentLost => head.comment = None,
-            Fault::TailCommentFirst => std::mem::swap(&mut head.comment, &mut tail.comment),
-            Fault::EmptyCommentLost => (head.comment, tail.comment) = (there(head.comment), there(tail.comment)),
-            Fault::LineFeedAlways if tail.comment.is_some() => head.comment = head.comment.or(Some(Vec::new())),
-            Fault::LineFeedBehind if head.comment.is_some() => tail.comment = tail.comment.or(Some(Vec::new())),
-            Fault::NothingNoComment if adds_nothing(&tail.text) => tail.comment = None,
-            _ => (),
-        }
-        (head, tail)
-    }
-}
-
-/// Whether the text of a tail is empty or one space.
-fn adds_nothing(text: &[u8]) -> bool {
-    text.is_empty() || text == b" "
 }
 
 /// The unit of a comment that may be joined.

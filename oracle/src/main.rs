@@ -1,6 +1,6 @@
 //! Compares this project's answers with those of the published Rust, in one process.
 //!
-//! oracle compare [SEED [MANY]]   cards, headers, pieces and tiles; MANY random cases a part
+//! oracle compare [SEED [MANY]]   cards, headers and tiles; MANY random cases a part
 //! oracle power [SEED [MANY]]     the wrong variants that the comparison must tell apart
 //! oracle stored [SEED [FOLDER]]  the stored list, with the Rust's answers
 
@@ -12,7 +12,6 @@ mod joining;
 mod miscounts;
 mod model;
 mod ours;
-mod pieces;
 mod power;
 mod printed;
 mod purposes;
@@ -60,7 +59,6 @@ impl Counter {
 
 fn compare(seed: u64, many: usize) -> u64 {
     ours::check_lengths();
-    ours::check_numbered();
     let mut counter = Counter::new("cards");
     let mut seen = Columns::new("cards");
     cards::cases(seed, TEXTS, many, &mut |part, card| {
@@ -72,13 +70,6 @@ fn compare(seed: u64, many: usize) -> u64 {
     let mut seen = headers::Seen::new();
     headers::cases(seed, SEQUENCES, many / 2, &mut |part, header| {
         counter.count(part, headers::compare(header, &mut seen), || headers::explain(header))
-    });
-    different += counter.end();
-    seen.print();
-    let mut counter = Counter::new("pieces");
-    let mut seen = pieces::Seen::default();
-    pieces::cases(seed, true, many / 2, &mut |part, case| {
-        counter.count(part, pieces::compare(case, &mut seen), || pieces::explain(case))
     });
     different += counter.end();
     seen.print();

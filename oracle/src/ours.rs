@@ -1,8 +1,8 @@
 //! Our answers, through the archive's C boundary.
 
-use crate::reading::{Card, Decimal, Entry, Header, Piece, Refusal, Tile, Value};
+use crate::reading::{Card, Decimal, Entry, Header, Refusal, Tile, Value};
 
-use widrekas_sys::{self as boundary, Remark, Stepping, Told, CARD, DIGITS, NOT_OPEN, NUMBERS, PLACES, RECORD};
+use widrekas_sys::{self as boundary, Remark, Stepping, Told, CARD, DIGITS, NUMBERS, PLACES, RECORD};
 
 /// Where the texts of a card's record stand.
 const NAME: usize = 8;
@@ -47,36 +47,6 @@ pub fn check_lengths() {
     check_card_lengths();
     check_header_lengths();
     check_lent_lengths();
-}
-
-/// A comment is absent where its number is 0, whatever its bytes are, and there with any other number. The numbers of head and tail, and
-/// what `ab` and `c` then come to.
-const NUMBERED: [(usize, usize, &[u8]); 8] = [
-    (0, 0, b""),
-    (0, 1, b"c"),
-    (0, 2, b"c"),
-    (0, usize::MAX, b"c"),
-    (1, 0, b"ab"),
-    (256, 0, b"ab"),
-    (1 << 63, 0, b"ab"),
-    (2, 1 << 32, b"ab\nc"),
-];
-
-/// The numbers that say whether there is a comment, which the safe function fixes.
-pub fn check_numbered() {
-    for (head, tail, expected) in NUMBERED {
-        let mut comment = [BEFORE; 8];
-        let (mut commented, mut length) = (LEFT, LEFT);
-        let (a, c, out) = (b"ab".as_ptr(), b"c".as_ptr(), comment.as_mut_ptr());
-        // SAFETY: each pointer has as much behind it as its length says, and nothing that is written is lent twice.
-        let answer = unsafe {
-            boundary::raw::widrekas_join_comments(head, a, 2, tail, c, 1, out, 8, &mut commented, &mut length)
-        };
-        let there = usize::from((head, tail) != (0, 0));
-        assert!((answer, commented, length) == (0, there, expected.len()), "comments numbered {head} and {tail}");
-        assert!(comment.starts_with(expected), "comments numbered {head} and {tail}: {comment:?}");
-        assert!(comment[length..].iter().all(|&b| b == BEFORE), "bytes beyond a joined comment are touched");
-    }
 }
 
 fn check_card_lengths() {
@@ -411,74 +381,6 @@ pub fn header(cards: &[[u8; 80]]) -> Header {
         }
     }
     Header::Entries(entries, times[..count].to_vec())
-}
-
-/// How many bytes are lent beyond those that are always enough.
-const TO_SPARE: usize = 8;
-
-/// A tail joined to a head, or nothing where 253 is answered.
-pub fn join(head: &Piece, tail: &Piece) -> Option<Piece> {
-    let text = join_texts(&head.text, &tail.text)?;
-    Some(Piece { text, comment: join_comments(head.comment.as_deref(), tail.comment.as_deref()) })
-}
-
-/// The joined text, or nothing where 253 is answered. Room to spare is lent, that which is always enough, room that is just enough, a byte
-/// too little and none. Every byte beyond the text must stay.
-fn join_texts(head: &[u8], tail: &[u8]) -> Option<Vec<u8>> {
-    let enough = head.len() + tail.len();
-    let mut text = vec![BEFORE; enough + TO_SPARE];
-    let ask = |text: &mut [u8]| {
-        let mut length = LEFT;
-        (boundary::join_texts(head, tail, text, &mut length), length)
-    };
-    let (answer, length) = ask(&mut text);
-    if answer == NOT_OPEN {
-        assert!(length == LEFT && text.iter().all(|&b| b == BEFORE), "253 touches lent memory");
-        assert!(ask(&mut []) == (NOT_OPEN, LEFT), "253 is another answer with no room");
-        return None;
-    }
-    assert!(answer == 0 && length <= enough, "texts: {answer}, a length of {length}");
-    let held = text[..length].to_vec();
-    assert!(text[length..].iter().all(|&b| b == BEFORE), "bytes beyond a joined text are touched");
-    for room in [enough, length] {
-        text.fill(BEFORE);
-        assert!(ask(&mut text[..room]) == (0, length), "room that is enough");
-        assert!(text[..length] == held, "another joined text with less room");
-        assert!(text[length..].iter().all(|&b| b == BEFORE), "bytes beyond a joined text are touched");
-    }
-    text.fill(BEFORE);
-    for room in [length.saturating_sub(1), 0] {
-        assert!(length == 0 || ask(&mut text[..room]) == (13, length), "room that is too little");
-    }
-    assert!(text.iter().all(|&b| b == BEFORE), "13 touches the text");
-    Some(held)
-}
-
-/// The joined comment, with buffers as for the text.
-fn join_comments(head: Option<&[u8]>, tail: Option<&[u8]>) -> Option<Vec<u8>> {
-    let enough = head.map_or(0, <[u8]>::len) + 1 + tail.map_or(0, <[u8]>::len);
-    let mut comment = vec![BEFORE; enough + TO_SPARE];
-    let ask = |comment: &mut [u8]| {
-        let (mut commented, mut length) = (LEFT, LEFT);
-        (boundary::join_comments(head, tail, comment, &mut commented, &mut length), commented, length)
-    };
-    let (answer, commented, length) = ask(&mut comment);
-    assert!(answer == 0 && length <= enough, "comments: {answer}, a length of {length}");
-    assert!(commented == 1 || (commented, length) == (0, 0), "a joined comment where there is none");
-    let held = comment[..length].to_vec();
-    assert!(comment[length..].iter().all(|&b| b == BEFORE), "bytes beyond a joined comment are touched");
-    for room in [enough, length] {
-        comment.fill(BEFORE);
-        assert!(ask(&mut comment[..room]) == (0, commented, length), "room that is enough");
-        assert!(comment[..length] == held, "another joined comment with less room");
-        assert!(comment[length..].iter().all(|&b| b == BEFORE), "bytes beyond a joined comment are touched");
-    }
-    comment.fill(BEFORE);
-    for room in [length.saturating_sub(1), 0] {
-        assert!(length == 0 || ask(&mut comment[..room]) == (13, LEFT, length), "room that is too little");
-    }
-    assert!(comment.iter().all(|&b| b == BEFORE), "13 touches the comment");
-    (commented == 1).then_some(held)
 }
 
 /// A pixel that no width of 8 or 16 bits has, to see what stays untouched.

@@ -1,13 +1,12 @@
 //! The power of the comparison: each wrong variant must be told apart from the Rust by the same cases. Of the byte of a refusal the Rust
 //! says nothing: there the variants must be told apart from the model without them, outside the equality domain too.
 
-use crate::faults::{Fault, Subject, FAULTS, JOINING};
+use crate::faults::{Fault, Subject, FAULTS};
 use crate::model::Model;
-use crate::pieces::Order;
 use crate::reading::{shown, Card, Header, Tile};
 use crate::variants::WITNESSES;
 use crate::views::{self, View};
-use crate::{cards, headers, ours, pieces, theirs, tiles};
+use crate::{cards, headers, ours, theirs, tiles};
 
 /// A wrong variant: a misreading in the model, or a wrong view of our answer.
 enum Variant<T: 'static> {
@@ -27,12 +26,7 @@ struct Hunt<T: 'static> {
 
 impl<T: Clone> Hunt<T> {
     fn new(subjects: &[Subject], views: &'static [View<T>], needed: usize) -> Self {
-        Self::over(|subject, _| subjects.contains(&subject), views, needed)
-    }
-
-    /// The hunt over the misreadings that are wanted.
-    fn over(wanted: impl Fn(Subject, Fault) -> bool, views: &'static [View<T>], needed: usize) -> Self {
-        let misreadings = FAULTS.iter().filter(|f| wanted(f.0, f.1)).map(|f| (Variant::Misreading(f.1), f.2, 0));
+        let misreadings = FAULTS.iter().filter(|f| subjects.contains(&f.0)).map(|f| (Variant::Misreading(f.1), f.2, 0));
         let left = misreadings.chain(views.iter().map(|v| (Variant::View(v.1), v.0, 0))).collect();
         Hunt { left, needed, told: 0, seen: 0 }
     }
@@ -102,33 +96,6 @@ fn columns(seed: u64, many: usize) -> usize {
     hunt.end("columns")
 }
 
-/// The fewest pieces of a string that can be joined in more than one order.
-const FEWEST: usize = 3;
-
-/// Runs the hunt over pieces that are joined in one order.
-fn joined(seed: u64, many: usize, order: Order) -> usize {
-    let plain = Model(Fault::None);
-    let about = |subject, fault| subject == Subject::Pieces || JOINING.contains(&fault);
-    let mut hunt = Hunt::over(about, views::PIECES, WITNESSES);
-    pieces::cases(seed, false, many, &mut |part, case| {
-        let (Some(row), None) = (case.row(|c| plain.card(c)), case.aside()) else {
-            return true;
-        };
-        if pieces::belonging(&row, |head, tail| plain.join(head, tail)) < FEWEST {
-            return true;
-        }
-        let rust = case.theirs();
-        hunt.case(
-            part,
-            |m| pieces::first(&row, order, |head, tail| m.join(head, tail)),
-            || pieces::first(&case.row(ours::card).expect("a row that the model reads"), order, ours::join),
-            |answer| rust.as_ref() != Some(answer),
-            || format!("{row:?}"),
-        )
-    });
-    hunt.end(&format!("pieces, {}", order.words()))
-}
-
 /// Runs the hunt over all subjects; answers how many variants are left.
 pub fn run(seed: u64, many: usize) -> usize {
     let mut left = 0;
@@ -176,10 +143,6 @@ pub fn run(seed: u64, many: usize) -> usize {
         )
     });
     left += hunt.end("headers");
-
-    for order in [Order::Front, Order::End] {
-        left += joined(seed, many, order);
-    }
 
     let mut hunt = Hunt::new(&[Subject::Tiles], views::TILES, 1);
     tiles::cases(seed, false, many, &mut |part, case| {

@@ -59,30 +59,6 @@ pub struct Entry {
     pub past: Option<Vec<u8>>,
 }
 
-impl Entry {
-    /// The piece of a long string that a card holds with its entry, or the whole string.
-    pub fn piece(&self) -> Option<Piece> {
-        match &self.value {
-            Value::Text(text) => Some(Piece { text: text.clone(), comment: self.comment.clone() }),
-            _ => None,
-        }
-    }
-}
-
-/// A piece of a long string: a text, and perhaps a comment.
-#[derive(Clone, PartialEq)]
-pub struct Piece {
-    pub text: Vec<u8>,
-    pub comment: Option<Vec<u8>>,
-}
-
-impl Piece {
-    /// Whether a tail may be joined to it: it ends in &.
-    pub fn is_open(&self) -> bool {
-        self.text.ends_with(b"&")
-    }
-}
-
 /// One card.
 #[derive(Clone, PartialEq)]
 pub enum Card {
@@ -182,12 +158,6 @@ impl fmt::Debug for Entry {
     fn fmt(&self, f: &mut fmt::Formatter) -> fmt::Result {
         let (comment, unit, past) = (some(&self.comment), some(&self.unit), some(&self.past));
         write!(f, "{} is {:?}, comment {comment}, unit {unit}, past a space {past}", shown(&self.name), self.value)
-    }
-}
-
-impl fmt::Debug for Piece {
-    fn fmt(&self, f: &mut fmt::Formatter) -> fmt::Result {
-        write!(f, "\"{}\", comment {}", shown(&self.text), some(&self.comment))
     }
 }
 

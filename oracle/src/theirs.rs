@@ -1,6 +1,6 @@
 //! The published Rust's answers.
 
-use crate::reading::{Card, Decimal, Entry, Header, Piece, Tile, Value};
+use crate::reading::{Card, Decimal, Entry, Header, Tile, Value};
 use fitsrs::card as published;
 use fitsrs::error::Error;
 use std::collections::BTreeMap;
@@ -135,21 +135,6 @@ pub fn header(cards: &[[u8; 80]]) -> Option<Header> {
             Err(error) => Header::Refused(number(&error), cards.len(), None),
         }
     })
-}
-
-/// The string that pieces come to, given as they are: a value card, CONTINUE cards and END. Their bytes are below 128. Nothing where the
-/// Rust panics.
-pub fn pieces(row: &[Piece]) -> Option<Piece> {
-    const NAME: &str = "K";
-    let string = |text: &[u8]| -> String { text.iter().copied().map(char::from).collect() };
-    let comment = |piece: &Piece| piece.comment.as_deref().map(string);
-    let (head, tails) = row.split_first()?;
-    let value = published::Value::String { value: string(&head.text), comment: comment(head) };
-    let mut cards = vec![published::Card::Value { name: NAME.to_string(), value }];
-    let tail = |p: &Piece| published::Card::Continuation { string: Some(string(&p.text)), comment: comment(p) };
-    cards.extend(tails.iter().map(tail));
-    cards.push(published::Card::End);
-    caught(|| fitsrs::header(cards).ok()?.get(NAME).and_then(|value| entry(NAME, value).piece()))?
 }
 
 /// The pixels in the Rust's buffer.

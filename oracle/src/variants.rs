@@ -48,8 +48,7 @@ const LEFT: &[View] = &[
 
 /// The misreadings of headers that the list can show.
 pub fn misreadings() -> impl Iterator<Item = (Subject, Fault, &'static str)> {
-    let shown = |f: &(Subject, Fault, &str)| !matches!(f.0, Subject::Pieces | Subject::Tiles) && !UNSEEN.contains(&f.1);
-    FAULTS.iter().copied().filter(shown)
+    FAULTS.iter().copied().filter(|f| f.0 != Subject::Tiles && !UNSEEN.contains(&f.1))
 }
 
 /// What is printed of a header by a reader with one misreading.

@@ -1,6 +1,6 @@
 //! Wrong views of an answer: each one, put in our answer's place, must be told apart, so every part of it is looked at.
 
-use crate::reading::{Card, Decimal, Entry, Header, Piece, Tile, Value};
+use crate::reading::{Card, Decimal, Entry, Header, Tile, Value};
 
 /// A change of an answer, which does nothing where it does not apply.
 pub type View<T> = (&'static str, fn(&mut T));
@@ -233,24 +233,6 @@ pub const HEADERS: &[View<Header>] = &[
     ("a refused header is empty", |h| {
         if let Header::Refused(..) = h {
             *h = Header::Entries(Vec::new(), Vec::new());
-        }
-    }),
-];
-
-pub const PIECES: &[View<Piece>] = &[
-    ("a joined text loses its last byte", |p| shorten(&mut p.text)),
-    ("a joined text has a space more", |p| p.text.push(b' ')),
-    ("a joined comment loses its last byte", |p| shorten_some(&mut p.comment)),
-    ("a joined comment is lost", |p| p.comment = None),
-    ("a joined comment that is empty is absent", |p| {
-        if p.comment.as_deref() == Some(b"") {
-            p.comment = None;
-        }
-    }),
-    ("a joined comment that is absent is empty", |p| p.comment = p.comment.take().or(Some(Vec::new()))),
-    ("text and comment change places", |p| {
-        if let Some(comment) = &mut p.comment {
-            std::mem::swap(comment, &mut p.text);
         }
     }),
 ];

@@ -1,8 +1,8 @@
 //! The C boundary of Widrekas: its declarations ([`raw`]), and safe functions over slices. The crate `widrekas` is made of these.
 //!
-//! Each function answers 0, the number of a refusal, [`NOT_OPEN`], [`NOTHING_LEFT`] or [`WRONG_LENGTH`]. The project's
-//! bindings/c/widrekas.h says of each what it reads and leaves, and docs/PROMISES.md what is proved of it. Where a card is refused
-//! (answers 1 to 8), `column` is the byte of that card, 0 to 79, at which it is refused; every other answer leaves it as it was.
+//! Each function answers 0, the number of a refusal, [`NOTHING_LEFT`] or [`WRONG_LENGTH`]. The project's bindings/c/widrekas.h says
+//! of each what it reads and leaves, and docs/PROMISES.md what is proved of it. Where a card is refused (answers 1 to 8), `column`
+//! is the byte of that card, 0 to 79, at which it is refused; every other answer leaves it as it was.
 //!
 //! Why the calls are sound, all of them: every pointer with its length is that of a live slice, and every number lent is a live
 //! one. What is lent by `&mut` is lent to nobody else, so nothing that is written aliases anything. The archive's functions take
@@ -30,9 +30,6 @@ pub const DIGITS: usize = 80;
 
 /// The bytes of a block that is enough for whatever is written: 62 cards.
 pub const BLOCK: usize = 62 * CARD;
-
-/// The answer where the text of a head does not end in &, so that nothing may be joined to it.
-pub const NOT_OPEN: u8 = 253;
 
 /// The answer to a step where nothing is left.
 pub const NOTHING_LEFT: u8 = 254;
@@ -126,27 +123,6 @@ pub mod raw {
             length: *mut usize,
             card: *mut usize,
             column: *mut usize,
-        ) -> u8;
-        pub fn widrekas_join_texts(
-            head: *const u8,
-            head_len: usize,
-            tail: *const u8,
-            tail_len: usize,
-            text: *mut u8,
-            room: usize,
-            length: *mut usize,
-        ) -> u8;
-        pub fn widrekas_join_comments(
-            head_commented: usize,
-            head: *const u8,
-            head_len: usize,
-            tail_commented: usize,
-            tail: *const u8,
-            tail_len: usize,
-            comment: *mut u8,
-            room: usize,
-            commented: *mut usize,
-            length: *mut usize,
         ) -> u8;
         pub fn widrekas_write(
             name: *const u8,
@@ -358,51 +334,6 @@ pub fn lookup_comment(header: &[u8], name: &[u8], comment: &mut [u8], told: &mut
             &mut told.length,
             &mut told.card,
             &mut told.column,
-        )
-    }
-}
-
-/// Joins the text of a tail to that of a head: [`NOT_OPEN`] where the head does not end in &. As many bytes as both have are always
-/// enough.
-pub fn join_texts(head: &[u8], tail: &[u8], text: &mut [u8], length: &mut usize) -> u8 {
-    // SAFETY: three live slices with their lengths, two of them only read, and a live number; all that is written is lent alone.
-    unsafe {
-        raw::widrekas_join_texts(
-            head.as_ptr(),
-            head.len(),
-            tail.as_ptr(),
-            tail.len(),
-            text.as_mut_ptr(),
-            text.len(),
-            length,
-        )
-    }
-}
-
-/// Joins the comment of a tail to that of a head; `commented` is 1 where there is one, or 0. One byte more than both have is always
-/// enough.
-pub fn join_comments(
-    head: Option<&[u8]>,
-    tail: Option<&[u8]>,
-    comment: &mut [u8],
-    commented: &mut usize,
-    length: &mut usize,
-) -> u8 {
-    let (head_commented, head) = (head.is_some(), head.unwrap_or_default());
-    let (tail_commented, tail) = (tail.is_some(), tail.unwrap_or_default());
-    // SAFETY: three live slices with their lengths, two of them only read, and two live numbers; all that is written is lent alone.
-    unsafe {
-        raw::widrekas_join_comments(
-            usize::from(head_commented),
-            head.as_ptr(),
-            head.len(),
-            usize::from(tail_commented),
-            tail.as_ptr(),
-            tail.len(),
-            comment.as_mut_ptr(),
-            comment.len(),
-            commented,
-            length,
         )
     }
 }

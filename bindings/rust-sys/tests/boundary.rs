@@ -1,7 +1,7 @@
 //! Every function of the boundary answers, and leaves what it says it leaves.
 
 use widrekas_sys::{
-    self as boundary, Asked, Remark, Stepping, Told, BLOCK, CARD, NOTHING_LEFT, NOT_OPEN, PLACES, RECORD, WRONG_LENGTH,
+    self as boundary, Asked, Remark, Stepping, Told, BLOCK, CARD, NOTHING_LEFT, PLACES, RECORD, WRONG_LENGTH,
 };
 
 /// No byte of a card: a column that is left as it was.
@@ -143,70 +143,6 @@ fn where_the_end_stands_and_the_name_at_a_card() {
     assert_eq!(column, KEPT);
     assert_eq!(boundary::name(&header, 4, &mut name, &mut length, &mut column), 3);
     assert_eq!((&name, length, column), (b"A.B.", 3, 10));
-}
-
-#[test]
-fn two_texts_are_joined() {
-    for (head, tail, joined) in [
-        (&b"FKM-&"[..], &b"75"[..], &b"FKM-75"[..]),
-        (b"a&", b"b&", b"ab&"),
-        (b"&", b"b", b"b"),
-        (b"a &", b"b", b"a b"),
-        (b"a &", b"", b"a"),
-        (b"a  &", b" ", b"a"),
-        (b"a &", b"  ", b"a   "),
-        (b" &", b" ", b""),
-        (b"a&&", b"", b"a&"),
-        (b"\xff&", b"\x80", b"\xff\x80"),
-    ] {
-        let mut room = vec![7; joined.len() + 3];
-        let mut length = KEPT;
-        assert_eq!((boundary::join_texts(head, tail, &mut room, &mut length), length), (0, joined.len()));
-        assert_eq!(room, [joined, &[7; 3]].concat(), "what is beyond stays");
-        let mut exact = vec![7; joined.len()];
-        assert_eq!((boundary::join_texts(head, tail, &mut exact, &mut length), &exact[..]), (0, joined));
-        for short in 0..joined.len() {
-            let (mut room, mut length) = (vec![7; short], KEPT);
-            assert_eq!((boundary::join_texts(head, tail, &mut room, &mut length), length), (13, joined.len()));
-            assert_eq!(room, vec![7; short]);
-        }
-    }
-    for (head, tail) in [(&b""[..], &b"b"[..]), (b"", b""), (b"a", b"b"), (b"a& ", b"b"), (b"&a", b" ")] {
-        let (mut room, mut length) = ([7; 4], KEPT);
-        assert_eq!(boundary::join_texts(head, tail, &mut room, &mut length), NOT_OPEN);
-        assert_eq!(boundary::join_texts(head, tail, &mut [], &mut length), NOT_OPEN);
-        assert_eq!((room, length), ([7; 4], KEPT));
-    }
-}
-
-#[test]
-fn two_comments_are_joined() {
-    for (head, tail, joined) in [
-        (None, None, None),
-        (None, Some(&b"c"[..]), Some(&b"c"[..])),
-        (Some(&b"a"[..]), None, Some(b"a")),
-        (Some(b"a"), Some(b"c"), Some(b"a\nc")),
-        (None, Some(b""), Some(b"")),
-        (Some(b""), None, Some(b"")),
-        (Some(b""), Some(b""), Some(b"\n")),
-        (Some(b"a"), Some(b""), Some(b"a\n")),
-        (Some(b""), Some(b"c"), Some(b"\nc")),
-    ] {
-        let (there, bytes) = (usize::from(joined.is_some()), joined.unwrap_or_default());
-        let mut room = vec![7; bytes.len() + 3];
-        let (mut commented, mut length) = (KEPT, KEPT);
-        assert_eq!(boundary::join_comments(head, tail, &mut room, &mut commented, &mut length), 0);
-        assert_eq!((commented, length), (there, bytes.len()));
-        assert_eq!(room, [bytes, &[7; 3]].concat(), "what is beyond stays");
-        let (mut exact, mut commented) = (vec![7; bytes.len()], KEPT);
-        assert_eq!(boundary::join_comments(head, tail, &mut exact, &mut commented, &mut length), 0);
-        assert_eq!((commented, &exact[..]), (there, bytes));
-        for short in 0..bytes.len() {
-            let (mut room, mut commented, mut length) = (vec![7; short], KEPT, KEPT);
-            assert_eq!(boundary::join_comments(head, tail, &mut room, &mut commented, &mut length), 13);
-            assert_eq!((room, commented, length), (vec![7; short], KEPT, bytes.len()));
-        }
-    }
 }
 
 #[test]

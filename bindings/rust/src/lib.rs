@@ -5,12 +5,10 @@
 //! This crate is not proved. It lends memory and takes the answers apart, and decides nothing of what a card says, which are joined
 //! in an answer or how they are written. [`ReadOn`] adds one rule: which names a refused card touches. [`Header::replaced`] adds
 //! another: which cards belong to a name. [`Header::entry`] adds a third: nothing is joined to a value that is no string ending in &.
-//! [`Card::piece`] adds a fourth: which cards have a piece of a long string.
 //!
 //! - [`Header`]: the names of a header, the [`Value`] of each, strings joined over CONTINUE cards, and its comment.
 //! - [`ReadOn`]: the same of a header with refused cards, where the names that they could touch are errors.
 //! - [`Card`]: one card of 80 bytes.
-//! - [`Piece`]: what one card has of a long string, and two of these joined, in any grouping.
 //! - [`write()`]: the cards of a name and its value. [`Header::replaced`]: a header with another value of a name.
 //! - [`tile`]: a Rice tile, decoded whole or block by block.
 //!
@@ -23,7 +21,6 @@
 mod card;
 mod decimal;
 mod header;
-mod piece;
 mod refusal;
 mod text;
 pub mod tile;
@@ -33,13 +30,12 @@ mod writing;
 pub use card::Card;
 pub use decimal::Decimal;
 pub use header::{Entries, Header, NotReplaced, ReadOn, LONGEST};
-pub use piece::Piece;
 pub use refusal::{Reason, Refusal};
 pub use text::Text;
 pub use value::{Entry, Value};
 pub use writing::write;
 
-/// The version of the C boundary, which is 4.
+/// The version of the C boundary, which is 3.
 pub fn version() -> u32 {
     widrekas_sys::version()
 }

@@ -144,7 +144,7 @@ impl Refusal {
     pub(crate) fn told(number: u8) -> Self {
         match Reason::from_number(number) {
             Some(reason) => Refusal { reason, card: None, column: None },
-            None => unreachable!("the boundary has no refusal {number}"),
+            None => unreachable!("version 2 of the boundary has no refusal {number}"),
         }
     }
 

@@ -19,7 +19,7 @@ use std::ops::Deref;
 pub struct Text(String);
 
 impl Text {
-    /// The text of bytes that are UTF-8, as those below 128 are. They are tested once, here; any other byte would become U+FFFD.
+    /// The text of bytes below 128. They are tested as UTF-8 once, here; any other byte would become U+FFFD.
     pub(crate) fn new(bytes: &[u8]) -> Self {
         match std::str::from_utf8(bytes) {
             Ok(text) => Text(text.to_owned()),

@@ -1,5 +1,5 @@
 -- What the C boundary says of a value, a unit's end, a wrong length and a column.
-use Rattle.std.specs.Prelude.{ℕ, ◌≡◌, Bool, false, cond, not, eqb, ℤ, pos}
+use Rattle.std.specs.Prelude.{ℕ, ◌≡◌, Bool, false, cond, ℤ, pos}
 use Rattle.laws.specs.Lending.{Lent}
 use Rattle.refusal.specs.declared.Column.{Column}
 use Rattle.refusal.specs.declared.Column.TheVariants.{At, Absent}
@@ -31,10 +31,6 @@ value_told Invalid = told 8 false (pos 0)
 -- 1 for true and 0 for false
 abbrev pub bit_of : Bool → ℕ
 bit_of t = cond t 1 0
-
--- a number that stands for a truth: 0 is false, any other true
-abbrev pub is_set : ℕ → Bool
-is_set n = not (eqb n 0)
 
 -- the answer to a slice of another length than the one asked for: no refusal has this number
 abbrev pub wrong_length : ℕ

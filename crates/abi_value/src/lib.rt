@@ -3,14 +3,14 @@
 ghost use Rattle.std.specs.Prelude.{◌≡◌};
 ghost use Rattle.laws.specs.Lending.{lent_of};
 ghost use Rattle.value.specs.Units.{unit_of, unit_past_space};
-ghost use Rattle.abi_value.specs.Telling.{size_told, value_told, bit_of, is_set, unit_end, UnitLeft, column_after};
+ghost use Rattle.abi_value.specs.Telling.{size_told, value_told, bit_of, unit_end, UnitLeft, column_after};
 
 use numbers::{Size, Value};
 use refusal::Column;
 use value::UnitPlace;
 
 // What a value comes to in numbers: its kind, whether it is true or negative, and its integer or power of ten.
-#[derive(Drop)]
+#[derive(Clone, Copy)]
 pub struct Told {
     pub kind: u8,
     pub flag: bool,
@@ -81,13 +81,6 @@ pub fn bit(t: bool) -> u8
     ensures { result ≡ bit_of t }
 {
     if t { 1 } else { 0 }
-}
-
-// Whether a number stands for a truth: 0 is false, any other true.
-pub fn is_set(n: usize) -> bool
-    ensures { result ≡ is_set n }
-{
-    n != 0
 }
 
 // The end of the unit that a comment names as fitsrs reads it, which starts at byte 1; 0 where it names none.

@@ -1,5 +1,5 @@
 -- What the C boundary asks to be written, in numbers, and what it answers.
-use Rattle.std.specs.Prelude.{ℕ, ◌≡◌, Bool, cond, List, eqb, ℤ}
+use Rattle.std.specs.Prelude.{ℕ, ◌≡◌, Bool, cond, not, List, eqb, ℤ}
 use Rattle.laws.specs.Lending.{Lent}
 use Rattle.refusal.specs.Numbers.{number_of}
 use Rattle.numbers.specs.declared.Size.TheVariants.{Finite, Infinite, Nan}
@@ -8,6 +8,10 @@ use Rattle.numbers.specs.declared.Value.TheVariants.{Integer, Float, Logical, St
 use Rattle.writing.specs.declared.WriteAnswer.{WriteAnswer}
 use Rattle.writing.specs.declared.WriteAnswer.TheVariants.{Cards, Refused}
 use Rattle.writing.specs.Block.{WriteOutcome}
+
+-- a number that stands for a truth: 0 is false, any other true
+abbrev pub is_set : ℕ → Bool
+is_set n = not (eqb n 0)
 
 -- the value of a kind with its flag and number, as `valueTold` tells them; a kind that there is not counts as invalid
 unfoldable pub value_asked : ℕ → Bool → ℤ → Value

@@ -5,8 +5,7 @@ ghost use Rattle.laws.specs.Lending.{lent_of};
 ghost use Rattle.roles.specs.Roles.{comment_of};
 ghost use Rattle.numbers.specs.declared.Value.TheVariants.{Float};
 ghost use Rattle.writing.specs.Block.{write_of};
-ghost use Rattle.abi_value.specs.Telling.{is_set};
-ghost use Rattle.abi_writing.specs.Asking.{value_asked, WriteLeft};
+ghost use Rattle.abi_writing.specs.Asking.{is_set, value_asked, WriteLeft};
 
 use numbers::{Size, Value};
 use writing::WriteAnswer;
@@ -27,9 +26,8 @@ pub fn write_into(
     ensures { WriteLeft (write_of name.now (value_asked kind (is_set flag) number) text.now
         (comment_of (is_set commented) comment.now)) (lent_of block) (lent_of count) result }
 {
-    let value = value_asked(kind, abi_value::is_set(flag), number);
-    let there = abi_value::is_set(commented);
-    let answer = writing::write(name, value, text, there, comment, block);
+    let value = value_asked(kind, is_set(flag), number);
+    let answer = writing::write(name, value, text, is_set(commented), comment, block);
     match answer {
         WriteAnswer::Cards(n) => {
             *count = n;
@@ -37,6 +35,13 @@ pub fn write_into(
         }
         WriteAnswer::Refused(fault) => fault.number(),
     }
+}
+
+// Whether a number stands for a truth: 0 is false, any other true.
+fn is_set(n: usize) -> bool
+    ensures { result ≡ is_set n }
+{
+    n != 0
 }
 
 // The value of a kind with its flag and number.

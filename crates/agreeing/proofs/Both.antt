@@ -33,20 +33,20 @@ both_in (stops s) text comment = untouched (L.Header s) text comment
 both_in missing text comment = untouched (L.Refused (fault_of R.NameNotFound)) text comment
 both_in (holds v) text comment = written v text comment
 
-pub both-held : (o : Option Held) (text comment : List ℕ) → both_in (held_in o) text comment ≡ given o text comment
-both-held none text comment = refl
-both-held (some v) text comment = refl
+pub both_held : (o : Option Held) (text comment : List ℕ) → both_in (held_in o) text comment ≡ given o text comment
+both_held none text comment = refl
+both_held (some v) text comment = refl
 
 -- by any roles, and by those of a header
 module _ (text comment : List ℕ) where
   pub looked_both : (x : Header) (roles : List Role) (name : List ℕ)
       → looked_up x roles name text comment ≡ both_in (sought_in x (lookup name roles)) text comment
-  looked_both (Accepted end) roles name = sym (both-held (lookup name roles) text comment)
+  looked_both (Accepted end) roles name = sym (both_held (lookup name roles) text comment)
   looked_both (Refused s) roles name = refl
 
-  pub entry_by-both : (n : ℕ) (roles : List Role) (i : ℕ)
+  pub entry_by_both : (n : ℕ) (roles : List Role) (i : ℕ)
       → entry_by n roles i text comment ≡ both_in (numbered_by n roles i) text comment
-  entry_by-both n roles i = go (is_bad_length n)
+  entry_by_both n roles i = go (is_bad_length n)
     where
       at : Option Held
       at = entry_head (drop i roles)
@@ -55,7 +55,7 @@ module _ (text comment : List ℕ) where
       bad = stop_at (fault_of R.HeaderLength) 0
 
       by : (m : Option Stop) → unless_met m (given at text comment) text comment ≡ both_in (unless_stopped m at) text comment
-      by none = sym (both-held at text comment)
+      by none = sym (both_held at text comment)
       by (some s) = refl
 
       go : (b : Bool)
@@ -64,26 +64,26 @@ module _ (text comment : List ℕ) where
       go true = refl
       go false = by (met_head (drop i roles) i)
 
-pub lookup-both : (h name text comment : List ℕ) → lookup_of h name text comment ≡ both_in (named h name) text comment
+pub lookup_both : (h name text comment : List ℕ) → lookup_of h name text comment ≡ both_in (named h name) text comment
 unfolding lookup_of named
-lookup-both h name text comment = looked_both text comment (header_of h) (roles_of h) name
+lookup_both h name text comment = looked_both text comment (header_of h) (roles_of h) name
 
-pub entry-both : (h : List ℕ) (i : ℕ) (text comment : List ℕ) → entry_of h i text comment ≡ both_in (numbered h i) text comment
+pub entry_both : (h : List ℕ) (i : ℕ) (text comment : List ℕ) → entry_of h i text comment ≡ both_in (numbered h i) text comment
 unfolding entry_of numbered
-entry-both h i text comment = entry_by-both text comment (length h) (roles_of h) i
+entry_both h i text comment = entry_by_both text comment (length h) (roles_of h) i
 
 module _ (text comment : List ℕ) where
   -- equal readings are answered alike
   pub both_alike : (g h m n : List ℕ) → named g m ≡ named h n → lookup_of g m text comment ≡ lookup_of h n text comment
   both_alike g h m n e =
-      lookup-both g m text comment ∙ ap (λ (x : Sought). both_in x text comment) e ∙ sym (lookup-both h n text comment)
+      lookup_both g m text comment ∙ ap (λ (x : Sought). both_in x text comment) e ∙ sym (lookup_both h n text comment)
 
   pub entries_alike : (g h : List ℕ) (i j : ℕ) → numbered g i ≡ numbered h j → entry_of g i text comment ≡ entry_of h j text comment
   entries_alike g h i j e =
-      entry-both g i text comment ∙ ap (λ (x : Sought). both_in x text comment) e ∙ sym (entry-both h j text comment)
+      entry_both g i text comment ∙ ap (λ (x : Sought). both_in x text comment) e ∙ sym (entry_both h j text comment)
 
   pub both_told : (h name : List ℕ) (x : Sought) → named h name ≡ x → lookup_of h name text comment ≡ both_in x text comment
-  both_told h name x e = lookup-both h name text comment ∙ ap (λ (y : Sought). both_in y text comment) e
+  both_told h name x e = lookup_both h name text comment ∙ ap (λ (y : Sought). both_in y text comment) e
 
   -- only a missing name is answered 12
   only_12 : (x : Sought) → (both_in x text comment).answer.answer ≡ L.Refused (fault_of R.NameNotFound) → x ≡ missing
@@ -116,16 +116,16 @@ module _ (text comment : List ℕ) where
 pub agreement : Agreement
 unfolding place_of_entry
 agreement h end a name k s text comment =
-    entry-both h (get_or (list_of h).last k free) text comment
+    entry_both h (get_or (list_of h).last k free) text comment
     ∙ ap (λ (x : Sought). both_in x text comment) (sought_at_lem h end a name k s)
-    ∙ sym (lookup-both h name text comment)
+    ∙ sym (lookup_both h name text comment)
 
-pub missing-both : Missing
-missing-both h end a name s text comment = both_told text comment h name missing (missing-named h end a name s)
+pub missing_both : Missing
+missing_both h end a name s text comment = both_told text comment h name missing (missing-named h end a name s)
 
-pub only_missing-both : OnlyMissing
-only_missing-both h end a name text comment e s =
-    let told = ap (λ (o : LookupOutcome). o.answer.answer) (lookup-both h name text comment) in
+pub only_missing_both : OnlyMissing
+only_missing_both h end a name text comment e s =
+    let told = ap (λ (o : LookupOutcome). o.answer.answer) (lookup_both h name text comment) in
     only_missing-named h end a name (only_12 text comment (named h name) (sym told ∙ e)) s
 
 pub same-refusal : SameRefusal
@@ -134,6 +134,6 @@ same-refusal h s e =
 
 pub unmet_to_end : UnmetToEnd
 unmet_to_end h end a i p text comment =
-    entry-both h i text comment
+    entry_both h i text comment
     ∙ ap (λ (x : Sought). both_in x text comment) (unmet_numbered h end a i p)
-    ∙ both-held (entry_head (drop i (roles_of h))) text comment
+    ∙ both_held (entry_head (drop i (roles_of h))) text comment

@@ -211,9 +211,9 @@ RoleShort neutral = Unit {0}
 RoleShort last = Unit {0}
 RoleShort (refused f) = Unit {0}
 
-remark-short : (b : Bool) (t : Text) → t.len ≤ card_words → length (bytes_in (comment_of b (bytes_of t))) ≤ card_words
-remark-short true t h = omega (arith, bytes_len t)
-remark-short false t h = omega arith
+remark_short : (b : Bool) (t : Text) → t.len ≤ card_words → length (bytes_in (comment_of b (bytes_of t))) ≤ card_words
+remark_short true t h = omega (arith, bytes_len t)
+remark_short false t h = omega arith
 
 shown-short : (b : Bool) (t : Text) → cond b t.len 0 ≤ card_words → length (cond b (bytes_of t) []) ≤ card_words
 shown-short true t h = omega (arith, bytes_len t)
@@ -221,10 +221,10 @@ shown-short false t h = omega arith
 
 by_answer : (a : CardAnswer) (r : CardRead) → words_len a r.text.len ≤ card_words → r.comment.len ≤ card_words → RoleShort
     (role_in (role_by a) r)
-by_answer (A.Read (C.Value v)) r h k = (shown-short (has_text v) r.text h, remark-short r.commented r.comment k)
-by_answer (A.Read (C.Hierarch v)) r h k = (shown-short (has_text v) r.text h, remark-short r.commented r.comment k)
-by_answer (A.Read C.Xtension) r h k = (shown-short true r.text h, remark-short r.commented r.comment k)
-by_answer (A.Read C.Continuation) r h k = (shown-short true r.text h, remark-short r.commented r.comment k)
+by_answer (A.Read (C.Value v)) r h k = (shown-short (has_text v) r.text h, remark_short r.commented r.comment k)
+by_answer (A.Read (C.Hierarch v)) r h k = (shown-short (has_text v) r.text h, remark_short r.commented r.comment k)
+by_answer (A.Read C.Xtension) r h k = (shown-short true r.text h, remark_short r.commented r.comment k)
+by_answer (A.Read C.Continuation) r h k = (shown-short true r.text h, remark_short r.commented r.comment k)
 by_answer (A.Read C.Comment) r h k = tt
 by_answer (A.Read C.History) r h k = tt
 by_answer (A.Read C.Space) r h k = tt

@@ -51,11 +51,11 @@ text-short s t e h = go (adds_nothing t)
     go true = omega (arith, end_shorter is_space (take (length s - 1) s), less)
     go false = omega (arith, length-append (take (length s - 1) s) t, less)
 
-remark-short : (k c : Comment) → length (bytes_in c) ≤ card_words → length (bytes_in (join_comment k c)) ≤ length (bytes_in k) + 73
+remark_short : (k c : Comment) → length (bytes_in c) ≤ card_words → length (bytes_in (join_comment k c)) ≤ length (bytes_in k) + 73
 unfolding join_comment
-remark-short none c h = omega arith
-remark-short (some a) none h = omega arith
-remark-short (some a) (some c) h = omega (arith, length-append a (line_feed ∷ c))
+remark_short none c h = omega arith
+remark_short (some a) none h = omega arith
+remark_short (some a) (some c) h = omega (arith, length-append a (line_feed ∷ c))
 
 -- ---- all cards that are joined
 record Grown (w : Words) (n : ℕ) (x : Words) : Type 0 where
@@ -79,7 +79,7 @@ joined_grown w (more t c ∷ rs) h = go (opens w) refl (joined_grown (join_words
         → Grown w (suc (length rs)) (cond b (join_on (join_words w t c) rs) w)
     go true e g =
         let longer = text-short w.text t (opens-text w e) h.0.0 in
-        let remark = remark-short w.comment c h.0.1 in
+        let remark = remark_short w.comment c h.0.1 in
         grown longer remark g
       where
         grown : length (join_text w.text t) ≤ length w.text + 71

@@ -27,10 +27,10 @@ rest false zero s = join_pieces (name_pieces s)
 rest false (suc n) s = onward (name_pieces s)
 
 -- ---- one byte
-join-onto : (b : ℕ) (ps : List (List ℕ)) → join_pieces (onto b ps) ≡ b ∷ onward ps
+join_onto : (b : ℕ) (ps : List (List ℕ)) → join_pieces (onto b ps) ≡ b ∷ onward ps
 unfolding join_pieces
-join-onto b [] = refl
-join-onto b (p ∷ ps) = refl
+join_onto b [] = refl
+join_onto b (p ∷ ps) = refl
 
 onward-onto : (b : ℕ) (ps : List (List ℕ)) → onward (onto b ps) ≡ b ∷ onward ps
 unfolding join_pieces
@@ -49,11 +49,11 @@ module _ (b : ℕ) (s : List ℕ) where
   -- any other byte is put, behind a full stop where there is a gap
   stop_next : (n : ℕ) → is_blank b ≡ false → rest true n (b ∷ s) ≡ code "." ∷ b ∷ onward (name_pieces s)
   unfolding name_pieces
-  stop_next n e = rw (e, join-onto b (name_pieces s))
+  stop_next n e = rw (e, join_onto b (name_pieces s))
 
   plain_next : (n : ℕ) → is_blank b ≡ false → rest false n (b ∷ s) ≡ b ∷ onward (name_pieces s)
   unfolding name_pieces
-  plain_next zero e = rw (e, join-onto b (name_pieces s))
+  plain_next zero e = rw (e, join_onto b (name_pieces s))
   plain_next (suc n) e = rw (e, onward-onto b (name_pieces s))
 
 abbrev spare : Bool → ℕ

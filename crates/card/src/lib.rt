@@ -15,7 +15,7 @@ use text::{Change, Cut, Place, Text};
 use value::{ValueAnswer, ValueRead};
 
 // The classes of cards. A value card and a HIERARCH card hold a value.
-#[derive(Drop)]
+#[derive(Clone, Copy)]
 pub enum Card {
     Value(Value),
     Continuation,
@@ -29,7 +29,7 @@ pub enum Card {
 }
 
 // What reading a card answers.
-#[derive(Drop)]
+#[derive(Clone, Copy)]
 pub enum CardAnswer {
     Read(Card),
     Refused(Fault),
@@ -38,7 +38,7 @@ pub enum CardAnswer {
 // The texts stand beside the answer; one that is missing is empty. The name is the keyword, or a HIERARCH card's pieces.
 // The text is a value's (a string, an invalid text, a decimal's digits), a CONTINUE or XTENSION card's string, a comment
 // or history text, or the whole of an undefined card.
-#[derive(Drop)]
+#[derive(Clone, Copy)]
 pub struct CardRead {
     pub answer: CardAnswer,
     pub name: Text,
@@ -48,7 +48,7 @@ pub struct CardRead {
 }
 
 // What a keyword says of its card.
-#[derive(Drop)]
+#[derive(Clone, Copy)]
 pub enum Class {
     Empty,
     Comment,

@@ -31,7 +31,7 @@ const CARD: usize = 80;
 const LONGEST: usize = 57600;
 
 // What the program is asked for: a header on standard input, bare; or files, of which there may be several, with lines made visible or not.
-#[derive(Drop)]
+#[derive(Clone, Copy)]
 pub struct Asked {
     pub bare: bool,
     pub several: bool,
@@ -39,7 +39,7 @@ pub struct Asked {
 }
 
 // How many bytes of an input were read, or that it failed.
-#[derive(Drop)]
+#[derive(Clone, Copy)]
 pub enum Got {
     Bytes(usize),
     Failed,

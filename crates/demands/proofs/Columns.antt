@@ -43,7 +43,7 @@ use Rattle.entries.specs.Halves.{ValueOutcome, value_in, CommentOutcome, comment
 use Rattle.listing.specs.Listing.{Table, name_of, place_in, put, put_role, list_from, tabled, empty, by_header, list_of}
 use Rattle.naming.specs.declared.Named.TheVariants as N
 use Rattle.naming.specs.Naming.{NameOutcome, naming_by, unnamed, name_written, name_by, name_at}
-use Rattle.agreeing.proofs.Both.{both_in, looked_both, entry_by-both, lookup-both, entry-both}
+use Rattle.agreeing.proofs.Both.{both_in, looked_both, entry_by_both, lookup_both, entry_both}
 use Rattle.demands.specs.Columns.{alone, stop_alone, header_alone, found_alone, outcome_alone, sought_alone, value_alone, comment_alone}
 use Rattle.demands.specs.Columns.{list_alone, naming_alone, unplaced_roles, unplaced_header}
 use Rattle.demands.specs.Columns.{CardAlone, HeaderAlone, FindAlone, LookupAlone, EntryAlone, NamedAlone, NumberedAlone}
@@ -176,18 +176,18 @@ comment_alone_lem missing comment = refl
 comment_alone_lem (holds v) comment =
     either (λ (o : CommentOutcome). comment_alone o ≡ o) (leb (length (bytes_in v.words.comment)) (length comment)) _ _ refl refl
 
-both-alone : (x : Sought) (text comment : List ℕ) → outcome_alone (both_in x text comment) ≡ both_in (sought_alone x) text comment
+both_alone : (x : Sought) (text comment : List ℕ) → outcome_alone (both_in x text comment) ≡ both_in (sought_alone x) text comment
 unfolding written
-both-alone (stops s) text comment = refl
-both-alone missing text comment = refl
-both-alone (holds v) text comment =
+both_alone (stops s) text comment = refl
+both_alone missing text comment = refl
+both_alone (holds v) text comment =
     either (λ (o : LookupOutcome). outcome_alone o ≡ o)
     (leb (length v.words.text) (length text) && leb (length (bytes_in v.words.comment)) (length comment)) _ _ refl refl
 
 pub lookup-alone : LookupAlone
 lookup-alone h name text comment =
-    ap outcome_alone (lookup-both h name text comment)
-    ∙ both-alone (named h name) text comment
+    ap outcome_alone (lookup_both h name text comment)
+    ∙ both_alone (named h name) text comment
     ∙ ap (λ (x : Sought). both_in x text comment) (named-alone h name)
     ∙ sym (looked_both text comment (unplaced_header h) (unplaced_roles h) name)
 
@@ -252,10 +252,10 @@ numbered-alone h i = go (is_bad_length (length h))
 
 pub entry-alone : EntryAlone
 entry-alone h i text comment =
-    ap outcome_alone (entry-both h i text comment)
-    ∙ both-alone (numbered h i) text comment
+    ap outcome_alone (entry_both h i text comment)
+    ∙ both_alone (numbered h i) text comment
     ∙ ap (λ (x : Sought). both_in x text comment) (numbered-alone h i)
-    ∙ sym (entry_by-both text comment (length h) (unplaced_roles h) i)
+    ∙ sym (entry_by_both text comment (length h) (unplaced_roles h) i)
 
 -- ---- the list, and a name
 
@@ -497,12 +497,12 @@ both_told h (holds v) text comment told =
 
 pub lookup-column : LookupColumn
 lookup-column h name text comment =
-    subst (λ (o : LookupOutcome). answer_column h o.answer.answer) (sym (lookup-both h name text comment))
+    subst (λ (o : LookupOutcome). answer_column h o.answer.answer) (sym (lookup_both h name text comment))
     (both_told h (named h name) text comment (named-column h name))
 
 pub entry-column : EntryColumn
 entry-column h i text comment =
-    subst (λ (o : LookupOutcome). answer_column h o.answer.answer) (sym (entry-both h i text comment))
+    subst (λ (o : LookupOutcome). answer_column h o.answer.answer) (sym (entry_both h i text comment))
     (both_told h (numbered h i) text comment (numbered-column h i))
 
 pub name_column_lem : NameColumn

@@ -18,7 +18,7 @@ use Rattle.entries.specs.Halves.{Sought, stops, missing, holds, named, numbered}
 use Rattle.entries.specs.Halves.{ValueOutcome, value_left, no_value, value_in}
 use Rattle.entries.specs.Halves.{CommentOutcome, comment_left, comment_half, comment_in}
 use Rattle.listing.specs.Listing.{place_of_value, place_of_comment}
-use Rattle.agreeing.proofs.Both.{both_in, lookup-both, entry-both}
+use Rattle.agreeing.proofs.Both.{both_in, lookup_both, entry_both}
 use Rattle.demands.specs.Halves.{is_short, is_comment_short, pair_of, Halves, LookupHalves, EntryHalves}
 use Rattle.demands.specs.Halves.{ValueIsolation, CommentIsolation, ValueIsolationToEnd, CommentIsolationToEnd}
 use Rattle.demands.specs.Halves.{ValuesKept, CommentsKept}
@@ -129,10 +129,10 @@ halves_of both x is =
     }
 
 pub lookup-halves : LookupHalves
-lookup-halves h name = halves_of (lookup_of h name) (named h name) (lookup-both h name)
+lookup-halves h name = halves_of (lookup_of h name) (named h name) (lookup_both h name)
 
 pub entry-halves : EntryHalves
-entry-halves h i = halves_of (entry_of h i) (numbered h i) (entry-both h i)
+entry-halves h i = halves_of (entry_of h i) (numbered h i) (entry_both h i)
 
 -- ---- isolation
 

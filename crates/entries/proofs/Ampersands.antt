@@ -15,7 +15,6 @@ use Rattle.text.specs.Trim.{trim_end, cons_trimmed}
 use Rattle.text.specs.Ends.{stem, ends_with}
 use Rattle.text.proofs.Trimming.{at_next}
 use Rattle.joining.specs.Words.{ends_open, adds_nothing, join_text}
-use Rattle.joining.proofs.Opening.{open_ends}
 use Rattle.entries.specs.Passes.{passing, ampersands, opens_by}
 
 -- ---- a byte, and a text, counted on from k
@@ -134,7 +133,19 @@ end-behind a (b ∷ t) e = go a
     go [] = refl
     go (x ∷ a) = next x (a ++ b ∷ t) (omega (arith, length-append a (b ∷ t))) ∙ go a
 
--- an open text has one more than without its &
+-- an open text is its stem with an &
+open_ends : (s : List ℕ) → ends_open s ≡ true → s ≡ stem s ++ code "&" ∷ []
+unfolding ends_open ends_with stem
+open_ends [] e = absurd (true≢false (sym e))
+open_ends (b ∷ s) e =
+    let n = length (b ∷ s) - 1 in
+    let all : length (b ∷ s) ≡ suc n = omega arith in
+    sym (take-length (b ∷ s))
+    ∙ ap (λ (k : ℕ). take k (b ∷ s)) all
+    ∙ take-suc (b ∷ s) n 0 (omega arith)
+    ∙ ap (λ (c : ℕ). take n (b ∷ s) ++ c ∷ []) (eqb-true (get_or (b ∷ s) n 0) (code "&") e)
+
+-- it has one more than without its &
 open_counts : (s : List ℕ) → ends_open s ≡ true → ampersands 0 s ≡ suc (ampersands 0 (stem s))
 unfolding ampersands
 open_counts s e = ap (ampersands 0) (open_ends s e) ∙ ampersands-append 0 (stem s) (code "&" ∷ [])

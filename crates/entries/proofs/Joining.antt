@@ -9,7 +9,7 @@ use mathlib.Core.Option.{Option, none, some}
 use lib.ListN.{length, take, drop}
 use types.Run.{OneOf, miss}
 use denote.Enum.Declared.{tag_of}
-use Rattle.laws.proofs.Truths.{and_false}
+use Rattle.laws.proofs.Truths.{and_both, and_false}
 use Rattle.text.specs.Ends.{ends_with}
 use Rattle.roles.specs.Roles.{Words, Role, entry, more, neutral, last, refused}
 use Rattle.roles.specs.Cards.{role_no, roles_of}
@@ -17,7 +17,6 @@ use Rattle.roles.proofs.Cards.{roles_from, roles_past}
 use Rattle.joining.specs.Words.{ends_open, opens, join_text, join_words}
 use Rattle.joining.specs.Lookup.{join_on}
 use Rattle.joining.proofs.Answers.{join_on_shut}
-use Rattle.joining.proofs.Opening.{opens-joins, opens-text, text-opens}
 use Rattle.finding.specs.declared.Stop.{Stop}
 use Rattle.entries.specs.declared.Reach.{Reach}
 use Rattle.entries.specs.declared.Reach.TheVariants.{On, Ended, Met}
@@ -31,6 +30,18 @@ pub open_some : (s : List ℕ) (n : ℕ) → ends_open (take n s) ≡ true → 0
 unfolding ends_open ends_with
 open_some s zero e = absurd (true≢false (sym e))
 open_some s (suc n) e = omega arith
+
+opens-joins : (w : Words) → opens w ≡ true → w.joins ≡ true
+unfolding opens
+opens-joins w e = (and_both w.joins (ends_open w.text) e).0
+
+opens-text : (w : Words) → opens w ≡ true → ends_open w.text ≡ true
+unfolding opens
+opens-text w e = (and_both w.joins (ends_open w.text) e).1
+
+text-opens : (w : Words) → w.joins ≡ true → ends_open w.text ≡ true → opens w ≡ true
+unfolding opens
+text-opens w d e = rw (d, e)
 
 text_shut : (w : Words) → ends_open w.text ≡ false → opens w ≡ false
 unfolding opens

@@ -7,7 +7,7 @@ ghost use Rattle.std.proofs.lemmas.List.Edits.{sets};
 ghost use Rattle.text.specs.Text.{text_of, bytes_of};
 ghost use Rattle.roles.specs.Roles.{has_text, has_digits, comment_of};
 ghost use Rattle.roles.specs.Cards.{roles_of, role_no};
-ghost use Rattle.joining.specs.Words.{ends_open, join_text, join_comment};
+ghost use Rattle.joining.specs.Words.{ends_open, adds_nothing, join_text, join_comment};
 ghost use Rattle.entries.specs.Halves.{named, numbered, numbered_from, value_named, value_numbered, value_in, value_left, value_laid};
 ghost use Rattle.entries.specs.Halves.{no_value, comment_named, comment_numbered, comment_in, comment_left, comment_laid, comment_half};
 ghost use Rattle.entries.specs.Passes.{sought_at, IsWithin, Spotted, no_entry, value_refused, comment_refused, words_at, string_at};
@@ -22,7 +22,7 @@ use roles::Role;
 use text::{Cut, Place, Text};
 
 // What the value's half answers: a value; where the header is refused; or a refusal without a card.
-#[derive(Drop)]
+#[derive(Clone, Copy)]
 pub enum LookupAnswer {
     Found(Value),
     Header(Stop),
@@ -31,7 +31,7 @@ pub enum LookupAnswer {
 
 // Beside the answer stand a decimal's digits, and how long the text is: what was written to the lent buffer or, where that is too
 // short, the room that is wanted.
-#[derive(Drop)]
+#[derive(Clone, Copy)]
 pub struct ValueHalf {
     pub answer: LookupAnswer,
     pub digits: Text,
@@ -39,7 +39,7 @@ pub struct ValueHalf {
 }
 
 // What the comment's half answers: whether there is a comment; or as the value's half.
-#[derive(Drop)]
+#[derive(Clone, Copy)]
 pub enum CommentAnswer {
     Found(bool),
     Header(Stop),
@@ -47,14 +47,14 @@ pub enum CommentAnswer {
 }
 
 // Beside the answer stands how long the comment is: what was written, or the room that is wanted.
-#[derive(Drop)]
+#[derive(Clone, Copy)]
 pub struct CommentHalf {
     pub answer: CommentAnswer,
     pub comment: usize,
 }
 
 // Where an entry is sought: at a card that the header has, or nowhere, or a card stops the reading.
-#[derive(Drop)]
+#[derive(Clone, Copy)]
 pub enum Spot {
     At(usize),
     Missing,
@@ -62,7 +62,7 @@ pub enum Spot {
 }
 
 // Whether more may be joined: it may, it may not, or a refused card was met.
-#[derive(Drop)]
+#[derive(Clone, Copy)]
 pub enum Reach {
     On,
     Ended,
@@ -70,7 +70,7 @@ pub enum Reach {
 }
 
 // How long a joined text is, and whether more may be joined.
-#[derive(Drop)]
+#[derive(Clone, Copy)]
 pub struct TextHeld {
     pub length: usize,
     pub reach: Reach,
@@ -78,7 +78,7 @@ pub struct TextHeld {
 
 // Whether there is a joined comment, and how long it is. Of the text the ampersands at its end are known: they say whether more may
 // be joined.
-#[derive(Drop)]
+#[derive(Clone, Copy)]
 pub struct CommentHeld {
     pub ampersands: usize,
     pub commented: bool,
@@ -393,13 +393,38 @@ fn put_text(t: Text, n: usize, out: &mut [u8], at: usize)
     text::put_at(text::first_of(&bytes, n), out, at);
 }
 
+// Whether a text ends in &.
+fn ends_open(s: &[u8]) -> bool
+    ensures { result ≡ ends_open s.now }
+{
+    let n = s.len();
+    if n == 0 {
+        return false;
+    }
+    s[n - 1] == AMPERSAND
+}
+
 // Whether a string that may be continued ends in &.
 fn is_open(joins: bool, own: Text) -> bool
     ensures { result ≡ (joins && ends_open (bytes_of own)) }
 {
     let bytes = own.bytes;
     if joins {
-        return joining::ends_open(text::first_of(&bytes, own.len));
+        return ends_open(text::first_of(&bytes, own.len));
+    }
+    false
+}
+
+// Empty, or one space.
+fn adds_nothing(t: Text) -> bool
+    ensures { result ≡ adds_nothing (bytes_of t) }
+{
+    let bytes = t.bytes;
+    if t.len == 0 {
+        return true;
+    }
+    if t.len == 1 {
+        return bytes[0] == b' ';
     }
     false
 }
@@ -445,8 +470,7 @@ fn join_text(held: &mut [u8], n: usize, t: Text) -> usize
     ensures { (take result held.new ≡ join_text (take n held.old) (bytes_of t)) × (result ≤ n + 79) }
 {
     let m = n - 1;
-    let bytes = t.bytes;
-    if joining::adds_nothing(text::first_of(&bytes, t.len)) {
+    if adds_nothing(t) {
         return text::trim_end(&held[..m], Cut::Spaces).len();
     }
     put_text(t, t.len, held, m);
@@ -467,7 +491,7 @@ fn next_text(header: &[u8], j: usize, n: usize, texts: &mut [u8]) -> TextHeld
             let m = join_text(texts, n, own);
             TextHeld {
                 length: m,
-                reach: reach_by(joining::ends_open(&texts[..m])),
+                reach: reach_by(ends_open(&texts[..m])),
             }
         }
         Role::Neutral => TextHeld {
@@ -532,12 +556,11 @@ fn count_ampersands(before: usize, s: &[u8]) -> usize
 fn opens_by(k: usize, t: Text) -> bool
     ensures { result ≡ opens_by k (bytes_of t) }
 {
-    let bytes = t.bytes;
-    let own = text::first_of(&bytes, t.len);
-    if joining::adds_nothing(own) {
+    if adds_nothing(t) {
         return 0 < k;
     }
-    joining::ends_open(own)
+    let bytes = t.bytes;
+    ends_open(text::first_of(&bytes, t.len))
 }
 
 // A comment laid behind the n bytes of the one before it, if there is one, with a line feed between them, and how long they then are.

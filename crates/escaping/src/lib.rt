@@ -5,7 +5,7 @@ ghost use Rattle.std.proofs.lemmas.List.Edits.{sets};
 ghost use Rattle.escaping.specs.Escaping.{escape_outcome, hex_digit, escaped_byte, escape_of};
 
 // How much of a text was made visible: the bytes taken of it, and the bytes that they became.
-#[derive(Drop)]
+#[derive(Clone, Copy)]
 pub struct Escaped {
     pub taken: usize,
     pub put: usize,

@@ -12,28 +12,28 @@ use roles::Role;
 use text::{Place, Text};
 
 // Why a header is refused, and the number of the card at which it is.
-#[derive(Drop)]
+#[derive(Clone, Copy)]
 pub struct Stop {
     pub fault: Fault,
     pub card: usize,
 }
 
 // What reading a header answers: the number of END, or where it stops.
-#[derive(Drop)]
+#[derive(Clone, Copy)]
 pub enum Header {
     Accepted(usize),
     Refused(Stop),
 }
 
 // What finding a name answers: where the header stops; or the number of END, and the last card that bears the name.
-#[derive(Drop)]
+#[derive(Clone, Copy)]
 pub enum Found {
     Refused(Stop),
     Read { end: usize, last: Place },
 }
 
 // What a card comes to in the search for a name: the last card that bears the name so far, or that the reading stops.
-#[derive(Drop)]
+#[derive(Clone, Copy)]
 pub enum Pass {
     On(Place),
     Stops,

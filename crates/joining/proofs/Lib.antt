@@ -2,7 +2,3 @@
 pub mod Names
 pub mod Answers
 pub mod Owning
-pub mod Opening
-pub mod Grouped
-pub mod Tails
-pub mod Laid

@@ -2,7 +2,3 @@
 pub mod Words
 pub mod Lookup
 pub mod Belonging
-pub mod Pieces
--- That the grouping of joins is immaterial, and why the second piece must end in &.
-pub mod Grouping
-pub mod Conditions

@@ -16,9 +16,9 @@ use Rattle.numerals.proofs.Decimals.{few-digits, text-before}
 use Rattle.lines.specs.Lines.{kind_letter, reading_of, spaced_reading, times_part, entry_line, plain_line, PlainOnce}
 
 -- two texts that fit into one, made of u and of v
-pub both-whole : {front behind : Text} (u v : List ℕ) → front ≡ text_of u → behind ≡ text_of v → length u + length v ≤ size
+pub both_whole : {front behind : Text} (u v : List ℕ) → front ≡ text_of u → behind ≡ text_of v → length u + length v ≤ size
     → text_of (take size (bytes_of front ++ bytes_of behind)) ≡ text_of (u ++ v)
-both-whole {behind = behind} u v p q h =
+both_whole {behind = behind} u v p q h =
     ap (λ (l : List ℕ). text_of (take size (l ++ bytes_of behind))) (text-bytes u p) ∙ text-before u v q h
 
 -- ---- the number of cards

@@ -15,14 +15,14 @@ use refusal::{Column, Fault};
 use text::Text;
 
 // How many bytes a line has that was put into a lent buffer, or that the buffer is too short for it.
-#[derive(Drop)]
+#[derive(Clone, Copy)]
 pub enum Line {
     Written(usize),
     Short,
 }
 
 // What stands in the middle of an entry's line: the digits of a decimal, a text, or nothing.
-#[derive(Drop)]
+#[derive(Clone, Copy)]
 pub enum Middle {
     Digits,
     Words,

@@ -16,7 +16,7 @@ use text::Text;
 
 // A header's answer, and its names: for each place the number of the first card that bears the name, that of the last, and how many
 // cards bear it. The places behind the names are free, and no card bears a name there.
-#[derive(Drop)]
+#[derive(Clone, Copy)]
 pub struct Listing {
     pub header: Header,
     pub first: [usize; 720],
@@ -26,7 +26,7 @@ pub struct Listing {
 }
 
 // A header's answer, and how many names it has, beside the lent arrays that they are listed in.
-#[derive(Drop)]
+#[derive(Clone, Copy)]
 pub struct Listed {
     pub header: Header,
     pub count: usize,
@@ -49,7 +49,7 @@ const ASCII: usize = 128;
 const BASE: usize = ASCII + 1;
 
 // What a card comes to in the list: the reading goes on, with an entry or without, or it stops.
-#[derive(Drop)]
+#[derive(Clone, Copy)]
 enum Course {
     On { entry: bool },
     Stops,

@@ -11,7 +11,7 @@ use roles::Role;
 use text::Text;
 
 // What reading a name answers: how many bytes it has, or a refusal.
-#[derive(Drop)]
+#[derive(Clone, Copy)]
 pub enum Named {
     Bears(usize),
     Refused(Fault),

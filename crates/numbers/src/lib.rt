@@ -13,7 +13,7 @@ ghost use Rattle.numbers.specs.Numbers.{read_number};
 use text::{Change, Cut, Text};
 
 // How large a decimal is: finite, with the power of ten of its last digit; infinite; or not a number.
-#[derive(Drop)]
+#[derive(Clone, Copy)]
 pub enum Size {
     Finite(i64),
     Infinite,
@@ -22,7 +22,7 @@ pub enum Size {
 
 // The six kinds of value that a card carries. A float is negative or not, and has a size.
 // Its digits, and the text of a string or of an invalid value, stand beside the value.
-#[derive(Drop)]
+#[derive(Clone, Copy)]
 pub enum Value {
     Integer(i64),
     Float { minus: bool, size: Size },
@@ -34,14 +34,14 @@ pub enum Value {
 
 // What a text is as a number: an integer, a float or an invalid value.
 // The text holds the digits of a finite decimal or the altered text of an invalid number; otherwise it is empty.
-#[derive(Drop)]
+#[derive(Clone, Copy)]
 pub struct Number {
     pub value: Value,
     pub text: Text,
 }
 
 // What follows the digits of a decimal: an exponent, negative or not, by its size; or something else.
-#[derive(Drop)]
+#[derive(Clone, Copy)]
 enum Exponent {
     Ten { negative: bool, size: u64 },
     Nothing,

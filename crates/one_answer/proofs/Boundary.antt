@@ -6,14 +6,12 @@ use mathlib.Core.Path.{◌≡◌, sym, ◌∙◌}
 use Rattle.abi_value.specs.Telling.{UnitOutcome}
 use Rattle.abi_card.specs.Records.{card_outcome}
 use Rattle.abi_header.specs.Headers.{HeaderOutcome, ValueMemory, CommentMemory, list_outcome, NamedOutcome}
-use Rattle.abi_joining.specs.Joins.{TextsMemory, CommentsMemory}
 use Rattle.abi_writing.specs.Asking.{WrittenOutcome}
 use Rattle.abi_tile.specs.Tiles.{cursor_of}
 use Rattle.one_answer.specs.OneAnswer.{OneAnswer, pair_of}
 use Rattle.one_answer.proofs.Both.{both}
 use Rattle.abi_value.proofs.value_told.Reads as value-told-reads
 use Rattle.abi_value.proofs.bit.Reads as bit-reads
-use Rattle.abi_value.proofs.is_set.Reads as is-set-reads
 use Rattle.abi_value.proofs.unit_end.Reads as unit-end-reads
 use Rattle.abi_value.proofs.unit_past_space_end.Reads as unit-past-space-end-reads
 use Rattle.abi_value.proofs.column_after.Reads as column-after-reads
@@ -25,8 +23,6 @@ use Rattle.abi_header.proofs.entry_value_into.Reads as entry-value-into-reads
 use Rattle.abi_header.proofs.entry_comment_into.Reads as entry-comment-into-reads
 use Rattle.abi_header.proofs.list_into.Reads as list-into-reads
 use Rattle.abi_header.proofs.name_into.Reads as name-into-reads
-use Rattle.abi_joining.proofs.join_texts_into.Reads as join-texts-into-reads
-use Rattle.abi_joining.proofs.join_comments_into.Reads as join-comments-into-reads
 use Rattle.abi_writing.proofs.write_into.Reads as write-into-reads
 use Rattle.abi_tile.proofs.open_into.Reads as open-into-reads
 use Rattle.abi_tile.proofs.step_into.Reads as step-into-reads
@@ -42,8 +38,6 @@ use Rattle.widrekas.proofs.widrekas_entry_value.Reads as widrekas-entry-value-re
 use Rattle.widrekas.proofs.widrekas_entry_comment.Reads as widrekas-entry-comment-reads
 use Rattle.widrekas.proofs.widrekas_list.Reads as widrekas-list-reads
 use Rattle.widrekas.proofs.widrekas_name.Reads as widrekas-name-reads
-use Rattle.widrekas.proofs.widrekas_join_texts.Reads as widrekas-join-texts-reads
-use Rattle.widrekas.proofs.widrekas_join_comments.Reads as widrekas-join-comments-reads
 use Rattle.widrekas.proofs.widrekas_write.Reads as widrekas-write-reads
 use Rattle.widrekas.proofs.widrekas_open.Reads as widrekas-open-reads
 use Rattle.widrekas.proofs.widrekas_step.Reads as widrekas-step-reads
@@ -59,12 +53,6 @@ value_memory r text digits out number column =
 abbrev comment_memory : ℕ → List ℕ → ℕ → ℕ → ℕ → ℕ → CommentMemory
 comment_memory r comment commented bytes card column =
     record { answer = r; comment = comment; commented = commented; bytes = bytes; card = card; column = column }
-
-abbrev texts_memory : ℕ → List ℕ → ℕ → TextsMemory
-texts_memory r text bytes = record { answer = r; text = text; bytes = bytes }
-
-abbrev comments_memory : ℕ → List ℕ → ℕ → ℕ → CommentsMemory
-comments_memory r comment commented bytes = record { answer = r; comment = comment; commented = commented; bytes = bytes }
 
 abbrev unit_left : ℕ → ℕ → UnitOutcome
 unit_left r start = record { answer = r; start = start }
@@ -82,10 +70,6 @@ value_told_lem κs a r q s t x y = x ∙ sym y
 -- `abi_value::bit`
 pub bit : OneAnswer bit-reads.Post (λ r s. r)
 bit κs a r q s t x y = x ∙ sym y
-
--- `abi_value::is_set`
-pub is_set_lem : OneAnswer is-set-reads.Post (λ r s. r)
-is_set_lem κs a r q s t x y = x ∙ sym y
 
 -- `abi_value::unit_end`
 pub unit_end_lem : OneAnswer unit-end-reads.Post (λ r s. r)
@@ -140,15 +124,6 @@ list_into_lem κs a r q s t x y = x ∙ sym y
 pub name_into_lem : OneAnswer name-into-reads.Post
     (λ r s. name_left r s.1.1.0.now s.1.1.1.0.now s.1.1.1.1.0.now)
 name_into_lem κs a r q s t x y = x ∙ sym y
-
--- `abi_joining::join_texts_into`
-pub join_texts_into_lem : OneAnswer join-texts-into-reads.Post (λ r s. texts_memory r s.1.1.0.now s.1.1.1.0.now)
-join_texts_into_lem κs a r q s t x y = x ∙ sym y
-
--- `abi_joining::join_comments_into`
-pub join_comments_into_lem : OneAnswer join-comments-into-reads.Post
-    (λ r s. comments_memory r s.1.1.1.1.0.now s.1.1.1.1.1.0.now s.1.1.1.1.1.1.0.now)
-join_comments_into_lem κs a r q s t x y = x ∙ sym y
 
 -- `abi_writing::write_into`
 pub write_into_lem : OneAnswer write-into-reads.Post
@@ -226,15 +201,6 @@ widrekas_list_lem κs a r q s t x y = x ∙ sym y
 pub widrekas_name_lem : OneAnswer widrekas-name-reads.Post
     (λ r s. name_left r s.1.1.0.now s.1.1.1.0.now s.1.1.1.1.0.now)
 widrekas_name_lem κs a r q s t x y = x ∙ sym y
-
--- `widrekas::widrekas_join_texts`
-pub widrekas_join_texts_lem : OneAnswer widrekas-join-texts-reads.Post (λ r s. texts_memory r s.1.1.0.now s.1.1.1.0.now)
-widrekas_join_texts_lem κs a r q s t x y = x ∙ sym y
-
--- `widrekas::widrekas_join_comments`
-pub widrekas_join_comments_lem : OneAnswer widrekas-join-comments-reads.Post
-    (λ r s. comments_memory r s.1.1.1.1.0.now s.1.1.1.1.1.0.now s.1.1.1.1.1.1.0.now)
-widrekas_join_comments_lem κs a r q s t x y = x ∙ sym y
 
 -- `widrekas::widrekas_write`
 pub widrekas_write_lem : OneAnswer widrekas-write-reads.Post

@@ -1,6 +1,5 @@
--- One answer: a header's cards, joining, finding, entries, the list and a name, each with the buffers that are lent.
+-- One answer: a header's cards, finding, entries, the list and a name, each with the buffers that are lent.
 use mathlib.Core.Path.{◌≡◌, sym, ◌∙◌}
-use Rattle.joining.specs.Pieces.{join_left}
 use Rattle.entries.specs.Halves.{value_left, comment_left}
 use Rattle.listing.specs.Listing.{listing_by}
 use Rattle.naming.specs.Naming.{naming_by}
@@ -9,10 +8,6 @@ use Rattle.roles.proofs.is_bad_length.Reads as is-bad-length-reads
 use Rattle.roles.proofs.card_count.Reads as card-count-reads
 use Rattle.roles.proofs.card_at.Reads as card-at-reads
 use Rattle.roles.proofs.role_of.Reads as role-of-reads
-use Rattle.joining.proofs.join_two_texts.Reads as join-two-texts-reads
-use Rattle.joining.proofs.join_two_comments.Reads as join-two-comments-reads
-use Rattle.joining.proofs.ends_open.Reads as ends-open-reads
-use Rattle.joining.proofs.adds_nothing.Reads as adds-nothing-reads
 use Rattle.finding.proofs.find.Reads as find-reads
 use Rattle.finding.proofs.read_header.Reads as read-header-reads
 use Rattle.finding.proofs.stop_at.Reads as stop-at-reads
@@ -41,22 +36,6 @@ card_at_lem κs a r q s t x y = x ∙ sym y
 -- `roles::role_of`
 pub role_of_lem : OneAnswer role-of-reads.Post (λ r s. r)
 role_of_lem κs a r q s t x y = x ∙ sym y
-
--- `joining::join_two_texts`
-pub join-two_texts : OneAnswer join-two-texts-reads.Post (λ r s. join_left r s.1.1.0.now)
-join-two_texts κs a r q s t x y = x ∙ sym y
-
--- `joining::join_two_comments`
-pub join-two_comments : OneAnswer join-two-comments-reads.Post (λ r s. join_left r s.1.1.1.1.0.now)
-join-two_comments κs a r q s t x y = x ∙ sym y
-
--- `joining::ends_open`
-pub ends_open : OneAnswer ends-open-reads.Post (λ r s. r)
-ends_open κs a r q s t x y = x ∙ sym y
-
--- `joining::adds_nothing`
-pub adds_nothing_lem : OneAnswer adds-nothing-reads.Post (λ r s. r)
-adds_nothing_lem κs a r q s t x y = x ∙ sym y
 
 -- `finding::find`
 pub find : OneAnswer find-reads.Post (λ r s. r)

@@ -6,7 +6,7 @@ ghost use Rattle.escaping.specs.Escaping.{escaped};
 ghost use Rattle.output.specs.Shown.{printed_line, IsWhole};
 
 // All bytes were taken, so many; or a write failed, and some may be missing.
-#[derive(Drop)]
+#[derive(Clone, Copy)]
 pub enum Printed {
     Whole(usize),
     Cut,

@@ -17,7 +17,7 @@ use lines::Line;
 use output::Printed;
 
 // What became of a header: whether it is accepted, and whether its lines were written.
-#[derive(Drop)]
+#[derive(Clone, Copy)]
 pub struct Report {
     pub header: Header,
     pub printed: Printed,

@@ -7,14 +7,14 @@ ghost use Rattle.reader.specs.Fields.{at_place, behind, field_of, zeros_of};
 use rice::{Cursor, Taken};
 
 // The tile, and the place of the next bit.
-#[derive(Drop)]
+#[derive(Clone, Copy)]
 pub struct Reader<'a> {
     pub tile: &'a [u8],
     pub bit: usize,
 }
 
 // A number, and the place after it; or it cannot be had.
-#[derive(Drop)]
+#[derive(Clone, Copy)]
 pub enum Field {
     Bits(u64, usize),
     Short,

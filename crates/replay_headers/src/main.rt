@@ -24,7 +24,7 @@ use value::UnitPlace;
 const HEADERS: usize = 10000;
 
 // The cards of the next header, or none where the list ends.
-#[derive(Drop)]
+#[derive(Clone, Copy)]
 enum Next {
     Cards(usize),
     End,

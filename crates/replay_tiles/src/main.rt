@@ -24,7 +24,7 @@ const TILES: usize = 10000;
 const HEAD: usize = 10;
 
 // The numbers in front of a stored tile.
-#[derive(Drop)]
+#[derive(Clone, Copy)]
 struct Stored {
     bits: usize,
     nx: usize,
@@ -33,7 +33,7 @@ struct Stored {
 }
 
 // The next stored tile, or none where the list ends.
-#[derive(Drop)]
+#[derive(Clone, Copy)]
 enum Next {
     Tile(Stored),
     End,

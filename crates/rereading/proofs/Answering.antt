@@ -11,20 +11,18 @@ use Rattle.text.specs.Ends.{ends_with}
 use Rattle.text.proofs.Comparing.{same_self}
 use Rattle.numbers.specs.declared.Value.{Value}
 use Rattle.numbers.specs.declared.Value.TheVariants.{String}
-use Rattle.roles.specs.Roles.{Comment, Piece, Words, Held, Role, entry, role_of}
+use Rattle.roles.specs.Roles.{Comment, Words, Held, Role, entry, role_of}
 use Rattle.joining.specs.Words.{ends_open, opens}
 use Rattle.joining.specs.Lookup.{join_on, is_open, whole, lookup}
 use Rattle.joining.specs.Belonging.{Open, ended}
 use Rattle.joining.proofs.Answers.{join_on_shut}
 use Rattle.agreeing.specs.Firsts.{times_borne}
-use Rattle.writing.specs.Pieces.{pieces_of}
+use Rattle.writing.specs.Pieces.{Piece, pieces_of}
 use Rattle.writing.specs.Written.{written_cards, held_for}
 use Rattle.writing.specs.Rules.{is_name, is_writable}
-use Rattle.joining.specs.Pieces.{more_of}
-use Rattle.joining.proofs.Opening.{open_text_lem}
 use Rattle.rereading.proofs.Endings.{last_is}
-use Rattle.rereading.proofs.Cutting.{head_part, parts_whole, Cut, pieces_cut, final, goes_on}
-use Rattle.rereading.proofs.Roles.{held_string, roles_for, string_roles}
+use Rattle.rereading.proofs.Cutting.{head_part, open_text_lem, parts_whole, Cut, pieces_cut, final, goes_on}
+use Rattle.rereading.proofs.Roles.{held_string, more_of, roles_for, string_roles}
 use Rattle.rereading.proofs.Joining.{words_of, join_pieces_lem}
 use Rattle.rereading.proofs.Strings.{string_shut, string-end, one_space, text_sound}
 use Rattle.rereading.proofs.Forms.{Formed, written_formed, one-card, string_cards_lem}

@@ -5,15 +5,14 @@ use mathlib.Core.Bool.{false}
 use mathlib.Core.List.{List, [], ◌++◌, map}
 use mathlib.Core.Option.{none}
 use Rattle.text.specs.Bytes.{is_space}
-use Rattle.roles.specs.Roles.{Comment, Piece, Role, more}
+use Rattle.roles.specs.Roles.{Comment, Role, more}
 use Rattle.joining.specs.Words.{ends_open, join_comment, opens, join_words}
 use Rattle.joining.specs.Belonging.{Entry, Open, ended, idle, held, gives, does, leaves}
-use Rattle.joining.specs.Pieces.{more_of}
-use Rattle.joining.proofs.Opening.{open_text_lem, join_open}
+use Rattle.writing.specs.Pieces.{Piece}
 use Rattle.rereading.proofs.Endings.{last_is}
-use Rattle.rereading.proofs.Cutting.{head_part, parts_whole, parts_behind, Cut, final, goes_on}
-use Rattle.rereading.proofs.Roles.{held_string, roles_for}
-use Rattle.rereading.proofs.Joining.{opens-here, join_last}
+use Rattle.rereading.proofs.Cutting.{head_part, open_text_lem, parts_whole, parts_behind, Cut, final, goes_on}
+use Rattle.rereading.proofs.Roles.{held_string, more_of, roles_for}
+use Rattle.rereading.proofs.Joining.{opens-here, join_last, join_open}
 use Rattle.rereading.proofs.Owning.{Owns, bears-entry, at_end, gives_one}
 
 abbrev entry_of : List ℕ → List ℕ → Comment → Entry

@@ -9,8 +9,8 @@ use borrow.Author.Tests.{le-leb, leb-false}
 use lib.Dec.{leb}
 use lib.ListN.{length, length-map}
 use Rattle.numbers.specs.declared.Value.{Value}
-use Rattle.roles.specs.Roles.{Comment, Piece}
-use Rattle.writing.specs.Pieces.{bytes_for, leftover, piece_text, text_room, open_room, fits, last_piece, open_piece, pieces_from}
+use Rattle.roles.specs.Roles.{Comment}
+use Rattle.writing.specs.Pieces.{bytes_for, leftover, Piece, piece_text, text_room, open_room, fits, last_piece, open_piece, pieces_from}
 use Rattle.writing.specs.Pieces.{pieces_of}
 use Rattle.writing.specs.Written.{card_from, continue_front, string_cards}
 use Rattle.writing.specs.Rules.{is_short, remark_limit}

@@ -8,14 +8,13 @@ use mathlib.Core.Option.{none, some}
 use lib.Dec.{eqb, leb}
 use Rattle.text.specs.Bytes.{ascii, is_space, is_printable}
 use Rattle.splitting.specs.Strings.{settled_of}
-use Rattle.roles.specs.Roles.{Comment, Piece}
-use Rattle.joining.proofs.Opening.{open_text_lem}
-use Rattle.writing.specs.Pieces.{doubled, quoted, tail_of, bytes_for, fitting, leftover, piece_text, open_room, fits, last_piece}
+use Rattle.roles.specs.Roles.{Comment}
+use Rattle.writing.specs.Pieces.{doubled, quoted, tail_of, bytes_for, fitting, leftover, Piece, piece_text, open_room, fits, last_piece}
 use Rattle.writing.specs.Pieces.{open_piece, pieces_from}
 use Rattle.writing.specs.Rules.{every, is_comment}
 use Rattle.rereading.proofs.Lists.{All, no_more, also}
 use Rattle.rereading.proofs.Endings.{every_first, every_rest, every_append, last_is, last-behind}
-use Rattle.rereading.proofs.Splitting.{remark-printable}
+use Rattle.rereading.proofs.Splitting.{remark_printable}
 use Rattle.rereading.proofs.Valuing.{settled_kept}
 
 -- ---- what fits and what is left are the whole
@@ -49,6 +48,10 @@ head_part s = fitting open_room s
 
 abbrev pub rest_part : List ℕ → List ℕ
 rest_part s = leftover open_room s
+
+-- a text that ends in &
+abbrev pub open_text_lem : List ℕ → List ℕ
+open_text_lem s = s ++ ascii "&"
 
 pub parts_whole : (s : List ℕ) → head_part s ++ rest_part s ≡ s
 parts_whole s = cut-whole open_room s
@@ -117,11 +120,11 @@ doubled-printable (b ∷ s) e = go (eqb b (code "'")) (doubled-printable s (ever
 pub tail_printable : (c : Comment) → is_comment c ≡ true → every is_printable (tail_of c) ≡ true
 unfolding every is_printable
 tail_printable none y = refl
-tail_printable (some c) y = remark-printable c y
+tail_printable (some c) y = remark_printable c y
 
-pub piece-printable : {p : Piece} → Sound p → every is_printable (piece_text p) ≡ true
+pub piece_printable : {p : Piece} → Sound p → every is_printable (piece_text p) ≡ true
 unfolding every is_printable
-piece-printable {p} h =
+piece_printable {p} h =
     every_append is_printable (quoted p.text) (tail_of p.comment)
     (every_append is_printable (doubled p.text) (ascii "'") (doubled-printable p.text h.printable) refl)
     (tail_printable p.comment h.remark)

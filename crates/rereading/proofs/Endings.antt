@@ -5,13 +5,15 @@ use native.Mathlib.Omega.{arith}
 use mathlib.Core.Path.{◌≡◌, refl, ap, ◌∙◌}
 use mathlib.Core.Bool.{Bool, true, false, ◌||◌}
 use mathlib.Core.List.{List, [], ◌∷◌, ◌++◌, map}
-use borrow.Author.Tests.{ne_eqb, lt-leb, leb-true}
+use borrow.Author.Tests.{eq-eqb, ne_eqb, lt-leb, leb-true}
 use lib.Dec.{eqb, leb}
 use lib.ListN.{length, replicate, get_or}
+use lib.Seq.{get_or_at, take_at}
 use Rattle.laws.proofs.Truths.{and_both}
 use Rattle.text.specs.Bytes.{is_space, is_blank, is_printable, shown, line_feed, tab, form_feed, carriage_return}
 use Rattle.text.specs.Trim.{trim_start, trim_end, trim, cons_trimmed}
-use Rattle.text.specs.Ends.{ends_with}
+use Rattle.text.specs.Ends.{stem, ends_with}
+use Rattle.text.proofs.Texts.{length-put}
 use Rattle.card.specs.Keywords.{has_high, first_high}
 use Rattle.writing.specs.Rules.{every}
 
@@ -104,6 +106,19 @@ ends_with_lem b e (x ∷ s) = last_byte (λ (y : ℕ). eqb y b) x s
 pub ends_space : (s : List ℕ) → ends_with (code " ") s ≡ last_is is_space s
 unfolding is_space
 ends_space s = ends_with_lem (code " ") refl s
+
+-- ---- a byte put at the end
+module _ (s : List ℕ) (b : ℕ) where
+  last-place : length s ≡ length (s ++ b ∷ []) - 1
+  last-place = let long : length (s ++ b ∷ []) ≡ length s + 1 = length-put s b in omega arith
+
+  pub stem-behind : stem (s ++ b ∷ []) ≡ s
+  unfolding stem
+  stem-behind = take_at s (b ∷ []) _ last-place
+
+  pub ends_behind : ends_with b (s ++ b ∷ []) ≡ true
+  unfolding ends_with
+  ends_behind = ap (λ (x : ℕ). eqb x b) (get_or_at s b [] 0 _ last-place) ∙ eq-eqb b b refl
 
 -- ---- trimming by the last byte
 module _ (p : ℕ → Bool) where

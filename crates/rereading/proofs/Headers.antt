@@ -18,21 +18,21 @@ use Rattle.rereading.specs.ReadsBack.{MayWrite, spoken, goes_on, StandIn, ReadsB
 use Rattle.rereading.proofs.Answering.{written_back}
 
 -- ---- commentary counts for nothing
-join-spoken : (w : Words) (h : List Role) → join_on w (spoken h) ≡ join_on w h
+join_spoken : (w : Words) (h : List Role) → join_on w (spoken h) ≡ join_on w h
 unfolding join_on spoken
-join-spoken w [] = refl
-join-spoken w (entry n v ∷ h) = refl
-join-spoken w (more t c ∷ h) = ap (λ (x : Words). cond (opens w) x w) (join-spoken (join_words w t c) h)
-join-spoken w (neutral ∷ h) = join-spoken w h
-join-spoken w (last ∷ h) = refl
-join-spoken w (refused f ∷ h) = join-spoken w h
+join_spoken w [] = refl
+join_spoken w (entry n v ∷ h) = refl
+join_spoken w (more t c ∷ h) = ap (λ (x : Words). cond (opens w) x w) (join_spoken (join_words w t c) h)
+join_spoken w (neutral ∷ h) = join_spoken w h
+join_spoken w (last ∷ h) = refl
+join_spoken w (refused f ∷ h) = join_spoken w h
 
 pub lookup-spoken : (n : List ℕ) (h : List Role) → lookup n (spoken h) ≡ lookup n h
 unfolding lookup spoken
 lookup-spoken n [] = refl
 lookup-spoken n (entry m v ∷ h) =
     let held-so : Words → Held = λ w. record { value = v.value; digits = v.digits; words = w } in
-    ap₂ (λ (x : Option Held) (w : Words). or_else x (if_same m n (held-so w))) (lookup-spoken n h) (join-spoken v.words h)
+    ap₂ (λ (x : Option Held) (w : Words). or_else x (if_same m n (held-so w))) (lookup-spoken n h) (join_spoken v.words h)
 lookup-spoken n (more t c ∷ h) = lookup-spoken n h
 lookup-spoken n (neutral ∷ h) = lookup-spoken n h
 lookup-spoken n (last ∷ h) = refl

@@ -5,16 +5,15 @@ use mathlib.Core.Path.{◌≡◌, refl, sym, ap, ◌∙◌}
 use mathlib.Core.Bool.{true, false}
 use mathlib.Core.List.{List, [], ◌∷◌, ◌++◌, append_assoc, append-nil, map}
 use mathlib.Core.Option.{none}
-use Rattle.text.proofs.Endings.{stem-behind}
 use Rattle.text.specs.Bytes.{is_space}
 use Rattle.text.specs.Trim.{trim_end}
-use Rattle.roles.specs.Roles.{Comment, Piece, Words, Role, more}
+use Rattle.roles.specs.Roles.{Comment, Words, Role, more}
 use Rattle.joining.specs.Words.{ends_open, adds_nothing, join_text, join_comment, opens, join_words}
 use Rattle.joining.specs.Lookup.{join_on}
-use Rattle.joining.specs.Pieces.{more_of}
-use Rattle.joining.proofs.Opening.{open_text_lem, behind-opens, join_open}
-use Rattle.rereading.proofs.Endings.{last_is, end_kept}
-use Rattle.rereading.proofs.Cutting.{last-back, head_part, parts_behind, Cut, final, goes_on}
+use Rattle.writing.specs.Pieces.{Piece}
+use Rattle.rereading.proofs.Endings.{last_is, stem-behind, ends_behind, end_kept}
+use Rattle.rereading.proofs.Cutting.{last-back, head_part, open_text_lem, parts_behind, Cut, final, goes_on}
+use Rattle.rereading.proofs.Roles.{more_of}
 
 -- the words of a string so far
 abbrev pub words_of : List ℕ → Comment → Words
@@ -22,8 +21,15 @@ words_of s c = record { text = s; comment = c; joins = true }
 
 -- a text that ends in & is open
 pub opens-here : (a : List ℕ) (c : Comment) → opens (words_of (open_text_lem a) c) ≡ true
-unfolding opens
-opens-here a c = behind-opens a
+unfolding opens ends_open
+opens-here a c = ends_behind a (code "&")
+
+-- a text that ends in & adds something
+open_adds : (s : List ℕ) → adds_nothing (open_text_lem s) ≡ false
+unfolding adds_nothing is_space
+open_adds [] = refl
+open_adds (b ∷ []) = refl
+open_adds (b ∷ c ∷ s) = refl
 
 -- the last text is put on
 pub join_last : (a s : List ℕ) → last_is is_space (a ++ s) ≡ false → join_text (open_text_lem a) s ≡ a ++ s
@@ -34,6 +40,11 @@ join_last a [] e =
     ∙ sym (append-nil a)
 join_last a (b ∷ []) e = rw (last-back is_space a (b ∷ []) e, stem-behind a (code "&"))
 join_last a (b ∷ c ∷ s) e = rw (stem-behind a (code "&"))
+
+-- and so is one that ends in &
+pub join_open : (a s : List ℕ) → join_text (open_text_lem a) (open_text_lem s) ≡ open_text_lem (a ++ s)
+unfolding join_text
+join_open a s = rw (open_adds s, stem-behind a (code "&"), append_assoc)
 
 step : (a s : List ℕ) (c : Comment) (t : List ℕ) → join_text (open_text_lem a) s ≡ t → (h : List Role)
     → join_on (words_of (open_text_lem a) none) (more s c ∷ h) ≡ join_on (words_of t c) h

@@ -12,15 +12,14 @@ use lib.ListN.{length}
 use Rattle.text.specs.Text.{size}
 use Rattle.text.proofs.Texts.{length-put}
 use Rattle.numbers.specs.declared.Value.{Value}
-use Rattle.roles.specs.Roles.{Comment, Piece}
-use Rattle.joining.proofs.Opening.{open_text_lem}
-use Rattle.writing.specs.Pieces.{doubled, quoted, bytes_for, fitting, leftover, piece_text, text_room, open_room, fits, last_piece}
+use Rattle.roles.specs.Roles.{Comment}
+use Rattle.writing.specs.Pieces.{doubled, quoted, bytes_for, fitting, leftover, Piece, piece_text, text_room, open_room, fits, last_piece}
 use Rattle.writing.specs.Pieces.{open_piece, pieces_from}
 use Rattle.writing.specs.Written.{card_from, name_front, continue_front, plain_text, string_cards, written_cards}
 use Rattle.writing.specs.Rules.{is_name, is_short, remark_limit, is_writable}
 use Rattle.rereading.proofs.Lists.{All, all_map, no_more, also}
 use Rattle.rereading.proofs.Fronts.{front_long, card-long}
-use Rattle.rereading.proofs.Cutting.{head_part, rest_part}
+use Rattle.rereading.proofs.Cutting.{head_part, rest_part, open_text_lem}
 use Rattle.rereading.proofs.Forms.{Formed, written_formed, one-card, string_cards_lem}
 
 -- ---- the pieces fit

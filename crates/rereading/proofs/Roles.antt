@@ -16,10 +16,9 @@ use Rattle.numbers.specs.declared.Value.TheVariants.{String}
 use Rattle.value.specs.Values.{keeps_comment, value_as}
 use Rattle.card.specs.declared.CardRead.{CardRead}
 use Rattle.card.specs.Cards.{of_value, string_card, continued, continuation_of, unplaced_of}
-use Rattle.roles.specs.Roles.{Comment, Piece, Held, Role, entry, more, comment_of, role_of}
-use Rattle.joining.specs.Pieces.{more_of}
+use Rattle.roles.specs.Roles.{Comment, Held, Role, entry, more, comment_of, role_of}
 use Rattle.entries.specs.Answers.{is_there, bytes_in}
-use Rattle.writing.specs.Pieces.{piece_text}
+use Rattle.writing.specs.Pieces.{Piece, piece_text}
 use Rattle.writing.specs.Written.{card_from, name_front, continue_front, string_cards, held_for}
 use Rattle.writing.specs.Rules.{is_name}
 use Rattle.rereading.proofs.Lists.{All, no_more, also}
@@ -27,7 +26,7 @@ use Rattle.rereading.proofs.Scanning.{within}
 use Rattle.rereading.proofs.Splitting.{halves_of_lem, split_quoted}
 use Rattle.rereading.proofs.Valuing.{string-within, value-quoted}
 use Rattle.rereading.proofs.Fronts.{left, card-read, continue_read, continue_text, role_by_lem}
-use Rattle.rereading.proofs.Cutting.{Sound, piece-printable}
+use Rattle.rereading.proofs.Cutting.{Sound, piece_printable}
 
 -- a comment that was read
 comment-back : (c : Comment) → comment_of (is_there c) (bytes_of (text_of (bytes_in c))) ≡ c
@@ -54,7 +53,7 @@ string_role : (name : List ℕ) → is_name name ≡ true → {p : Piece} → So
 string_role name e {p} h =
     let room = left (name_front name) (piece_text p) in
     value_role (card_from (name_front name) (piece_text p)) name String p.text p.comment refl
-    (card-read name (piece_text p) e (piece-printable h)
+    (card-read name (piece_text p) e (piece_printable h)
     ∙ ap (of_value false (text_of name)) (value-quoted p.text h.printable h.settles 0 room p.comment h.remark))
 
 -- and a CONTINUE card likewise
@@ -73,7 +72,7 @@ unfolding continuation_of
 continue_role {p} h =
     let room = left continue_front (piece_text p) in
     role_by_lem (card_from continue_front (piece_text p))
-    (continue_read (piece_text p) (piece-printable h)
+    (continue_read (piece_text p) (piece_printable h)
     ∙ ap (λ (t : List ℕ). read_by (split_of t)) (continue_text (piece_text p))
     ∙ ap read_by (split_quoted p.text h.printable 2 room p.comment h.remark)
     ∙ halves-read p.text p.comment
@@ -81,6 +80,9 @@ continue_role {p} h =
     ∙ ap₂ more (bytes-text _ ∙ h.settles) (comment-back p.comment)
 
 -- the roles of a string's cards
+abbrev pub more_of : Piece → Role
+more_of p = more p.text p.comment
+
 abbrev pub roles_for : List ℕ → List Piece → List Role
 roles_for name [] = []
 roles_for name (p ∷ ps) = entry name (held_string p.text p.comment) ∷ map more_of ps

@@ -18,7 +18,7 @@ use Rattle.writing.specs.Rules.{every, is_name}
 use Rattle.rereading.specs.ReadsBack.{EachIsSound}
 use Rattle.rereading.proofs.Lists.{All, all_at, no_more, also}
 use Rattle.rereading.proofs.Fronts.{front-printable, continue_printable, card-printable}
-use Rattle.rereading.proofs.Cutting.{Sound, piece-printable}
+use Rattle.rereading.proofs.Cutting.{Sound, piece_printable}
 use Rattle.rereading.proofs.Strings.{text_sound}
 use Rattle.rereading.proofs.Forms.{Formed, written_formed, one-card, string_cards_lem}
 use Rattle.rereading.proofs.Owning.{Owns, gives_one}
@@ -36,8 +36,8 @@ formed_printable {name} {c} good (one-card {v} {text} {t} one) =
     also (card-printable (name_front name) (plain_text t c) (front-printable name good) one.printable) no_more
 formed_printable {name} {c} good (string_cards_lem {s} is remark short) =
     string_all Sound Printable name
-    (λ p h. card-printable (name_front name) (piece_text p) (front-printable name good) (piece-printable h))
-    (λ p h. card-printable continue_front (piece_text p) continue_printable (piece-printable h)) (text_sound s c is remark short)
+    (λ p h. card-printable (name_front name) (piece_text p) (front-printable name good) (piece_printable h))
+    (λ p h. card-printable continue_front (piece_text p) continue_printable (piece_printable h)) (text_sound s c is remark short)
 
 -- ---- a card that gives an entry is read
 abbrev IsRead : List ℕ → Type 0

@@ -46,24 +46,24 @@ unfolding scan_from
 ends_here q n = refl
 
 -- ---- a comment that may be written
-pub remark-printable : (c : List ℕ) → is_remark c ≡ true → every is_printable c ≡ true
+pub remark_printable : (c : List ℕ) → is_remark c ≡ true → every is_printable c ≡ true
 unfolding is_remark
-remark-printable c e = (and_both (every is_printable c) (not (ends_with (code " ") c)) e).0
+remark_printable c e = (and_both (every is_printable c) (not (ends_with (code " ") c)) e).0
 
-remark-end : (c : List ℕ) → is_remark c ≡ true → last_is is_space c ≡ false
+remark_end : (c : List ℕ) → is_remark c ≡ true → last_is is_space c ≡ false
 unfolding is_remark
-remark-end c e =
+remark_end c e =
     sym (ends_space c)
     ∙ not-true (ends_with (code " ") c) (and_both (every is_printable c) (not (ends_with (code " ") c)) e).1
 
-remark-last : (c : List ℕ) → is_remark c ≡ true → last_is is_blank (code "/" ∷ c) ≡ false
+remark_last : (c : List ℕ) → is_remark c ≡ true → last_is is_blank (code "/" ∷ c) ≡ false
 unfolding last_is is_blank
-remark-last [] e = refl
-remark-last (b ∷ c) e =
-    last_agrees is_printable is_blank is_space blank_printable (b ∷ c) (remark-printable (b ∷ c) e) ∙ remark-end (b ∷ c) e
+remark_last [] e = refl
+remark_last (b ∷ c) e =
+    last_agrees is_printable is_blank is_space blank_printable (b ∷ c) (remark_printable (b ∷ c) e) ∙ remark_end (b ∷ c) e
 
-remark-read : (c : List ℕ) → is_remark c ≡ true → trim_end is_space (map shown c) ≡ c
-remark-read c e = ap (trim_end is_space) (shown_all c (remark-printable c e)) ∙ end_kept is_space c (remark-end c e)
+remark_read : (c : List ℕ) → is_remark c ≡ true → trim_end is_space (map shown c) ≡ c
+remark_read c e = ap (trim_end is_space) (shown_all c (remark_printable c e)) ∙ end_kept is_space c (remark_end c e)
 
 -- a value text and a comment, as splitting finds them
 abbrev pub halves_of_lem : List ℕ → Comment → Halves
@@ -92,7 +92,7 @@ module _ {q : Quoting} (d : ℕ) (t : List ℕ) (e : ℕ) (v : List ℕ) (out : 
   tail_last : (c : Comment) → is_comment c ≡ true → last_is is_blank ((d ∷ t) ++ tail_of c) ≡ false
   unfolding last_is
   tail_last none y = ap (last_is is_blank) (append-nil (d ∷ t)) ∙ ending
-  tail_last (some c) y = last-behind is_blank (d ∷ t) (code " ") (code "/" ∷ c) ∙ remark-last c y
+  tail_last (some c) y = last-behind is_blank (d ∷ t) (code " ") (code "/" ∷ c) ∙ remark_last c y
 
   trimmed : (n m : ℕ) (c : Comment) → is_comment c ≡ true
       → trim is_blank (spaced n m ((d ∷ t) ++ tail_of c)) ≡ (d ∷ t) ++ tail_of c
@@ -117,7 +117,7 @@ module _ {q : Quoting} (d : ℕ) (t : List ℕ) (e : ℕ) (v : List ℕ) (out : 
       ap (λ (r : Scan). parts_at r.place ((d ∷ t) ++ tail) r.value)
       (pass tail ∙ ap (put_before (e ∷ v)) (slash_ends out c (length (d ∷ t))))
       ∙ ap₂ (λ (w k : List ℕ). halves_of_lem w (some k)) value-spaced
-      (ap (λ (k : List ℕ). trim_end is_space (map shown k)) cut ∙ remark-read c y)
+      (ap (λ (k : List ℕ). trim_end is_space (map shown k)) cut ∙ remark_read c y)
 
   -- a value that the scan passes, with its comment, among spaces
   split_read : (n m : ℕ) (c : Comment) → is_comment c ≡ true

@@ -5,7 +5,6 @@ use mathlib.Core.Path.{◌≡◌, refl, ap, ◌∙◌}
 use mathlib.Core.Bool.{Bool, true, false}
 use mathlib.Core.List.{List, [], ◌∷◌, ◌++◌}
 use mathlib.Core.Option.{none, some}
-use Rattle.text.proofs.Endings.{stem-behind, ends_behind}
 use Rattle.text.specs.declared.Text.{Text}
 use Rattle.text.specs.Bytes.{ascii, is_space, is_printable}
 use Rattle.text.specs.Trim.{trim_end, cons_trimmed}
@@ -21,7 +20,7 @@ use Rattle.roles.specs.Roles.{Comment}
 use Rattle.entries.specs.Answers.{is_there, bytes_in}
 use Rattle.writing.specs.Pieces.{quoted, tail_of}
 use Rattle.writing.specs.Rules.{every, is_comment}
-use Rattle.rereading.proofs.Endings.{last_is, end_kept}
+use Rattle.rereading.proofs.Endings.{last_is, stem-behind, ends_behind, end_kept}
 use Rattle.rereading.proofs.Scanning.{within}
 use Rattle.rereading.proofs.Splitting.{halves_of_lem, spaced, split_quoted}
 

@@ -11,7 +11,7 @@ use super::{Cursor, Taken, bits};
 const MODULUS: u64 = 0x1_0000_0000;
 
 // The highest `count` bits held are the tile's from the place `bit` on, the others are 0.
-#[derive(Drop)]
+#[derive(Clone, Copy)]
 pub struct Ahead {
     pub bit: usize,
     pub held: u64,
@@ -19,7 +19,7 @@ pub struct Ahead {
 }
 
 // A number, and what is ahead after it; or the tile ends before its bits.
-#[derive(Drop)]
+#[derive(Clone, Copy)]
 pub enum Got {
     Bits(u64, Ahead),
     Short,

@@ -31,7 +31,7 @@ pub const MOST_BYTES: usize = 8_388_608;
 pub const MOST_BITS: usize = 32;
 
 // The place of the next block's first bit, how many pixels are done, and the last of them.
-#[derive(Drop)]
+#[derive(Clone, Copy)]
 pub struct Cursor {
     pub bit: usize,
     pub done: usize,
@@ -39,21 +39,21 @@ pub struct Cursor {
 }
 
 // A number, and the cursor after it; or it cannot be had.
-#[derive(Drop)]
+#[derive(Clone, Copy)]
 pub enum Taken {
     Bits(u64, Cursor),
     Short,
 }
 
 // What opening a tile comes to.
-#[derive(Drop)]
+#[derive(Clone, Copy)]
 pub enum Opened {
     At(Cursor),
     Refused(Fault),
 }
 
 // What a step comes to: nothing is left; the cursor at the next block; a refusal, after so many pixels of the step.
-#[derive(Drop)]
+#[derive(Clone, Copy)]
 pub enum Stepped {
     Done,
     Next(Cursor),
@@ -61,7 +61,7 @@ pub enum Stepped {
 }
 
 // What decoding a tile whole comes to: the bits used; a refusal, after so many pixels.
-#[derive(Drop)]
+#[derive(Clone, Copy)]
 pub enum Decoded {
     Whole(usize),
     Refused { fault: Fault, written: usize },

@@ -13,7 +13,7 @@ use super::words::Four;
 use super::{ahead, bits, words};
 
 // Where the filling of a block stands: the place of the next number, the last pixel counted from the lowest one, and the next pixel.
-#[derive(Drop)]
+#[derive(Clone, Copy)]
 pub struct Spot {
     pub bit: usize,
     pub level: u64,
@@ -21,7 +21,7 @@ pub struct Spot {
 }
 
 // What filling comes to: the spot at the block's end; or the tile ends, after so many pixels.
-#[derive(Drop)]
+#[derive(Clone, Copy)]
 pub enum Came {
     To(Spot),
     Short(usize),

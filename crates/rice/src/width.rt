@@ -9,7 +9,7 @@ ghost use Rattle.rice.specs.Filling.{raised};
 const HIGHEST: u64 = 0xffff_ffff;
 
 // How many bits a pixel has.
-#[derive(Drop)]
+#[derive(Clone, Copy)]
 pub enum Width {
     Eight,
     Sixteen,
@@ -17,14 +17,14 @@ pub enum Width {
 }
 
 // The width, where all limits are kept.
-#[derive(Drop)]
+#[derive(Clone, Copy)]
 pub enum Planned {
     Of(Width),
     None,
 }
 
 // How a block's differences are written: all 0; in so many bits each; in a run of zeros, a one and so many bits.
-#[derive(Drop)]
+#[derive(Clone, Copy)]
 pub enum Code {
     Same,
     Raw(usize),
@@ -32,7 +32,7 @@ pub enum Code {
 }
 
 // What an FS field says.
-#[derive(Drop)]
+#[derive(Clone, Copy)]
 pub enum Coded {
     Known(Code),
     Above,

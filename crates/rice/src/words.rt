@@ -17,7 +17,7 @@ const MORE: usize = 128;
 const SHORT: usize = 10;
 
 // The number of a code word, its bits and 128 more, and what follows it.
-#[derive(Drop)]
+#[derive(Clone, Copy)]
 pub struct Word {
     pub value: u64,
     pub used: usize,
@@ -25,21 +25,21 @@ pub struct Word {
 }
 
 // The number that stands for the difference of a block of one pixel, and the place after it; or it is not had so.
-#[derive(Drop)]
+#[derive(Clone, Copy)]
 pub enum One {
     Of(u64, usize),
     None,
 }
 
 // Two such numbers.
-#[derive(Drop)]
+#[derive(Clone, Copy)]
 pub enum Two {
     Of(u64, u64, usize),
     None,
 }
 
 // Four of them.
-#[derive(Drop)]
+#[derive(Clone, Copy)]
 pub enum Four {
     Of(u64, u64, u64, u64, usize),
     None,

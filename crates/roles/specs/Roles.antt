@@ -17,11 +17,6 @@ use Rattle.roles.specs.declared.Role.TheVariants.{Entry, More, Neutral, Last, Re
 abbrev pub Comment : Type 0
 Comment = Option (List ℕ)
 
--- a piece of a long string: a text with its comment, as one card has them or joined from such
-pub record Piece : Type 0 where
-  pub text : List ℕ
-  pub comment : Comment
-
 -- the words of an entry: its text, its comment, and whether it is a string that may be continued
 pub record Words : Type 0 where
   pub text : List ℕ

@@ -10,7 +10,7 @@ use numbers::Value;
 use refusal::Fault;
 
 // What a card is to its header.
-#[derive(Drop)]
+#[derive(Clone, Copy)]
 pub enum Role {
     // A value, HIERARCH or XTENSION card, with its value. CONTINUE cards may be joined to it where it says so.
     Entry { value: Value, joins: bool },

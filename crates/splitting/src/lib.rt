@@ -12,7 +12,7 @@ use refusal::{Fault, Refusal};
 use text::{Change, Cut, Text};
 
 // What splitting answers.
-#[derive(Drop)]
+#[derive(Clone, Copy)]
 pub enum SplitAnswer {
     // A value text alone.
     Bare,
@@ -23,7 +23,7 @@ pub enum SplitAnswer {
 }
 
 // The texts stand beside the answer; one that is missing is empty.
-#[derive(Drop)]
+#[derive(Clone, Copy)]
 pub struct Halves {
     pub answer: SplitAnswer,
     pub value: Text,
@@ -31,28 +31,28 @@ pub struct Halves {
 }
 
 // The halves of a text, and the byte of the card at which it begins, its blanks aside.
-#[derive(Drop)]
+#[derive(Clone, Copy)]
 pub struct SplitRead {
     pub first: usize,
     pub halves: Halves,
 }
 
 // What reading a string answers.
-#[derive(Drop)]
+#[derive(Clone, Copy)]
 pub enum Quoted {
     Str,
     Refused(Fault),
 }
 
 // The string's text stands beside the answer.
-#[derive(Drop)]
+#[derive(Clone, Copy)]
 pub struct StringRead {
     pub answer: Quoted,
     pub text: Text,
 }
 
 // Where the scan of a text stands: outside a string, inside one, or after a quote that may close it.
-#[derive(Drop)]
+#[derive(Clone, Copy)]
 pub enum Quoting {
     Outside,
     Inside,
@@ -60,7 +60,7 @@ pub enum Quoting {
 }
 
 // The slash's place, or none, or the place of a byte that is refused.
-#[derive(Drop)]
+#[derive(Clone, Copy)]
 pub enum Slash {
     At(usize),
     Nowhere,
@@ -68,7 +68,7 @@ pub enum Slash {
 }
 
 // How far a text is its own value text: up to the slash at a place, or all of it; or it is not known.
-#[derive(Drop)]
+#[derive(Clone, Copy)]
 pub enum Stretch {
     UpTo(usize),
     All,
@@ -76,7 +76,7 @@ pub enum Stretch {
 }
 
 // The value text up to the slash stands beside its place.
-#[derive(Drop)]
+#[derive(Clone, Copy)]
 pub struct Scanned {
     pub slash: Slash,
     pub value: Text,

@@ -2,7 +2,6 @@
 pub mod Trimming
 pub mod Comparing
 pub mod Texts
-pub mod Endings
 pub mod Finding
 pub mod Laying
 pub mod Printing

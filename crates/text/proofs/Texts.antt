@@ -127,12 +127,12 @@ text-behind u v p q h e =
     λ j. record { bytes = array j; len = long j }
 
 -- as many bytes of the second list as there is room for behind the first
-pub take-both : (n : ℕ) (a b : List ℕ) → take n (a ++ b) ≡ take n a ++ take (n - length (take n a)) b
-take-both zero a b = refl
-take-both (suc n) [] b = sym (ap (λ (k : ℕ). take k b) (sub-zero (suc n)))
-take-both (suc n) (x ∷ a) b =
+pub take_both : (n : ℕ) (a b : List ℕ) → take n (a ++ b) ≡ take n a ++ take (n - length (take n a)) b
+take_both zero a b = refl
+take_both (suc n) [] b = sym (ap (λ (k : ℕ). take k b) (sub-zero (suc n)))
+take_both (suc n) (x ∷ a) b =
     let same : n - length (take n a) ≡ suc n - suc (length (take n a)) = omega arith in
-    ap (λ (l : List ℕ). x ∷ l) (take-both n a b ∙ ap (λ (k : ℕ). take n a ++ take k b) same)
+    ap (λ (l : List ℕ). x ∷ l) (take_both n a b ∙ ap (λ (k : ℕ). take n a ++ take k b) same)
 
 -- a text that was made of v, read again: its bytes, its length, and that the length lies within the array
 module _ {t : Text} (v : List ℕ) (e : t ≡ text_of v) where

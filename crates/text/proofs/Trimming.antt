@@ -51,29 +51,16 @@ module _ (p : ℕ → Bool) where
   end_more [] b e = rw e
   end_more (a ∷ s) b e = rw (end_more s b e)
 
-  cons_trimmed-more : (t : Bool) (a : ℕ) (s : List ℕ) (b : ℕ) (r : List ℕ)
-      → cons_trimmed t a (s ++ b ∷ r) ≡ a ∷ (s ++ b ∷ r)
+  cons_trimmed-more : (t : Bool) (a : ℕ) (s : List ℕ) (b : ℕ) → cons_trimmed t a (s ++ b ∷ []) ≡ a ∷ (s ++ b ∷ [])
   unfolding cons_trimmed
-  cons_trimmed-more true a [] b r = refl
-  cons_trimmed-more true a (x ∷ s) b r = refl
-  cons_trimmed-more false a s b r = refl
+  cons_trimmed-more true a [] b = refl
+  cons_trimmed-more true a (x ∷ s) b = refl
+  cons_trimmed-more false a s b = refl
 
   end_done : (s : List ℕ) (b : ℕ) → p b ≡ false → trim_end p (s ++ b ∷ []) ≡ s ++ b ∷ []
   unfolding trim_end cons_trimmed
   end_done [] b e = rw e
   end_done (a ∷ s) b e = rw (end_done s b e, cons_trimmed-more) refl
-
-  -- of two texts the first is trimmed where the second goes whole
-  pub end-first : (s t : List ℕ) → trim_end p t ≡ [] → trim_end p (s ++ t) ≡ trim_end p s
-  unfolding trim_end
-  end-first [] t e = e
-  end-first (a ∷ s) t e = ap (cons_trimmed (p a) a) (end-first s t e)
-
-  -- and stays where something of the second is left
-  pub end-second : (s t : List ℕ) (b : ℕ) (r : List ℕ) → trim_end p t ≡ b ∷ r → trim_end p (s ++ t) ≡ s ++ b ∷ r
-  unfolding trim_end
-  end-second [] t b r e = e
-  end-second (a ∷ s) t b r e = ap (cons_trimmed (p a) a) (end-second s t b r e) ∙ cons_trimmed-more (p a) a s b r
 
   -- the first n bytes, by the last of them
   at_last : (s : List ℕ) (n : ℕ) → 0 < n → n ≤ length s → take n s ≡ take (n - 1) s ++ get_or s (n - 1) 0 ∷ []

@@ -13,7 +13,7 @@ use splitting::{Quoted, SplitAnswer};
 use text::{Place, Text};
 
 // What reading a value text answers.
-#[derive(Drop)]
+#[derive(Clone, Copy)]
 pub enum ValueAnswer {
     Read(Value),
     Refused(Fault),
@@ -21,7 +21,7 @@ pub enum ValueAnswer {
 
 // The texts stand beside the answer: that of a string, of an invalid value or of a decimal's digits, and the comment.
 // One that is missing is empty.
-#[derive(Drop)]
+#[derive(Clone, Copy)]
 pub struct ValueRead {
     pub answer: ValueAnswer,
     pub text: Text,
@@ -30,7 +30,7 @@ pub struct ValueRead {
 }
 
 // What a value text's first byte says.
-#[derive(Drop)]
+#[derive(Clone, Copy)]
 pub enum Start {
     Quote,
     Truth(bool),
@@ -40,7 +40,7 @@ pub enum Start {
 }
 
 // Where a comment names a unit: from one byte up to another, or nowhere.
-#[derive(Drop)]
+#[derive(Clone, Copy)]
 pub enum UnitPlace {
     Between(usize, usize),
     Nowhere,

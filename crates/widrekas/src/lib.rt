@@ -11,12 +11,8 @@ ghost use Rattle.naming.specs.Naming.{name_at};
 ghost use Rattle.abi_header.specs.Headers.{HeaderLeft, ValueLeft, CommentLeft, ListLeft, NameLeft};
 ghost use Rattle.laws.specs.Lending.{lent_of};
 ghost use Rattle.roles.specs.Roles.{comment_of};
-ghost use Rattle.joining.specs.Words.{join_comment};
-ghost use Rattle.joining.specs.Pieces.{text_of_two, join_laid};
-ghost use Rattle.abi_joining.specs.Joins.{TextsLeft, CommentsLeft};
 ghost use Rattle.writing.specs.Block.{write_of};
-ghost use Rattle.abi_value.specs.Telling.{is_set};
-ghost use Rattle.abi_writing.specs.Asking.{value_asked, WriteLeft};
+ghost use Rattle.abi_writing.specs.Asking.{is_set, value_asked, WriteLeft};
 ghost use Rattle.abi_tile.specs.Tiles.{cursor_in, OpenLeft, StepLeft, DecodeLeft};
 
 // The version of this boundary.
@@ -178,41 +174,6 @@ pub extern "C" fn widrekas_name(
     ensures { NameLeft (name_at header.now card) (lent_of name) (lent_of length) (lent_of column) result }
 {
     abi_header::name_into(header, card, name, length, column)
-}
-
-// ---- pieces of a long string
-
-// Joins the text of a tail to that of a head. Answers 0, with the text at the front of its buffer and its length; what follows stays.
-// Answers 253 where the head does not end in &, and nothing is written; or 13, with the room that is wanted as the length.
-#[unsafe(no_mangle)]
-pub extern "C" fn widrekas_join_texts(
-    head: &[u8],
-    tail: &[u8],
-    text: &mut [u8],
-    length: &mut usize,
-) -> u8
-    ensures { TextsLeft (join_laid (text_of_two head.now tail.now)) (lent_of text) (lent_of length) result }
-{
-    abi_joining::join_texts_into(head, tail, text, length)
-}
-
-// Joins the comment of a tail to that of a head; each is absent where its number is 0. Answers 0, with whether there is a comment (1, or
-// 0), its length, and the comment at the front of its buffer; or 13, with the room that is wanted as the length. All else stays as it is.
-#[unsafe(no_mangle)]
-pub extern "C" fn widrekas_join_comments(
-    there: usize,
-    head: &[u8],
-    also: usize,
-    tail: &[u8],
-    comment: &mut [u8],
-    commented: &mut usize,
-    length: &mut usize,
-) -> u8
-    ensures { CommentsLeft
-        (join_laid (join_comment (comment_of (is_set there) head.now) (comment_of (is_set also) tail.now)))
-        (lent_of comment) (lent_of commented) (lent_of length) result }
-{
-    abi_joining::join_comments_into(there, head, also, tail, comment, commented, length)
 }
 
 // ---- cards written

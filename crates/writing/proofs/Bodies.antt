@@ -10,8 +10,8 @@ use lib.Seq.{sets}
 use Rattle.text.specs.Bytes.{ascii}
 use Rattle.text.specs.Text.{filled}
 use Rattle.text.proofs.Laying.{sets-append}
-use Rattle.roles.specs.Roles.{Comment, Piece}
-use Rattle.writing.specs.Pieces.{tail_of, fitting, leftover, piece_text, open_room}
+use Rattle.roles.specs.Roles.{Comment}
+use Rattle.writing.specs.Pieces.{tail_of, fitting, leftover, Piece, piece_text, open_room}
 use Rattle.writing.specs.Pieces.{fits, last_piece, open_piece, pieces_from, pieces_of}
 use Rattle.writing.specs.Written.{card_from, name_front, continue_front, string_cards}
 use Rattle.writing.specs.Block.{flat}

@@ -9,8 +9,8 @@ use mathlib.Core.Option.{none}
 use borrow.Author.Tests.{le-leb, lt-leb}
 use lib.ListN.{length, drop, length-append, length-drop}
 use Rattle.text.specs.Bytes.{ascii}
-use Rattle.roles.specs.Roles.{Comment, Piece}
-use Rattle.writing.specs.Pieces.{doubled, tail_of, fitting, leftover, piece_text, open_room}
+use Rattle.roles.specs.Roles.{Comment}
+use Rattle.writing.specs.Pieces.{doubled, tail_of, fitting, leftover, Piece, piece_text, open_room}
 use Rattle.writing.specs.Pieces.{fits, last_piece, open_piece, pieces_from, pieces_of}
 use Rattle.writing.specs.Passes.{in_quotes, closed_by}
 use Rattle.writing.proofs.Cutting.{doubled_next, fitting-bytes, fitting-within, fitting-some, drop_next, leftover_less}

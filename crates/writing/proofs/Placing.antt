@@ -85,12 +85,12 @@ pub same-set_twice : (d : List ℕ) (i j x y : ℕ) → length (set (set d i x) 
 same-set_twice d i j x y = simp length-set
 
 -- a quote, characters, what closes them, a comment and spaces
-pub piece-put : (d : List ℕ) (at : ℕ) (t close : List ℕ) (c : Comment) {d₁ d₂ d₃ : List ℕ} {end : ℕ}
+pub piece_put : (d : List ℕ) (at : ℕ) (t close : List ℕ) (c : Comment) {d₁ d₂ d₃ : List ℕ} {end : ℕ}
     → d₁ ≡ sets (set d at (code "'")) (at + 1) (doubled t) → end ≡ at + 1 + length (doubled t) → d₂ ≡ sets d₁ end close
     → d₃ ≡ sets d₂ (end + length close) (spaced (at + 70 - (end + length close)) (tail_of c))
     → d₃ ≡ sets d at (body_of (closed_by close t c))
 unfolding filled
-piece-put d at t close c {d₁} {d₂} {d₃} {end} e place f g =
+piece_put d at t close c {d₁} {d₂} {d₃} {end} e place f g =
     let quote : List ℕ = code "'" ∷ [] in
     let w = doubled t in
     let k = at + 70 - (end + length close) in

@@ -64,9 +64,9 @@ pub remark_odd : (c : List ℕ) → every is_printable c ≡ false → is_remark
 unfolding is_remark
 remark_odd c e = rw e
 
-pub remark-end : (c : List ℕ) → every is_printable c ≡ true → is_remark c ≡ not (ends_with (code " ") c)
+pub remark_end : (c : List ℕ) → every is_printable c ≡ true → is_remark c ≡ not (ends_with (code " ") c)
 unfolding is_remark
-remark-end c e = rw e
+remark_end c e = rw e
 
 -- a comment that is there
 pub comment-some : (t : Bool) (c : List ℕ) → is_short text_room (comment_of t c) ≡ true → t ≡ true

@@ -4,12 +4,12 @@ use Prim.Native.Char.{code}
 use Rattle.text.specs.Bytes.{ascii, is_printable, is_digit}
 use Rattle.text.specs.Text.{filled}
 use Rattle.numerals.specs.Numerals.{power_text}
-use Rattle.roles.specs.Roles.{Comment, Piece}
+use Rattle.roles.specs.Roles.{Comment}
 use Rattle.refusal.specs.declared.Refusal.TheVariants.{UnwritableValue}
 use Rattle.writing.specs.declared.Allowed.{Allowed}
 use Rattle.writing.specs.declared.Allowed.TheVariants.{InNames, Printable, Digits, Bare}
 use Rattle.writing.specs.declared.WriteAnswer.{WriteAnswer}
-use Rattle.writing.specs.Pieces.{doubled, tail_of, piece_text, text_room}
+use Rattle.writing.specs.Pieces.{doubled, tail_of, Piece, piece_text, text_room}
 use Rattle.writing.specs.Written.{card_from, continue_front}
 use Rattle.writing.specs.Rules.{is_name_byte}
 use Rattle.writing.specs.Block.{flat, WriteOutcome, put_cards, not_written}

@@ -3,7 +3,7 @@ use Rattle.std.specs.Prelude.{ℕ, zero, suc, ◌-◌, Bool, cond, List, [], ◌
 use Prim.Native.Char.{code}
 use Rattle.std.proofs.Math.Option.{none, some}
 use Rattle.text.specs.Bytes.{ascii}
-use Rattle.roles.specs.Roles.{Comment, Piece}
+use Rattle.roles.specs.Roles.{Comment}
 
 -- a text in which every quote is doubled
 unfoldable pub doubled : List ℕ → List ℕ
@@ -33,7 +33,12 @@ unfoldable pub leftover : ℕ → List ℕ → List ℕ
 leftover n [] = []
 leftover n (b ∷ s) = cond (leb (bytes_for b) n) (leftover (n - bytes_for b) s) (b ∷ s)
 
--- a piece as it stands on a card, from byte 10 on
+-- what one card holds of a string
+pub record Piece : Type 0 where
+  pub text : List ℕ
+  pub comment : Comment
+
+-- as it stands on the card, from byte 10 on
 abbrev pub piece_text : Piece → List ℕ
 piece_text p = quoted p.text ++ tail_of p.comment
 

@@ -7,8 +7,8 @@ use Rattle.numbers.specs.declared.Size.TheVariants.{Finite, Infinite, Nan}
 use Rattle.numbers.specs.declared.Value.{Value}
 use Rattle.numbers.specs.declared.Value.TheVariants.{Integer, Float, Logical, String, Undefined, Invalid}
 use Rattle.numerals.specs.Numerals.{minus_of, signed_digits, finite_text}
-use Rattle.roles.specs.Roles.{Comment, Piece, Held, has_text, has_digits, is_string}
-use Rattle.writing.specs.Pieces.{tail_of, piece_text, pieces_of}
+use Rattle.roles.specs.Roles.{Comment, Held, has_text, has_digits, is_string}
+use Rattle.writing.specs.Pieces.{tail_of, Piece, piece_text, pieces_of}
 
 -- ---- one card
 

@@ -26,14 +26,14 @@ use refusal::{Fault, Refusal};
 use text::{Cut, Text};
 
 // What writing answers: the number of cards that were written, or why there are none.
-#[derive(Drop)]
+#[derive(Clone, Copy)]
 pub enum WriteAnswer {
     Cards(usize),
     Refused(Fault),
 }
 
 // The bytes that a text may hold: those of names, printable ones, digits, all but the quote.
-#[derive(Drop)]
+#[derive(Clone, Copy)]
 enum Allowed {
     InNames,
     Printable,
@@ -42,7 +42,7 @@ enum Allowed {
 }
 
 // What was put of a text within quotes: the bytes taken of it, and the place behind those that they became.
-#[derive(Drop)]
+#[derive(Clone, Copy)]
 struct Put {
     taken: usize,
     end: usize,

@@ -6,8 +6,7 @@ use mathlib.Core.List.{List}
 use Rattle.numbers.specs.declared.Value.{Value}
 use Rattle.roles.specs.Roles.{comment_of}
 use Rattle.writing.specs.Block.{WriteOutcome, write_of}
-use Rattle.abi_value.specs.Telling.{is_set}
-use Rattle.abi_writing.specs.Asking.{value_asked}
+use Rattle.abi_writing.specs.Asking.{is_set, value_asked}
 use Rattle.abi_writing.proofs.Leaving.{wrote, not_written}
 use mir.Facts.{to_z-of_z}
 use borrow.Author.Rules.{rules}
@@ -27,8 +26,8 @@ value-is : (c : tie.After-value-asked)
     → c.value-asked.result ≡ value_asked (start c).args.kind (is_set (start c).args.flag) (start c).args.number
 value-is c =
     c.value-asked.ensures
-    ∙ ap (value_asked (start c).args.kind c.before.is-set.result) (to_z-of_z (start c).ranges.number)
-    ∙ ap (λ (t : Bool). value_asked (start c).args.kind t (start c).args.number) c.before.is-set.ensures
+    ∙ ap (value_asked (start c).args.kind c.before.is_set.result) (to_z-of_z (start c).ranges.number)
+    ∙ ap (λ (t : Bool). value_asked (start c).args.kind t (start c).args.number) c.before.is_set.ensures
 
 is-set-requires : tie.Need-is-set-requires
 is-set-requires c κs = search rules

@@ -10,14 +10,10 @@ use Rattle.text.specs.Text.{size, bytes_of}
 use Rattle.text.specs.Trim.{trim_end}
 use Rattle.text.proofs.Texts.{bytes_fit}
 use Rattle.text.proofs.Trimming.{end_shorter}
-use Rattle.joining.specs.Words.{adds_nothing}
 use Rattle.entries.proofs.Texts.{joined-cut, joined-put}
 use borrow.Author.Rules.{rules}
 use Rattle.entries.proofs.join_text.Statement.{statement}
 use Rattle.entries.proofs.join_text.Tie as tie
-
-abbrev start : tie.After-adds-nothing → tie.Start
-start c = c.before.before.before.before.before
 
 array : (c : tie.Start) → length c.args.t.bytes ≡ size
 array c = search rules
@@ -25,18 +21,8 @@ array c = search rules
 short : (c : tie.Start) → length (bytes_of c.args.t) ≤ size
 short c = bytes_fit c.args.t (array c)
 
--- the test is that of the text
-tested : (c : tie.After-adds-nothing) → adds_nothing (bytes_of (start c).args.t) ≡ c.adds-nothing.result
-tested c = sym (c.adds-nothing.ensures ∙ ap adds_nothing c.before.first_of.ensures)
-
 sub-m : tie.Need-overflow-sub-m
 sub-m c = search rules
-
-slice-aggregate-first-of : tie.Need-slice-aggregate-first-of
-slice-aggregate-first-of c = search rules
-
-first-of-requires : tie.Need-first-of-requires
-first-of-requires c κs = search rules
 
 adds-nothing-requires : tie.Need-adds-nothing-requires
 adds-nothing-requires c κs = search rules
@@ -46,9 +32,9 @@ slice-reshare-prefix-trim-end c = search rules
 
 slice-aggregate-trim-end : tie.Need-slice-aggregate-trim-end
 slice-aggregate-trim-end c =
-    let s = start c.before.before in
+    let s = c.before.before.before.before in
     let a = s.args in
-    sym (length-take-le (a.n - 1) a.held.now (omega (arith, s.pre.1)))
+    sym (length-take-le (a.n - 1) a.held.now (omega (arith, s.requires.1)))
 
 trim-end-requires : tie.Need-trim-end-requires
 trim-end-requires c κs = search rules
@@ -59,14 +45,14 @@ same_length c = search rules
 returns : tie.Need-returns
 returns c =
     let test = c.before.before.before in
-    let s = start test in
+    let s = test.before.before in
     let a = s.args in
     let d = a.held.now in
     let cut : c.trim_end.result.now ≡ trim_end is_space (take (a.n - 1) d) = c.trim_end.ensures in
     let front = take (a.n - 1) d in
     let less : length (trim_end is_space front) ≤ a.n - 1 = omega (arith, end_shorter is_space front, length-take (a.n - 1) d) in
-    let nothing = tested test ∙ c.before.before.if1.true in (
-      ap (λ (l : List ℕ). take (length l) d) cut ∙ joined-cut d (bytes_of a.t) a.n s.pre.0 (omega (arith, s.pre.1)) nothing,
+    let nothing = sym test.adds-nothing.ensures ∙ c.before.before.if1.true in (
+      ap (λ (l : List ℕ). take (length l) d) cut ∙ joined-cut d (bytes_of a.t) a.n s.requires.0 (omega (arith, s.requires.1)) nothing,
       rw cut (omega arith),
     )
 
@@ -78,8 +64,8 @@ count-of-requires c κs = search rules
 
 add-result : tie.Need-overflow-add-result
 add-result c =
-    let s = start c.before.before.before.before.before.before in
-    omega (arith, c.count_of.ensures, short s, s.pre.1)
+    let s = c.before.before.before.before.before.before.before.before in
+    omega (arith, c.count_of.ensures, short s, s.requires.1)
 
 same-length-2 : tie.Need-same-length-2
 same-length-2 c = search rules
@@ -88,13 +74,13 @@ returns-2 : tie.Need-returns-2
 returns-2 c =
     let put = c.before.before.before in
     let test = put.before.before.before in
-    let s = start test in
+    let s = test.before.before in
     let a = s.args in
-    let something = tested test ∙ put.before.before.if1.false in (
+    let something = sym test.adds-nothing.ensures ∙ put.before.before.if1.false in (
       ap₂ take (ap (λ (k : ℕ). a.n - 1 + k) c.count_of.ensures) put.put-text.ensures
-          ∙ joined-put a.held.now (bytes_of a.t) a.n s.pre.0 (omega (arith, s.pre.1))
-          (omega (arith, s.pre.0, s.pre.1, short s)) something,
-      omega (arith, c.count_of.ensures, short s, s.pre.0),
+          ∙ joined-put a.held.now (bytes_of a.t) a.n s.requires.0 (omega (arith, s.requires.1))
+          (omega (arith, s.requires.0, s.requires.1, short s)) something,
+      omega (arith, c.count_of.ensures, short s, s.requires.0),
     )
 
 pub join-text-spec : {M : Type 1} → statement M
@@ -102,8 +88,6 @@ join-text-spec =
     tie.close
     (tie.spec
     sub-m
-    slice-aggregate-first-of
-    first-of-requires
     adds-nothing-requires
     slice-reshare-prefix-trim-end
     slice-aggregate-trim-end

@@ -5,7 +5,7 @@ use borrow.Author.Rules.{rules}
 use Rattle.text.specs.Bytes.{ascii}
 use Rattle.numerals.specs.Numerals.{decimal_digits}
 use Rattle.numerals.proofs.Decimals.{few-digits}
-use Rattle.lines.proofs.Parts.{both-whole}
+use Rattle.lines.proofs.Parts.{both_whole}
 use Rattle.lines.proofs.column_text.Statement.{statement}
 use Rattle.lines.proofs.column_text.Tie as tie
 
@@ -27,7 +27,7 @@ returns c =
     let front = number.before in
     let n = front.before.before.args.byte in
     c.both_of.ensures
-    ∙ both-whole (ascii ":") (decimal_digits n) front.text-of.ensures number.natural-text.ensures
+    ∙ both_whole (ascii ":") (decimal_digits n) front.text-of.ensures number.natural-text.ensures
     (omega (arith, few-digits n (omega arith)))
 
 pub column-text-spec : {M : Type 1} → statement M

@@ -13,7 +13,7 @@ use Rattle.lines.specs.declared.Middle.{Middle}
 use lib.ListN.{length}
 use Rattle.lines.specs.Lines.{LineOutcome, laid, times_part, entry_line, line_room}
 use Rattle.lines.specs.Segments.{line_head, middle_bytes, reading_tail, segment_room}
-use Rattle.lines.proofs.Parts.{both-whole, short-times}
+use Rattle.lines.proofs.Parts.{both_whole, short-times}
 use Rattle.lines.proofs.Segmenting.{entry_segments}
 use Rattle.lines.proofs.entry_line.Statement.{statement}
 use Rattle.lines.proofs.entry_line.Tie as tie
@@ -45,7 +45,7 @@ tail-told m =
     let shown = (tails m).before.is-empty2.ensures ∙ ap is_empty (heads m).before.before.first_of.ensures in
     let tail = (tails m).Tail-of.ensures in
     m.before.both_of.ensures
-    ∙ both-whole (reading_tail a.value (tails m).before.is-empty2.result) (times_part a.times) tail.made
+    ∙ both_whole (reading_tail a.value (tails m).before.is-empty2.result) (times_part a.times) tail.made
     m.before.before.times-text.ensures
     (omega (arith, tail.short, short-times a.times (omega arith)))
     ∙ ap (λ (t : Bool). text_of (reading_tail a.value t ++ times_part a.times)) shown

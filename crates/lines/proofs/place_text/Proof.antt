@@ -9,7 +9,7 @@ use Rattle.text.specs.Text.{text_of}
 use Rattle.numerals.specs.Numerals.{decimal_digits}
 use Rattle.numerals.proofs.Decimals.{few-digits}
 use Rattle.lines.specs.Lines.{column_part}
-use Rattle.lines.proofs.Parts.{both-whole}
+use Rattle.lines.proofs.Parts.{both_whole}
 use Rattle.lines.proofs.place_text.Statement.{statement}
 use Rattle.lines.proofs.place_text.Tie as tie
 
@@ -41,7 +41,7 @@ returns c =
     let card = number.before.args.card in
     let byte = known.column.given.0.0 in
     c.both_of.ensures
-    ∙ both-whole (decimal_digits card) (column_part (At byte)) number.natural-text.ensures part.column-text.ensures
+    ∙ both_whole (decimal_digits card) (column_part (At byte)) number.natural-text.ensures part.column-text.ensures
     (omega (arith, few-digits card (omega arith), few-digits byte (omega arith)))
     ∙ by-column number.before known.column.given.1
 

@@ -6,7 +6,7 @@ use Rattle.text.specs.Bytes.{ascii}
 use Rattle.text.specs.Text.{text_of}
 use Rattle.numerals.specs.Numerals.{decimal_digits}
 use Rattle.numerals.proofs.Decimals.{few-digits}
-use Rattle.lines.proofs.Parts.{both-whole, none-shown, some-shown}
+use Rattle.lines.proofs.Parts.{both_whole, none-shown, some-shown}
 use Rattle.lines.proofs.times_text.Statement.{statement}
 use Rattle.lines.proofs.times_text.Tie as tie
 
@@ -36,7 +36,7 @@ returns-2 c =
     let front = number.before in
     let n = front.before.before.before.args.times in
     c.both_of.ensures
-    ∙ both-whole (ascii " x") (decimal_digits n) front.text-of.ensures number.natural-text.ensures
+    ∙ both_whole (ascii " x") (decimal_digits n) front.text-of.ensures number.natural-text.ensures
     (omega (arith, few-digits n (omega arith)))
     ∙ sym (ap text_of (some-shown n (omega arith)))
 

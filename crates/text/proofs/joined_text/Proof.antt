@@ -7,7 +7,7 @@ use borrow.Author.Rules.{rules}
 use lib.ListN.{length, take, length-take}
 use Rattle.text.specs.declared.Text.{Text}
 use Rattle.text.specs.Text.{size, text_of}
-use Rattle.text.proofs.Texts.{text-behind, take-both}
+use Rattle.text.proofs.Texts.{text-behind, take_both}
 use Rattle.text.proofs.joined_text.Statement.{statement}
 use Rattle.text.proofs.joined_text.Tie as tie
 
@@ -54,7 +54,7 @@ returns c =
     let v = take (size - length u) b in
     let rest : f.first_of.result.now ≡ v = f.first_of.ensures ∙ ap (λ (k : ℕ). take (size - k) b) (first-length t) in
     let fits : length u + length v ≤ size = omega (arith, length-take size a, length-take (size - length u) b) in
-    text-behind u v t.text-of.ensures rest fits c.before.put-at.ensures ∙ ap text_of (sym (take-both size a b))
+    text-behind u v t.text-of.ensures rest fits c.before.put-at.ensures ∙ ap text_of (sym (take_both size a b))
 
 pub joined-text-spec : {M : Type 1} → statement M
 joined-text-spec =

@@ -4,7 +4,7 @@ use mir.Facts.{to_z-of_z}
 use Rattle.numbers.specs.declared.Value.{Value}
 use Rattle.roles.specs.Roles.{comment_of}
 use Rattle.writing.specs.Block.{write_of}
-use Rattle.abi_value.specs.Telling.{is_set}
+use Rattle.abi_writing.specs.Asking.{is_set}
 use Rattle.abi_writing.proofs.Leaving.{number-asked}
 use borrow.Author.Rules.{rules}
 use Rattle.widrekas.proofs.widrekas_write.Statement.{statement}

@@ -6,7 +6,7 @@ use lib.ListN.{length, set, length-set}
 use Rattle.roles.specs.Roles.{comment_of}
 use Rattle.writing.specs.Pieces.{tail_of, fitting}
 use Rattle.writing.proofs.Cutting.{fitting-bytes}
-use Rattle.writing.proofs.Placing.{piece-put}
+use Rattle.writing.proofs.Placing.{piece_put}
 use borrow.Author.Rules.{rules}
 use Rattle.writing.proofs.put_piece.Statement.{statement}
 use Rattle.writing.proofs.put_piece.Tie as tie
@@ -66,7 +66,7 @@ returns c =
     let t = fitting a.room a.s.now in
     let own = comment_of a.commented a.comment.now in (
       f.put-fitting.ensures.0,
-      piece-put a.block.now a.at t a.close.now own f.put-fitting.ensures.1.1 f.put-fitting.ensures.1.0
+      piece_put a.block.now a.at t a.close.now own f.put-fitting.ensures.1.1 f.put-fitting.ensures.1.0
           put.put-at.ensures tail.put-tail.ensures,
     )
 

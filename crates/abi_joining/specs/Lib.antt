@@ -1,2 +1,0 @@
--- What the public promises cite.
-pub mod Joins

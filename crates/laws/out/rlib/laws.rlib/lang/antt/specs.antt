@@ -1,2 +1,0 @@
--- What the contracts of several crates cite.
-pub mod Lending
