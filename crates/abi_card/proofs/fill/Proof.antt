@@ -8,19 +8,19 @@ use Rattle.text.proofs.Laying.{sets_behind, sets_all}
 use Rattle.abi_card.proofs.fill.Statement.{statement}
 use Rattle.abi_card.proofs.fill.Tie as tie
 
-put-at-requires : tie.Need-put-at-requires
+put-at-requires : tie.Need-put_at-requires
 put-at-requires c κs = search rules
 
-put-at-requires-2 : tie.Need-put-at-requires-2
+put-at-requires-2 : tie.Need-put_at-requires-2
 put-at-requires-2 c κs = search rules
 
-put-at-requires-3 : tie.Need-put-at-requires-3
+put-at-requires-3 : tie.Need-put_at-requires-3
 put-at-requires-3 c κs = search rules
 
-put-at-requires-4 : tie.Need-put-at-requires-4
+put-at-requires-4 : tie.Need-put_at-requires-4
 put-at-requires-4 c κs = search rules
 
-same_length : tie.Need-same-length
+same_length : tie.Need-shape_of-out
 same_length c = search rules
 
 returns : tie.Need-returns
@@ -42,9 +42,9 @@ returns c =
     let l₂ = length-append a b in
     let l₃ = length-append (a ++ b) t in
     let l₄ = length-append (a ++ b ++ t) d in
-    let p₂ = sets_behind o a b first.put-at.ensures la second.put-at2.ensures in
-    let p₃ = sets_behind o (a ++ b) t p₂ (omega arith) third.put-at3.ensures in
-    let p₄ = sets_behind o (a ++ b ++ t) d p₃ (omega arith) fourth.put-at4.ensures in
+    let p₂ = sets_behind o a b first.put_at.ensures la second.put_at-2.ensures in
+    let p₃ = sets_behind o (a ++ b) t p₂ (omega arith) third.put_at-3.ensures in
+    let p₄ = sets_behind o (a ++ b ++ t) d p₃ (omega arith) fourth.put_at-4.ensures in
     p₄ ∙ sets_all (a ++ b ++ t ++ d) o (omega (arith, start.requires))
 
 pub fill_spec : {M : Type 1} → statement M

@@ -21,15 +21,15 @@ byte-requires-3 c κs = search rules
 
 returns : tie.Need-returns
 returns c =
-    let a = c.before.before.before.before.before.before.before.before.args in
+    let a = c.args in
     λ j.
     a.class
     ∷ a.value.kind
-    ∷ c.before.before.before.before.bit.ensures j
-    ∷ c.before.before.before.bit2.ensures j
-    ∷ c.before.before.byte.ensures j
-    ∷ c.before.byte2.ensures j
-    ∷ c.byte3.ensures j
+    ∷ c.bit.ensures j
+    ∷ c.bit-2.ensures j
+    ∷ c.byte.ensures j
+    ∷ c.byte-2.ensures j
+    ∷ c.byte-3.ensures j
     ∷ 0
     ∷ []
 

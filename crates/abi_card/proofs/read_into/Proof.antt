@@ -23,45 +23,45 @@ module _ (card out : List ℕ) (number : ℤ) (column : ℕ) where
       → o ≡ recorded_as read.answer read out number column → o ≡ card_into card out number column
   right read e same f = f ∙ ap (λ (r : CardRead). recorded_as r.answer r out number column) same ∙ rw e
 
-returns : tie.Need-returns
+returns : tie.Need-returns-then-card-ne-CARD
 returns c =
-    let a = c.before.before.before.args in
-    wrong a.card.now a.out.now a.number.now a.column.now (wrong_card a.card.now a.out.now c.if1.true)
+    let a = c.args in
+    wrong a.card.now a.out.now a.number.now a.column.now (wrong_card a.card.now a.out.now c.if-card-ne-CARD.true)
 
-returns-2 : tie.Need-returns-2
+returns-2 : tie.Need-returns-then-out-ne-RECORD
 returns-2 c =
-    let a = c.before.before.before.before.args in
-    let other = wrong_record a.card.now a.out.now c.before.if1.false c.if2.true in
+    let a = c.args in
+    let other = wrong_record a.card.now a.out.now c.if-card-ne-CARD.false c.if-out-ne-RECORD.true in
     wrong a.card.now a.out.now a.number.now a.column.now other
 
-text-of-requires : tie.Need-text-of-requires
+text-of-requires : tie.Need-text_of-copy-requires
 text-of-requires c κs = search rules
 
-read-card-requires : tie.Need-read-card-requires
+read-card-requires : tie.Need-read_card-read-requires
 read-card-requires c κs = search rules
 
-write-card-requires : tie.Need-write-card-requires
+write-card-requires : tie.Need-write_card-requires
 write-card-requires c κs = search rules
 
-same_length : tie.Need-same-length
+same_length : tie.Need-shape_of-out
 same_length c = search rules
 
-returns-3 : tie.Need-returns-3
+returns-3 : tie.Need-returns
 returns-3 c =
     let written = c.before.before in
     let reading = written.before.before.before.before in
     let copied = reading.before.before.before in
     let tested = copied.before in
-    let a = tested.before.before.before.before.args in
+    let a = tested.args in
     let s = a.card.now in
-    let long = tested.before.if1.false in
-    let whole = ap (λ (t : Text). t.bytes) copied.text-of.ensures ∙ whole_array s long in
-    let same = reading.read-card.ensures ∙ ap card_of whole in
-    let lengths = fit s a.out.now long tested.if2.false in
-    right s a.out.now a.number.now a.column.now reading.read-card.result lengths same written.write-card.ensures
+    let long = tested.if-card-ne-CARD.false in
+    let whole = ap (λ (t : Text). t.bytes) copied.text_of-copy.ensures ∙ whole_array s long in
+    let same = reading.read_card-read.ensures ∙ ap card_of whole in
+    let lengths = fit s a.out.now long tested.if-out-ne-RECORD.false in
+    right s a.out.now a.number.now a.column.now reading.read_card-read.result lengths same written.write_card.ensures
 
-pub read-into-spec : {M : Type 1} → statement M
-read-into-spec =
+pub read_into_spec : {M : Type 1} → statement M
+read_into_spec =
     tie.close
     (tie.spec
     returns

@@ -17,48 +17,48 @@ by_answer s e =
     let a = s.args in
     sym (ap (λ (x : CardAnswer). recorded_as x a.read a.out.now a.number.now a.column.now) e)
 
-enum-known-answer : tie.Need-enum-known-answer
+enum-known-answer : tie.Need-enum_known-answer
 enum-known-answer c = search rules
 
-column-after-requires : tie.Need-column-after-requires
+column-after-requires : tie.Need-column_after-requires
 column-after-requires c κs = search rules
 
 number-requires : tie.Need-number-requires
 number-requires c κs = search rules
 
-enum-known-answer-2 : tie.Need-enum-known-answer-2
+enum-known-answer-2 : tie.Need-enum_known-answer-in-Read-1
 enum-known-answer-2 c = search rules
 
-write-record-requires : tie.Need-write-record-requires
+write-record-requires : tie.Need-write_record-requires
 write-record-requires c κs = search rules
 
-card-told-requires : tie.Need-card-told-requires
+card-told-requires : tie.Need-card_told-value-requires
 card-told-requires c κs = search rules
 
-returns : tie.Need-returns
+returns : tie.Need-returns-in-Refused
 returns c =
     let kept = c.before in
-    let known = kept.before.before.before in
-    let a = known.before.before.before.args in
-    (λ j. card_outcome (c.number.ensures j) a.out.now a.number.now (kept.column-after.ensures j))
-    ∙ by_answer known.before.before.before known.answer.given.1
+    let known = kept.before.before in
+    let a = known.args in
+    (λ j. card_outcome (c.number.ensures j) a.out.now a.number.now (kept.column_after.ensures j))
+    ∙ by_answer known.before.before known.in-Refused.is
 
-same_length : tie.Need-same-length
+same_length : tie.Need-shape_of-out
 same_length c = search rules
 
-returns-2 : tie.Need-returns-2
+returns-2 : tie.Need-returns-in-Read
 returns-2 c =
     let written = c.before.before.before.before in
-    let known = written.before.before.before in
-    let a = known.before.before.before.args in
-    let z = c.before.card-told.result.number in
+    let known = written.before.before in
+    let a = known.args in
+    let z = c.card_told-value.result.number in
     let fits : to_z w64 (of_z w64 z) ≡ z = search rules in
-    let stored = fits ∙ ap (λ (t : Told). t.number) c.before.card-told.ensures in
-    (λ j. card_outcome 0 (written.write-record.ensures j) (stored j) a.column.now)
-    ∙ by_answer known.before.before.before known.answer2.given.1
+    let stored = fits ∙ ap (λ (t : Told). t.number) c.card_told-value.ensures in
+    (λ j. card_outcome 0 (written.write_record.ensures j) (stored j) a.column.now)
+    ∙ by_answer known.before.before known.in-Read.is
 
-pub write-card-spec : {M : Type 1} → statement M
-write-card-spec =
+pub write_card_spec : {M : Type 1} → statement M
+write_card_spec =
     tie.close
     (tie.spec
     enum-known-answer

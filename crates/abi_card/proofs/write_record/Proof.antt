@@ -7,19 +7,19 @@ use borrow.Author.Rules.{rules}
 use Rattle.abi_card.proofs.write_record.Statement.{statement}
 use Rattle.abi_card.proofs.write_record.Tie as tie
 
-class-number-requires : tie.Need-class-number-requires
+class-number-requires : tie.Need-class_number-requires
 class-number-requires c κs = search rules
 
-card-told-requires : tie.Need-card-told-requires
+card-told-requires : tie.Need-card_told-requires
 card-told-requires c κs = search rules
 
-head-requires : tie.Need-head-requires
+head-requires : tie.Need-head-front-requires
 head-requires c κs = search rules
 
 fill-requires : tie.Need-fill-requires
 fill-requires c κs = search rules
 
-same_length : tie.Need-same-length
+same_length : tie.Need-shape_of-out
 same_length c = search rules
 
 returns : tie.Need-returns
@@ -28,12 +28,12 @@ returns c =
     let front = filled.before.before.before.before.before.before.before.before.before.before.before.before in
     let value = front.before in
     let class = value.before in
-    let r = class.before.before.args.read in
-    let e = front.head.ensures ∙ ap₂ (record_head r) class.class-number.ensures value.card-told.ensures in
+    let r = class.args.read in
+    let e = front.head-front.ensures ∙ ap₂ (record_head r) class.class_number.ensures value.card_told.ensures in
     filled.fill.ensures ∙ ap (λ (f : List ℕ). f ++ r.name.bytes ++ r.text.bytes ++ r.comment.bytes) e
 
-pub write-record-spec : {M : Type 1} → statement M
-write-record-spec =
+pub write_record_spec : {M : Type 1} → statement M
+write_record_spec =
     tie.close
     (tie.spec
     class-number-requires

@@ -5,37 +5,37 @@ use borrow.Author.Rules.{rules}
 use Rattle.abi_header.proofs.header_into.Statement.{statement}
 use Rattle.abi_header.proofs.header_into.Tie as tie
 
-read-header-requires : tie.Need-read-header-requires
+read-header-requires : tie.Need-read_header-requires
 read-header-requires c κs = search rules
 
-enum-known-stop : tie.Need-enum-known-stop
+enum-known-stop : tie.Need-enum_known-stop
 enum-known-stop c = search rules
 
-column-after-requires : tie.Need-column-after-requires
+column-after-requires : tie.Need-column_after-requires
 column-after-requires c κs = search rules
 
 number-requires : tie.Need-number-requires
 number-requires c κs = search rules
 
-enum-known-end : tie.Need-enum-known-end
+enum-known-end : tie.Need-enum_known-end
 enum-known-end c = search rules
 
-returns : tie.Need-returns
+returns : tie.Need-returns-in-Refused
 returns c =
     let kept = c.before in
-    let known = kept.before.before.before.before in
-    let read = known.before.before in
-    header_by_lem read.before.before.args.column.now known.stop.given.1 read.read-header.ensures
-    (λ j. record { answer = c.number.ensures j; card = known.stop.given.0.0.card; column = kept.column-after.ensures j })
+    let known = kept.before.before.before in
+    let read = known.before in
+    header_by_lem read.args.column.now known.in-Refused.is read.read_header.ensures
+    (λ j. record { answer = c.number.ensures j; card = known.in-Refused.stop.card; column = kept.column_after.ensures j })
 
-returns-2 : tie.Need-returns-2
+returns-2 : tie.Need-returns-in-Accepted
 returns-2 c =
-    let known = c.before in
-    let read = known.before.before in
-    header_by_lem read.before.before.args.column.now known.end.given.1 read.read-header.ensures refl
+    let known = c in
+    let read = known.before in
+    header_by_lem read.args.column.now known.in-Accepted.is read.read_header.ensures refl
 
-pub header-into-spec : {M : Type 1} → statement M
-header-into-spec =
+pub header_into_spec : {M : Type 1} → statement M
+header_into_spec =
     tie.close
     (tie.spec
     read-header-requires

@@ -11,59 +11,59 @@ use Rattle.abi_header.proofs.list_into.Statement.{statement}
 use Rattle.abi_header.proofs.list_into.Tie as tie
 
 -- the tested lengths, and the header
-abbrev tested : tie.After-list-over → tie.Then1
+abbrev tested : tie.After-list_over-read → tie.Then-first-last
 tested c = c.before.before.before.before
 
-abbrev start : tie.Then1 → tie.Start
+abbrev start : tie.Then-first-last → tie.Start
 start c = c.before.before.before.before.before
 
-abbrev header : tie.After-list-over → List ℕ
+abbrev header : tie.After-list_over-read → List ℕ
 header c = (start (tested c)).args.header.now
 
-list-over-requires : tie.Need-list-over-requires
+list-over-requires : tie.Need-list_over-read-requires
 list-over-requires c κs = search rules
 
-slice-aggregate-write-listing : tie.Need-slice-aggregate-write-listing
-slice-aggregate-write-listing c = let made = c.before in sym (all_listed (header made) made.list_over.ensures).first
+slice-aggregate-write-listing : tie.Need-slice_bounds-write_listing-end
+slice-aggregate-write-listing c = let made = c.before in sym (all_listed (header made) made.list_over-read.ensures).first
 
-slice-aggregate-write-listing-2 : tie.Need-slice-aggregate-write-listing-2
+slice-aggregate-write-listing-2 : tie.Need-slice_bounds-write_listing-end-then-first-last
 slice-aggregate-write-listing-2 c =
-    let made = c.before.before in sym (all_listed (header made) made.list_over.ensures).last
+    let made = c.before.before in sym (all_listed (header made) made.list_over-read.ensures).last
 
-slice-aggregate-write-listing-3 : tie.Need-slice-aggregate-write-listing-3
+slice-aggregate-write-listing-3 : tie.Need-slice_bounds-write_listing-end-then-first-last-2
 slice-aggregate-write-listing-3 c =
-    let made = c.before.before.before in sym (all_listed (header made) made.list_over.ensures).times
+    let made = c.before.before.before in sym (all_listed (header made) made.list_over-read.ensures).times
 
-write-listing-requires : tie.Need-write-listing-requires
+write-listing-requires : tie.Need-write_listing-requires
 write-listing-requires c κs =
     let made = c.before.before.before.before.before.before.before.before in
-    let all = all_listed (header made) made.list_over.ensures in
+    let all = all_listed (header made) made.list_over-read.ensures in
     let a = (start (tested made)).args in
-    ((all.first, all.last, all.times), list_fits_lem a.first.now a.last.now a.times.now (tested made).if1.true)
+    ((all.first, all.last, all.times), list_fits_lem a.first.now a.last.now a.times.now (tested made).if-first-last.true)
 
-same_length : tie.Need-same-length
+same_length : tie.Need-shape_of-first-then-first-last
 same_length c = search rules
 
-same-length-2 : tie.Need-same-length-2
+same-length-2 : tie.Need-shape_of-last-then-first-last
 same-length-2 c = search rules
 
-same-length-3 : tie.Need-same-length-3
+same-length-3 : tie.Need-shape_of-times-then-first-last
 same-length-3 c = search rules
 
-returns : tie.Need-returns
+returns : tie.Need-returns-then-first-last
 returns c =
     let written = c.before.before.before.before.before.before in
     let made = written.before.before.before.before.before.before.before.before.before in
-    listed (list_of (header made)) _ _ _ _ _ written.write-listing.result (tested made).if1.true made.list_over.ensures
-    written.write-listing.ensures
+    listed (list_of (header made)) _ _ _ _ _ written.write_listing.result (tested made).if-first-last.true made.list_over-read.ensures
+    written.write_listing.ensures
 
-returns-2 : tie.Need-returns-2
+returns-2 : tie.Need-returns
 returns-2 c =
-    let a = c.before.before.before.before.before.args in
-    unlisted (list_of a.header.now) a.first.now a.last.now a.times.now a.count.now a.column.now c.if1.false
+    let a = c.args in
+    unlisted (list_of a.header.now) a.first.now a.last.now a.times.now a.count.now a.column.now c.if-first-last.false
 
-pub list-into-spec : {M : Type 1} → statement M
-list-into-spec =
+pub list_into_spec : {M : Type 1} → statement M
+list_into_spec =
     tie.close
     (tie.spec
     list-over-requires

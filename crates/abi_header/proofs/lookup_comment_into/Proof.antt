@@ -5,22 +5,22 @@ use borrow.Author.Rules.{rules}
 use Rattle.abi_header.proofs.lookup_comment_into.Statement.{statement}
 use Rattle.abi_header.proofs.lookup_comment_into.Tie as tie
 
-lookup-comment-requires : tie.Need-lookup-comment-requires
+lookup-comment-requires : tie.Need-lookup_comment-read-requires
 lookup-comment-requires c κs = search rules
 
-write-comment-requires : tie.Need-write-comment-requires
+write-comment-requires : tie.Need-write_comment-requires
 write-comment-requires c κs = search rules
 
-same_length : tie.Need-same-length
+same_length : tie.Need-shape_of-comment
 same_length c = search rules
 
 returns : tie.Need-returns
 returns c =
     let got = c.before.before.before.before.before.before.before in
-    let a = got.before.before.before.before.before.args in
+    let a = got.args in
     let read = comment_named a.header.now a.name.now in
-    commented read _ _ _ _ _ c.write-comment.result got.lookup-comment.ensures c.write-comment.ensures
+    commented read _ _ _ _ _ c.write_comment.result got.lookup_comment-read.ensures c.write_comment.ensures
 
-pub lookup-comment-into-spec : {M : Type 1} → statement M
-lookup-comment-into-spec =
+pub lookup_comment_into_spec : {M : Type 1} → statement M
+lookup_comment_into_spec =
     tie.close (tie.spec lookup-comment-requires write-comment-requires same_length returns)

@@ -5,45 +5,45 @@ use borrow.Author.Rules.{rules}
 use Rattle.abi_header.proofs.name_into.Statement.{statement}
 use Rattle.abi_header.proofs.name_into.Tie as tie
 
-read-name-requires : tie.Need-read-name-requires
+read-name-requires : tie.Need-read_name-read-requires
 read-name-requires c κs = search rules
 
-enum-known-read : tie.Need-enum-known-read
+enum-known-read : tie.Need-enum_known-read
 enum-known-read c = search rules
 
-enum-known-read-2 : tie.Need-enum-known-read-2
+enum-known-read-2 : tie.Need-enum_known-read-in-Refused-1
 enum-known-read-2 c = search rules
 
-column-after-requires : tie.Need-column-after-requires
+column-after-requires : tie.Need-column_after-requires
 column-after-requires c κs = search rules
 
 number-requires : tie.Need-number-requires
 number-requires c κs = search rules
 
-same_length : tie.Need-same-length
+same_length : tie.Need-shape_of-name-in-Bears
 same_length c = search rules
 
-returns : tie.Need-returns
+returns : tie.Need-returns-in-Bears
 returns c =
-    let known = c.before in
-    let read = known.before.before.before.before in
-    let a = read.before.before.before.before.args in
-    named (name_at a.header.now a.card) _ a.length.now a.column.now known.read.given.1 read.read_name.ensures
+    let known = c in
+    let read = known.before.before.before in
+    let a = read.args in
+    named (name_at a.header.now a.card) _ a.length.now a.column.now known.in-Bears.is read.read_name-read.ensures
 
-same-length-2 : tie.Need-same-length-2
+same-length-2 : tie.Need-shape_of-name-in-Refused
 same-length-2 c = search rules
 
-returns-2 : tie.Need-returns-2
+returns-2 : tie.Need-returns-in-Refused
 returns-2 c =
     let kept = c.before in
-    let known = kept.before.before.before in
-    let read = known.before.before.before.before in
-    let a = read.before.before.before.before.args in
-    unnamed (name_at a.header.now a.card) _ a.length.now _ known.read2.given.1 read.read_name.ensures
-    c.number.ensures kept.column-after.ensures
+    let known = kept.before.before in
+    let read = known.before.before.before in
+    let a = read.args in
+    unnamed (name_at a.header.now a.card) _ a.length.now _ known.in-Refused.is read.read_name-read.ensures
+    c.number.ensures kept.column_after.ensures
 
-pub name-into-spec : {M : Type 1} → statement M
-name-into-spec =
+pub name_into_spec : {M : Type 1} → statement M
+name_into_spec =
     tie.close
     (tie.spec
     read-name-requires

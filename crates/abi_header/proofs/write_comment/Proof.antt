@@ -4,68 +4,68 @@ use borrow.Author.Rules.{rules}
 use Rattle.abi_header.proofs.write_comment.Statement.{statement}
 use Rattle.abi_header.proofs.write_comment.Tie as tie
 
-enum-known-answer : tie.Need-enum-known-answer
+enum-known-answer : tie.Need-enum_known-answer
 enum-known-answer c = search rules
 
-column-after-requires : tie.Need-column-after-requires
+column-after-requires : tie.Need-column_after-requires
 column-after-requires c κs = search rules
 
 number-requires : tie.Need-number-requires
 number-requires c κs = search rules
 
-enum-known-answer-2 : tie.Need-enum-known-answer-2
+enum-known-answer-2 : tie.Need-enum_known-answer-in-Refused-1
 enum-known-answer-2 c = search rules
 
-column-after-requires-2 : tie.Need-column-after-requires-2
+column-after-requires-2 : tie.Need-column_after-requires-in-Refused
 column-after-requires-2 c κs = search rules
 
-number-requires-2 : tie.Need-number-requires-2
+number-requires-2 : tie.Need-number-requires-in-Refused
 number-requires-2 c κs = search rules
 
-enum-known-answer-3 : tie.Need-enum-known-answer-3
+enum-known-answer-3 : tie.Need-enum_known-answer-in-Found-1
 enum-known-answer-3 c = search rules
 
 bit-requires : tie.Need-bit-requires
 bit-requires c κs = search rules
 
-cast-commented : tie.Need-overflow-cast-commented
+cast-commented : tie.Need-overflow_cast-commented
 cast-commented c = search rules
 
-returns : tie.Need-returns
+returns : tie.Need-returns-in-Header
 returns c text =
     let kept = c.before in
-    let known = kept.before.before.before.before in
-    let a = known.before.before.args in
-    comment_by_lem a.read.comment text a.commented.now a.length.now a.card.now a.column.now known.answer.given.1
+    let known = kept.before.before.before in
+    let a = known.args in
+    comment_by_lem a.read.comment text a.commented.now a.length.now a.card.now a.column.now known.in-Header.is
     (λ j. record {
       answer = c.number.ensures j;
       comment = text;
       commented = a.commented.now;
       bytes = a.length.now;
-      card = known.answer.given.0.0.card;
-      column = kept.column-after.ensures j;
+      card = known.in-Header.stop.card;
+      column = kept.column_after.ensures j;
     })
 
-returns-2 : tie.Need-returns-2
+returns-2 : tie.Need-returns-in-Refused
 returns-2 c text =
     let kept = c.before in
-    let known = kept.before.before.before in
-    let a = known.before.before.args in
-    comment_by_lem a.read.comment text a.commented.now a.length.now a.card.now a.column.now known.answer2.given.1
+    let known = kept.before.before in
+    let a = known.args in
+    comment_by_lem a.read.comment text a.commented.now a.length.now a.card.now a.column.now known.in-Refused.is
     (λ j. record {
-      answer = c.number2.ensures j;
+      answer = c.number-in-Refused.ensures j;
       comment = text;
       commented = a.commented.now;
       bytes = a.read.comment;
       card = a.card.now;
-      column = kept.column-after2.ensures j;
+      column = kept.column_after-in-Refused.ensures j;
     })
 
-returns-3 : tie.Need-returns-3
+returns-3 : tie.Need-returns-in-Found
 returns-3 c text =
-    let known = c.before.before in
-    let a = known.before.before.args in
-    comment_by_lem a.read.comment text a.commented.now a.length.now a.card.now a.column.now known.answer3.given.1
+    let known = c.before in
+    let a = known.args in
+    comment_by_lem a.read.comment text a.commented.now a.length.now a.card.now a.column.now known.in-Found.is
     (λ j. record {
       answer = 0;
       comment = text;
@@ -75,8 +75,8 @@ returns-3 c text =
       column = a.column.now;
     })
 
-pub write-comment-spec : {M : Type 1} → statement M
-write-comment-spec =
+pub write_comment_spec : {M : Type 1} → statement M
+write_comment_spec =
     tie.close
     (tie.spec
     enum-known-answer

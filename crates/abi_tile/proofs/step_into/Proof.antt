@@ -39,25 +39,25 @@ content-is k = k.step.ensures.1 ∙ ap (λ (c : Cursor). (made k c).content) (sa
 step-requires : tie.Need-step-requires
 step-requires c κs = search rules
 
-enum_told : tie.Need-enum-told
+enum_told : tie.Need-enum_told-1
 enum_told c = search rules
 
-enum-known-n : tie.Need-enum-known-n
+enum-known-n : tie.Need-enum_known-n
 enum-known-n c = search rules
 
-enum-known-fault : tie.Need-enum-known-fault
+enum-known-fault : tie.Need-enum_known-fault
 enum-known-fault c = search rules
 
 number-requires : tie.Need-number-requires
 number-requires c κs = search rules
 
-same_length : tie.Need-same-length
+same_length : tie.Need-shape_of-pixels-in-Done
 same_length c = search rules
 
-returns : tie.Need-returns
+returns : tie.Need-returns-in-Done
 returns c =
-    let k = c.before.before.before in
-    let e = sym c.enum_told.given.1 ∙ answer-is k in
+    let k = c.before.before in
+    let e = sym c.in-Done.is ∙ answer-is k in
     record {
       answer = ap step_said e;
       place = ap (λ (x : Stepped). stepped_to x (was k)) e;
@@ -65,15 +65,15 @@ returns c =
       told = ap (λ (x : Stepped). written_after x (start k).args.written.now) e;
     }
 
-same-length-2 : tie.Need-same-length-2
+same-length-2 : tie.Need-shape_of-pixels-in-Next
 same-length-2 c = search rules
 
-returns-2 : tie.Need-returns-2
+returns-2 : tie.Need-returns-in-Next
 returns-2 c =
-    let k = c.before.before.before.before.before in
-    let to = c.before.before.n.given.0.0 in
+    let k = c.before.before.before in
+    let to = c.in-Next.n in
     let fits : to_z w32 (of_z w32 to.last) ≡ to.last = search rules in
-    let e = sym c.before.before.n.given.1 ∙ answer-is k in
+    let e = sym c.in-Next.is ∙ answer-is k in
     record {
       answer = ap step_said e;
       place = ap (cursor_of to.bit to.done) fits ∙ ap (λ (x : Stepped). stepped_to x (was k)) e;
@@ -81,13 +81,13 @@ returns-2 c =
       told = ap (λ (x : Stepped). written_after x (start k).args.written.now) e;
     }
 
-same-length-3 : tie.Need-same-length-3
+same-length-3 : tie.Need-shape_of-pixels-in-Refused
 same-length-3 c = search rules
 
-returns-3 : tie.Need-returns-3
+returns-3 : tie.Need-returns-in-Refused
 returns-3 c =
-    let k = c.before.before.before.before.before in
-    let e = sym c.before.before.fault.given.1 ∙ answer-is k in
+    let k = c.before.before.before in
+    let e = sym c.in-Refused.is ∙ answer-is k in
     record {
       answer = c.number.ensures ∙ ap step_said e;
       place = ap (λ (x : Stepped). stepped_to x (was k)) e;
@@ -95,8 +95,8 @@ returns-3 c =
       told = ap (λ (x : Stepped). written_after x (start k).args.written.now) e;
     }
 
-pub step-into-spec : {M : Type 1} → statement M
-step-into-spec =
+pub step_into_spec : {M : Type 1} → statement M
+step_into_spec =
     tie.close
     (tie.spec
     step-requires

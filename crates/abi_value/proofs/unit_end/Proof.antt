@@ -5,21 +5,21 @@ use borrow.Author.Rules.{rules}
 use Rattle.abi_value.proofs.unit_end.Statement.{statement}
 use Rattle.abi_value.proofs.unit_end.Tie as tie
 
-unit-requires : tie.Need-unit-requires
+unit-requires : tie.Need-unit-place-requires
 unit-requires c κs = search rules
 
-enum-known-place : tie.Need-enum-known-place
+enum-known-place : tie.Need-enum_known-place
 enum-known-place c = search rules
 
-enum_told : tie.Need-enum-told
+enum_told : tie.Need-enum_told-1
 enum_told c = search rules
 
-returns : tie.Need-returns
-returns c = ap unit_end (sym c.before.place.given.1 ∙ c.before.before.before.unit.ensures)
+returns : tie.Need-returns-in-Between
+returns c = ap unit_end (sym c.in-Between.is ∙ c.unit-place.ensures)
 
-returns-2 : tie.Need-returns-2
-returns-2 c = ap unit_end (sym c.enum_told.given.1 ∙ c.before.before.unit.ensures)
+returns-2 : tie.Need-returns-in-Nowhere
+returns-2 c = ap unit_end (sym c.in-Nowhere.is ∙ c.unit-place.ensures)
 
-pub unit-end-spec : {M : Type 1} → statement M
-unit-end-spec =
+pub unit_end_spec : {M : Type 1} → statement M
+unit_end_spec =
     tie.close (tie.spec unit-requires enum-known-place enum_told returns returns-2)

@@ -13,64 +13,64 @@ use borrow.Author.Rules.{rules}
 use Rattle.abi_writing.proofs.write_into.Statement.{statement}
 use Rattle.abi_writing.proofs.write_into.Tie as tie
 
-abbrev start : tie.After-value-asked → tie.Start
+abbrev start : tie.After-value_asked-value → tie.Start
 start c = c.before.before.before.before.before.before
 
 -- what is written by a value and by whether there is a comment
-abbrev writes : tie.After-value-asked → Value → Bool → List ℕ → WriteOutcome
+abbrev writes : tie.After-value_asked-value → Value → Bool → List ℕ → WriteOutcome
 writes c v t =
     write_of (start c).args.name.now v (start c).args.text.now (comment_of t (start c).args.comment.now)
 
 -- the value is the one that is asked for
-value-is : (c : tie.After-value-asked)
-    → c.value-asked.result ≡ value_asked (start c).args.kind (is_set (start c).args.flag) (start c).args.number
+value-is : (c : tie.After-value_asked-value)
+    → c.value_asked-value.result ≡ value_asked (start c).args.kind (is_set (start c).args.flag) (start c).args.number
 value-is c =
-    c.value-asked.ensures
-    ∙ ap (value_asked (start c).args.kind c.before.is_set.result) (to_z-of_z (start c).ranges.number)
-    ∙ ap (λ (t : Bool). value_asked (start c).args.kind t (start c).args.number) c.before.is_set.ensures
+    c.value_asked-value.ensures
+    ∙ ap (value_asked (start c).args.kind c.is_set.result) (to_z-of_z (start c).ranges.number)
+    ∙ ap (λ (t : Bool). value_asked (start c).args.kind t (start c).args.number) c.is_set.ensures
 
-is-set-requires : tie.Need-is-set-requires
+is-set-requires : tie.Need-is_set-requires
 is-set-requires c κs = search rules
 
-value-asked-requires : tie.Need-value-asked-requires
+value-asked-requires : tie.Need-value_asked-value-requires
 value-asked-requires c κs = search rules
 
-is-set-requires-2 : tie.Need-is-set-requires-2
+is-set-requires-2 : tie.Need-is_set-requires-2
 is-set-requires-2 c κs = search rules
 
-write-requires : tie.Need-write-requires
+write-requires : tie.Need-write-answer-requires
 write-requires c κs = search rules
 
-enum-known-answer : tie.Need-enum-known-answer
+enum-known-answer : tie.Need-enum_known-answer
 enum-known-answer c = search rules
 
-enum-known-answer-2 : tie.Need-enum-known-answer-2
+enum-known-answer-2 : tie.Need-enum_known-answer-in-Refused-1
 enum-known-answer-2 c = search rules
 
 number-requires : tie.Need-number-requires
 number-requires c κs = search rules
 
-same_length : tie.Need-same-length
+same_length : tie.Need-shape_of-block-in-Cards
 same_length c = search rules
 
-returns : tie.Need-returns
+returns : tie.Need-returns-in-Cards
 returns c =
-    let w = c.before.before.before.before.before in
+    let w = c.before.before.before in
     let set = w.before.before in
     let v = set.before in
-    wrote (writes v) (start v).args.count.now (value-is v) set.is-set2.ensures w.write.ensures.0 w.write.ensures.1 _
-    c.before.answer.given.1
+    wrote (writes v) (start v).args.count.now (value-is v) set.is_set-2.ensures w.write-answer.ensures.0 w.write-answer.ensures.1 _
+    c.in-Cards.is
 
-same-length-2 : tie.Need-same-length-2
+same-length-2 : tie.Need-shape_of-block-in-Refused
 same-length-2 c = search rules
 
-returns-2 : tie.Need-returns-2
+returns-2 : tie.Need-returns-in-Refused
 returns-2 c =
-    let w = c.before.before.before.before.before.before in
+    let w = c.before.before.before.before in
     let set = w.before.before in
     let v = set.before in
-    not_written (writes v) (start v).args.count.now (value-is v) set.is-set2.ensures w.write.ensures.0 w.write.ensures.1 _
-    c.before.before.answer2.given.1 c.number.ensures
+    not_written (writes v) (start v).args.count.now (value-is v) set.is_set-2.ensures w.write-answer.ensures.0 w.write-answer.ensures.1 _
+    c.in-Refused.is c.number.ensures
 
 pub write_into_spec : {M : Type 1} → statement M
 write_into_spec =

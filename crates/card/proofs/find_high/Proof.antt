@@ -10,51 +10,51 @@ use Rattle.card.proofs.Highs.{printable_low, high_here, high_later, high_none}
 use Rattle.card.proofs.find_high.Statement.{statement}
 use Rattle.card.proofs.find_high.Tie as tie
 
-abbrev invariant-loop : tie.invariant-loop
+abbrev invariant-loop : tie.invariant-loop-i
 invariant-loop s i₀ i = (i ≤ length s) × (high_from (drop i s) i ≡ high_from s 0)
 
-abbrev decreases-loop : tie.decreases-loop
+abbrev decreases-loop : tie.decreases-loop-i
 decreases-loop s i₀ i = length s - i
 
 -- the text that is searched
-abbrev text : tie.At-loop invariant-loop decreases-loop → List ℕ
-text c = c.before.before.before.before.args.s.now
+abbrev text : tie.At-loop-i invariant-loop decreases-loop → List ℕ
+text c = c.args.s.now
 
-are-printable-requires : tie.Need-are-printable-requires invariant-loop decreases-loop
+are-printable-requires : tie.Need-are_printable-requires invariant-loop decreases-loop
 are-printable-requires c κs = search rules
 
-returns : tie.Need-returns invariant-loop decreases-loop
-returns c = printable_low c.before.before.before.args.s.now 0 (sym c.before.are-printable.ensures ∙ c.if1.true)
+returns : tie.Need-returns-then-are_printable invariant-loop decreases-loop
+returns c = printable_low c.args.s.now 0 (sym c.are_printable.ensures ∙ c.if-are_printable.true)
 
-loop-holds : tie.Need-loop-init invariant-loop decreases-loop
+loop-holds : tie.Need-loop-i-init invariant-loop decreases-loop
 loop-holds c = search rules
 
-shared-slice-read-if2 : tie.Need-shared-slice-read-if2 invariant-loop decreases-loop
+shared-slice-read-if2 : tie.Need-bounds-s-i invariant-loop decreases-loop
 shared-slice-read-if2 c = search rules
 
-returns-2 : tie.Need-returns-2 invariant-loop decreases-loop
+returns-2 : tie.Need-returns-then-s-i-ge-FIRST_HIGH invariant-loop decreases-loop
 returns-2 c =
     let test = c.before.before in
-    let loop = test.before.loop in
-    high_here (text test.before) loop.i test.loop-test.true c.if2.true ∙ loop.invariant.1
+    let loop = test.loop-i in
+    high_here (text test.before) loop.i test.loop-i-test.true c.if-s-i-ge-FIRST_HIGH.true ∙ loop.invariant.1
 
-add-i : tie.Need-overflow-add-i invariant-loop decreases-loop
+add-i : tie.Need-overflow_add-i invariant-loop decreases-loop
 add-i c = search rules
 
-loop-less : tie.Need-loop-smaller invariant-loop decreases-loop
+loop-less : tie.Need-loop-i-smaller invariant-loop decreases-loop
 loop-less c = search rules
 
-loop-again : tie.Need-loop-preserved invariant-loop decreases-loop
+loop-again : tie.Need-loop-i-preserved invariant-loop decreases-loop
 loop-again c =
     let test = c.before.before in
-    let loop = test.before.loop in
-    (omega arith, high_later (text test.before) loop.i test.loop-test.true c.if2.false ∙ loop.invariant.1)
+    let loop = test.loop-i in
+    (omega arith, high_later (text test.before) loop.i test.loop-i-test.true c.if-s-i-ge-FIRST_HIGH.false ∙ loop.invariant.1)
 
-returns-3 : tie.Need-returns-3 invariant-loop decreases-loop
-returns-3 c = high_none (text c.before) c.before.loop.i c.loop-test.false ∙ c.before.loop.invariant.1
+returns-3 : tie.Need-returns invariant-loop decreases-loop
+returns-3 c = high_none (text c.before) c.loop-i.i c.loop-i-test.false ∙ c.loop-i.invariant.1
 
-pub find-high-spec : {M : Type 1} → statement M
-find-high-spec =
+pub find_high_spec : {M : Type 1} → statement M
+find_high_spec =
     tie.close
     (tie.spec
     invariant-loop

@@ -23,127 +23,127 @@ use Rattle.card.proofs.low_card.Statement.{statement}
 use Rattle.card.proofs.low_card.Tie as tie
 
 -- the card's bytes, at the place where its class is known
-abbrev card : tie.After-class-of → List ℕ
-card c = c.before.before.before.before.before.args.card.now
+abbrev card : tie.After-class_of → List ℕ
+card c = c.args.card.now
 
-fits : (c : tie.After-class-of) → length (card c) ≤ size
+fits : (c : tie.After-class_of) → length (card c) ≤ size
 fits c = let long : length (card c) ≡ size = search rules in omega arith
 
-word-is : (c : tie.After-class-of) → c.before.before.trimmed.result.now ≡ keyword_of (card c)
-word-is c = c.before.before.trimmed.ensures ∙ ap (trim is_blank) c.before.before.before.first_of.ensures
+word-is : (c : tie.After-class_of) → c.trimmed-word.result.now ≡ keyword_of (card c)
+word-is c = c.trimmed-word.ensures ∙ ap (trim is_blank) c.first_of.ensures
 
-name-is : (c : tie.After-class-of) → c.before.text-of.result ≡ text_of (keyword_of (card c))
+name-is : (c : tie.After-class_of) → c.text_of-name.result ≡ text_of (keyword_of (card c))
 name-is c =
     let short : length (keyword_of (card c)) ≤ size = omega (arith, shorter is_blank (take 8 (card c)), length-take 8 (card c)) in
-    c.before.text-of.ensures ∙ ap (λ (l : List ℕ). text_of (take size l)) (word-is c) ∙ whole-text (keyword_of (card c)) short
+    c.text_of-name.ensures ∙ ap (λ (l : List ℕ). text_of (take size l)) (word-is c) ∙ whole-text (keyword_of (card c)) short
 
 -- a card by its class, with the column beside its refusal
 abbrev columned : Class → Text → List ℕ → CardRead
 columned k name c = card_placed (column_in (text_from k c) c) (by_class k name c)
 
 -- the class that an arm knows gives the card
-by : (c : tie.After-class-of) (k : Class) → c.class-of.result ≡ k
-    → columned k c.before.text-of.result (card c) ≡ columned (class_of (keyword_of (card c))) (text_of (keyword_of (card c))) (card c)
+by : (c : tie.After-class_of) (k : Class) → c.class_of.result ≡ k
+    → columned k c.text_of-name.result (card c) ≡ columned (class_of (keyword_of (card c))) (text_of (keyword_of (card c))) (card c)
 by c k e =
-    ap (λ (x : Class). columned x c.before.text-of.result (card c)) (sym e ∙ c.class-of.ensures ∙ ap class_of (word-is c))
+    ap (λ (x : Class). columned x c.text_of-name.result (card c)) (sym e ∙ c.class_of.ensures ∙ ap class_of (word-is c))
     ∙ ap (λ (t : Text). columned (class_of (keyword_of (card c))) t (card c)) (name-is c)
 
-first-of-requires : tie.Need-first-of-requires
+first-of-requires : tie.Need-first_of-requires
 first-of-requires c κs = search rules
 
-trimmed-requires : tie.Need-trimmed-requires
+trimmed-requires : tie.Need-trimmed-word-requires
 trimmed-requires c κs = search rules
 
-text-of-requires : tie.Need-text-of-requires
+text-of-requires : tie.Need-text_of-name-requires
 text-of-requires c κs = search rules
 
-class-of-requires : tie.Need-class-of-requires
+class-of-requires : tie.Need-class_of-requires
 class-of-requires c κs = search rules
 
-enum_told : tie.Need-enum-told
+enum_told : tie.Need-enum_told-1
 enum_told c = search rules
 
 unnamed-requires : tie.Need-unnamed-requires
-unnamed-requires c κs = fits c.before.before
+unnamed-requires c κs = fits c.before
 
-enum-told-2 : tie.Need-enum-told-2
+enum-told-2 : tie.Need-enum_told-in-Comment
 enum-told-2 c = search rules
 
 remark-requires : tie.Need-remark-requires
-remark-requires c κs = fits c.before.before
+remark-requires c κs = fits c.before
 
-enum-told-3 : tie.Need-enum-told-3
+enum-told-3 : tie.Need-enum_told-in-History
 enum-told-3 c = search rules
 
-remark-requires-2 : tie.Need-remark-requires-2
-remark-requires-2 c κs = fits c.before.before
+remark-requires-2 : tie.Need-remark-requires-in-History
+remark-requires-2 c κs = fits c.before
 
-enum-told-4 : tie.Need-enum-told-4
+enum-told-4 : tie.Need-enum_told-in-Continue
 enum-told-4 c = search rules
 
 continuation-requires : tie.Need-continuation-requires
 continuation-requires c κs = search rules
 
-enum-told-5 : tie.Need-enum-told-5
+enum-told-5 : tie.Need-enum_told-in-Xtension
 enum-told-5 c = search rules
 
 extension-requires : tie.Need-extension-requires
 extension-requires c κs = search rules
 
-enum-told-6 : tie.Need-enum-told-6
+enum-told-6 : tie.Need-enum_told-in-Hierarch
 enum-told-6 c = search rules
 
 hierarch-requires : tie.Need-hierarch-requires
 hierarch-requires c κs = search rules
 
-enum-told-7 : tie.Need-enum-told-7
+enum-told-7 : tie.Need-enum_told-in-End
 enum-told-7 c = search rules
 
-empty-text-requires : tie.Need-empty-text-requires
+empty-text-requires : tie.Need-empty_text-requires
 empty-text-requires c κs = search rules
 
-read-as-requires : tie.Need-read-as-requires
+read-as-requires : tie.Need-read_as-requires
 read-as-requires c κs = search rules
 
-enum-told-8 : tie.Need-enum-told-8
+enum-told-8 : tie.Need-enum_told-in-Other
 enum-told-8 c = search rules
 
 other-requires : tie.Need-other-requires
 other-requires c κs = search rules
 
-returns : tie.Need-returns
+returns : tie.Need-returns-in-Empty
 returns c =
-    let at = c.before.before.before in
-    c.unnamed.ensures ∙ empty_in (column_in 10 (card at)) (card at) ∙ by at Empty c.before.enum_told.given.1
+    let at = c.before.before in
+    c.unnamed.ensures ∙ empty_in (column_in 10 (card at)) (card at) ∙ by at Empty c.in-Empty.is
 
-returns-2 : tie.Need-returns-2
-returns-2 c = c.remark.ensures ∙ by c.before.before.before Comment c.before.enum-told2.given.1
+returns-2 : tie.Need-returns-in-Comment
+returns-2 c = c.remark.ensures ∙ by c.before.before Comment c.in-Comment.is
 
-returns-3 : tie.Need-returns-3
-returns-3 c = c.remark2.ensures ∙ by c.before.before.before History c.before.enum-told3.given.1
+returns-3 : tie.Need-returns-in-History
+returns-3 c = c.remark-in-History.ensures ∙ by c.before.before History c.in-History.is
 
-returns-4 : tie.Need-returns-4
-returns-4 c = c.continuation.ensures ∙ by c.before.before.before Continue c.before.enum-told4.given.1
+returns-4 : tie.Need-returns-in-Continue
+returns-4 c = c.continuation.ensures ∙ by c.before.before Continue c.in-Continue.is
 
-returns-5 : tie.Need-returns-5
-returns-5 c = c.extension.ensures ∙ by c.before.before.before Xtension c.before.enum-told5.given.1
+returns-5 : tie.Need-returns-in-Xtension
+returns-5 c = c.extension.ensures ∙ by c.before.before Xtension c.in-Xtension.is
 
-returns-6 : tie.Need-returns-6
-returns-6 c = c.hierarch.ensures ∙ by c.before.before.before Hierarch c.before.enum-told6.given.1
+returns-6 : tie.Need-returns-in-Hierarch
+returns-6 c = c.hierarch.ensures ∙ by c.before.before Hierarch c.in-Hierarch.is
 
-returns-7 : tie.Need-returns-7
+returns-7 : tie.Need-returns-in-End
 returns-7 c =
     let told = c.before.before in
-    let name = told.before.before.before.text-of.result in
+    let name = told.text_of-name.result in
     c.read_as.ensures
-    ∙ ap (card_as C.End name) c.before.empty-text.ensures
-    ∙ by told.before.before End told.enum-told7.given.1
+    ∙ ap (card_as C.End name) c.empty_text.ensures
+    ∙ by told.before End told.in-End.is
 
-returns-8 : tie.Need-returns-8
-returns-8 c = c.other.ensures ∙ by c.before.before.before Other c.before.enum-told8.given.1
+returns-8 : tie.Need-returns-in-Other
+returns-8 c = c.other.ensures ∙ by c.before.before Other c.in-Other.is
 
-pub low-card-spec : {M : Type 1} → statement M
-low-card-spec =
+pub low_card_spec : {M : Type 1} → statement M
+low_card_spec =
     tie.close
     (tie.spec
     first-of-requires

@@ -22,41 +22,41 @@ low : (c : List ℕ) → high_from c 0 ≡ Absent → card_placed (column_of c) 
 unfolding card_of unplaced_of
 low c e = rw (high_missing c e)
 
-find-high-requires : tie.Need-find-high-requires
+find-high-requires : tie.Need-find_high-requires
 find-high-requires c κs = search rules
 
-enum-known-i : tie.Need-enum-known-i
+enum-known-i : tie.Need-enum_known-i
 enum-known-i c = search rules
 
-fault-at-requires : tie.Need-fault-at-requires
+fault-at-requires : tie.Need-fault_at-requires
 fault-at-requires c κs = search rules
 
 refused-requires : tie.Need-refused-requires
 refused-requires c κs = search rules
 
-enum_told : tie.Need-enum-told
+enum_told : tie.Need-enum_told-1
 enum_told c = search rules
 
-low-card-requires : tie.Need-low-card-requires
+low-card-requires : tie.Need-low_card-requires
 low-card-requires c κs = search rules
 
-returns : tie.Need-returns
+returns : tie.Need-returns-in-At
 returns c =
-    let at_i = c.before.before.before in
-    let find = at_i.before.before in
-    let i = at_i.i.given in
+    let at_i = c.before.before in
+    let find = at_i.before in
+    let i = at_i.in-At.i.given in
     c.refused.ensures
-    ∙ ap card_refused c.before.fault-at.ensures
-    ∙ high find.before.before.args.card.now i.0.0 (sym find.find-high.ensures ∙ i.1)
+    ∙ ap card_refused c.fault_at.ensures
+    ∙ high find.args.card.now i.0.0 (sym find.find_high.ensures ∙ i.1)
 
-returns-2 : tie.Need-returns-2
+returns-2 : tie.Need-returns-in-Absent
 returns-2 c =
     let told = c.before in
-    let find = told.before.before in
-    c.low-card.ensures ∙ low find.before.before.args.card.now (sym find.find-high.ensures ∙ told.enum_told.given.1)
+    let find = told.before in
+    c.low_card.ensures ∙ low find.args.card.now (sym find.find_high.ensures ∙ told.in-Absent.is)
 
-pub read-card-spec : {M : Type 1} → statement M
-read-card-spec =
+pub read_card_spec : {M : Type 1} → statement M
+read_card_spec =
     tie.close
     (tie.spec
     find-high-requires

@@ -5,25 +5,25 @@ use borrow.Author.Rules.{rules}
 use Rattle.card.proofs.refused.Statement.{statement}
 use Rattle.card.proofs.refused.Tie as tie
 
-empty-text-requires : tie.Need-empty-text-requires
+empty-text-requires : tie.Need-empty_text-requires
 empty-text-requires c κs = search rules
 
-empty-text-requires-2 : tie.Need-empty-text-requires-2
+empty-text-requires-2 : tie.Need-empty_text-requires-2
 empty-text-requires-2 c κs = search rules
 
-empty-text-requires-3 : tie.Need-empty-text-requires-3
+empty-text-requires-3 : tie.Need-empty_text-requires-3
 empty-text-requires-3 c κs = search rules
 
 returns : tie.Need-returns
 returns c =
     λ j. record {
-      answer = Refused c.before.before.before.args.fault;
-      name = c.before.before.empty-text.ensures j;
-      text = c.before.empty-text2.ensures j;
+      answer = Refused c.args.fault;
+      name = c.empty_text.ensures j;
+      text = c.empty_text-2.ensures j;
       commented = false;
-      comment = c.empty-text3.ensures j;
+      comment = c.empty_text-3.ensures j;
     }
 
-pub refused-spec : {M : Type 1} → statement M
-refused-spec =
+pub refused_spec : {M : Type 1} → statement M
+refused_spec =
     tie.close (tie.spec empty-text-requires empty-text-requires-2 empty-text-requires-3 returns)

@@ -14,13 +14,13 @@ use borrow.Author.Rules.{rules}
 use Rattle.card.proofs.remark_text.Statement.{statement}
 use Rattle.card.proofs.remark_text.Tie as tie
 
-rest-of-requires : tie.Need-rest-of-requires
+rest-of-requires : tie.Need-rest_of-requires
 rest-of-requires c κs = search rules
 
-trim-end-requires : tie.Need-trim-end-requires
+trim-end-requires : tie.Need-trim_end-requires
 trim-end-requires c κs = search rules
 
-changed-text-requires : tie.Need-changed-text-requires
+changed-text-requires : tie.Need-changed_text-requires
 changed-text-requires c κs = search rules
 
 returns : tie.Need-returns
@@ -29,13 +29,13 @@ returns c =
     let began = at_rest.before.before in
     let whole = began.args.whole.now in
     let rest = drop 8 whole in
-    let left = c.before.trim_end.result.now in
-    let is : left ≡ trim_end is_space rest = c.before.trim_end.ensures ∙ ap (trim_end is_space) at_rest.rest_of.ensures in
+    let left = c.trim_end.result.now in
+    let is : left ≡ trim_end is_space rest = c.trim_end.ensures ∙ ap (trim_end is_space) at_rest.rest_of.ensures in
     let short : length left ≤ size = rw is (omega (arith, end_shorter is_space rest, length-drop 8 whole, began.requires)) in
-    c.changed-text.ensures
+    c.changed_text.ensures
     ∙ whole_changed shown left short
     ∙ ap text_of (ap (map shown) is ∙ sym (end_mapped is_blank is_space shown blank_shown rest))
 
-pub remark-text-spec : {M : Type 1} → statement M
-remark-text-spec =
+pub remark_text_spec : {M : Type 1} → statement M
+remark_text_spec =
     tie.close (tie.spec rest-of-requires trim-end-requires changed-text-requires returns)

@@ -20,36 +20,36 @@ some-text : (t : List ℕ) → (length t ≡ 0 → ⊥) → card_as Comment (tex
 some-text [] e = absurd (e refl)
 some-text (b ∷ t) e = refl
 
-remark-text-requires : tie.Need-remark-text-requires
+remark-text-requires : tie.Need-remark_text-t-requires
 remark-text-requires c κs = search rules
 
-empty-text-requires : tie.Need-empty-text-requires
+empty-text-requires : tie.Need-empty_text-none-requires
 empty-text-requires c κs = search rules
 
-read-as-requires : tie.Need-read-as-requires
+read-as-requires : tie.Need-read_as-requires
 read-as-requires c κs = search rules
 
-returns : tie.Need-returns
+returns : tie.Need-returns-then-t-eq0
 unfolding empty_of
 returns c =
     let empty = c.before.before.before in
-    let whole = empty.before.before.before.args.whole.now in
-    c.read_as.ensures ∙ ap₂ (card_as Space) empty.empty-text.ensures empty.empty-text.ensures
-    ∙ no_text (remark_of whole) (sym (ap (λ (t : Text). t.len) empty.before.remark-text.ensures) ∙ c.before.if1.true)
+    let whole = empty.args.whole.now in
+    c.read_as.ensures ∙ ap₂ (card_as Space) empty.empty_text-none.ensures empty.empty_text-none.ensures
+    ∙ no_text (remark_of whole) (sym (ap (λ (t : Text). t.len) empty.remark_text-t.ensures) ∙ c.if-t-eq0.true)
 
-read-as-requires-2 : tie.Need-read-as-requires-2
+read-as-requires-2 : tie.Need-read_as-requires-2
 read-as-requires-2 c κs = search rules
 
-returns-2 : tie.Need-returns-2
+returns-2 : tie.Need-returns
 unfolding empty_of
 returns-2 c =
     let empty = c.before.before.before in
-    let whole = empty.before.before.before.args.whole.now in
-    c.read-as2.ensures ∙ ap₂ (card_as Comment) empty.empty-text.ensures empty.before.remark-text.ensures
-    ∙ some-text (remark_of whole) (λ e. c.before.if1.false (ap (λ (t : Text). t.len) empty.before.remark-text.ensures ∙ e))
+    let whole = empty.args.whole.now in
+    c.read_as-2.ensures ∙ ap₂ (card_as Comment) empty.empty_text-none.ensures empty.remark_text-t.ensures
+    ∙ some-text (remark_of whole) (λ e. c.if-t-eq0.false (ap (λ (t : Text). t.len) empty.remark_text-t.ensures ∙ e))
 
-pub unnamed-spec : {M : Type 1} → statement M
-unnamed-spec =
+pub unnamed_spec : {M : Type 1} → statement M
+unnamed_spec =
     tie.close
     (tie.spec
     remark-text-requires

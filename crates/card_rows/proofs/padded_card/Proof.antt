@@ -6,38 +6,38 @@ use borrow.Author.Rules.{rules}
 use Rattle.card_rows.proofs.padded_card.Statement.{statement}
 use Rattle.card_rows.proofs.padded_card.Tie as tie
 
-abbrev invariant-loop : tie.invariant-loop
+abbrev invariant-loop : tie.invariant-loop-i
 invariant-loop s card₀ i₀ card i = (i ≤ length s) × (length card ≡ 80)
 
-abbrev decreases-loop : tie.decreases-loop
+abbrev decreases-loop : tie.decreases-loop-i
 decreases-loop s card₀ i₀ card i = length s - i
 
-loop-holds : tie.Need-loop-init invariant-loop decreases-loop
+loop-holds : tie.Need-loop-i-init invariant-loop decreases-loop
 loop-holds c = search rules
 
-shared-slice-read-card : tie.Need-shared-slice-read-card invariant-loop decreases-loop
+shared-slice-read-card : tie.Need-bounds-s-i invariant-loop decreases-loop
 shared-slice-read-card c = search rules
 
-array-write-card : tie.Need-array-write-card invariant-loop decreases-loop
+array-write-card : tie.Need-bounds-card-i invariant-loop decreases-loop
 array-write-card c = search rules
 
-add-i : tie.Need-overflow-add-i invariant-loop decreases-loop
+add-i : tie.Need-overflow_add-i invariant-loop decreases-loop
 add-i c = search rules
 
-loop-less : tie.Need-loop-smaller invariant-loop decreases-loop
+loop-less : tie.Need-loop-i-smaller invariant-loop decreases-loop
 loop-less c = search rules
 
-loop-again : tie.Need-loop-preserved invariant-loop decreases-loop
+loop-again : tie.Need-loop-i-preserved invariant-loop decreases-loop
 loop-again c = search rules
 
-returns : tie.Need-returns invariant-loop decreases-loop
+returns : tie.Need-returns-else-i-lt-CARD invariant-loop decreases-loop
 returns c = search rules
 
-returns-2 : tie.Need-returns-2 invariant-loop decreases-loop
+returns-2 : tie.Need-returns-after-loop-i invariant-loop decreases-loop
 returns-2 c = search rules
 
-pub padded-card-spec : {M : Type 1} → statement M
-padded-card-spec =
+pub padded_card_spec : {M : Type 1} → statement M
+padded_card_spec =
     tie.close
     (tie.spec
     invariant-loop

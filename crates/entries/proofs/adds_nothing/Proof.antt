@@ -38,25 +38,25 @@ array c = search rules
 taken : (c : tie.Start) → length (bytes_of c.args.t) ≡ min c.args.t.len 80
 taken c = length-take c.args.t.len c.args.t.bytes ∙ ap (min c.args.t.len) (array c)
 
-returns : tie.Need-returns
-returns c = let s = c.before.before.before in none (bytes_of s.args.t) (omega (arith, taken s, c.if1.true))
+returns : tie.Need-returns-then-t-eq0
+returns c = let s = c.before.before.before in none (bytes_of s.args.t) (omega (arith, taken s, c.if-t-eq0.true))
 
-array-read-result : tie.Need-array-read-result
+array-read-result : tie.Need-bounds-bytes-0
 array-read-result c = search rules
 
-returns-2 : tie.Need-returns-2
+returns-2 : tie.Need-returns-then-t-eq1
 returns-2 c =
     let s = c.before.before.before.before.before in
     let t = s.args.t in
-    let first = get_or-take t.len t.bytes 0 0 (omega (arith, c.if2.true)) in
-    ap (λ (b : ℕ). eqb b (code " ")) (sym first) ∙ one (bytes_of t) (omega (arith, taken s, c.if2.true))
+    let first = get_or-take t.len t.bytes 0 0 (omega (arith, c.if-t-eq1.true)) in
+    ap (λ (b : ℕ). eqb b (code " ")) (sym first) ∙ one (bytes_of t) (omega (arith, taken s, c.if-t-eq1.true))
 
-returns-3 : tie.Need-returns-3
+returns-3 : tie.Need-returns
 returns-3 c =
     let s = c.before.before.before.before.before in
     let t = bytes_of s.args.t in
-    some t (λ (e : length t ≡ 0). c.before.before.if1.false (omega (arith, taken s)))
-    (λ (e : length t ≡ 1). c.if2.false (omega (arith, taken s)))
+    some t (λ (e : length t ≡ 0). c.if-t-eq0.false (omega (arith, taken s)))
+    (λ (e : length t ≡ 1). c.if-t-eq1.false (omega (arith, taken s)))
 
-pub adds-nothing-spec : {M : Type 1} → statement M
-adds-nothing-spec = tie.close (tie.spec returns array-read-result returns-2 returns-3)
+pub adds_nothing_spec : {M : Type 1} → statement M
+adds_nothing_spec = tie.close (tie.spec returns array-read-result returns-2 returns-3)

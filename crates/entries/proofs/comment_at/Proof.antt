@@ -5,21 +5,21 @@ use borrow.Author.Rules.{rules}
 use Rattle.entries.proofs.comment_at.Statement.{statement}
 use Rattle.entries.proofs.comment_at.Tie as tie
 
-find-card-requires : tie.Need-find-card-requires
+find-card-requires : tie.Need-find_card-requires
 find-card-requires c κs = search rules
 
-comment-of-requires : tie.Need-comment-of-requires
+comment-of-requires : tie.Need-comment_of-requires
 comment-of-requires c κs = search rules
 
-same_length : tie.Need-same-length
+same_length : tie.Need-shape_of-comment
 same_length c = search rules
 
 returns : tie.Need-returns
 returns c =
     let comment = c.before.before in
     let found = comment.before.before in
-    let a = found.before.before.before.args in
-    comment.comment-of.ensures ∙ ap (λ (x : Sought). comment_in x a.comment.now) found.find-card.ensures.is
+    let a = found.args in
+    comment.comment_of.ensures ∙ ap (λ (x : Sought). comment_in x a.comment.now) found.find_card.ensures.is
 
-pub comment-at-spec : {M : Type 1} → statement M
-comment-at-spec = tie.close (tie.spec find-card-requires comment-of-requires same_length returns)
+pub comment_at_spec : {M : Type 1} → statement M
+comment_at_spec = tie.close (tie.spec find-card-requires comment-of-requires same_length returns)

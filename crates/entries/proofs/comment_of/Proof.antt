@@ -9,41 +9,41 @@ use borrow.Author.Rules.{rules}
 use Rattle.entries.proofs.comment_of.Statement.{statement}
 use Rattle.entries.proofs.comment_of.Tie as tie
 
-abbrev start : tie.After-slice-known → tie.Start
+abbrev start : tie.After-slice_known-1 → tie.Start
 start c = c.before.before
 
-enum-known-spot : tie.Need-enum-known-spot
+enum-known-spot : tie.Need-enum_known-spot
 enum-known-spot c = search rules
 
-refuse-comment-requires : tie.Need-refuse-comment-requires
+refuse-comment-requires : tie.Need-refuse_comment-requires
 refuse-comment-requires c κs = search rules
 
-returns : tie.Need-returns
+returns : tie.Need-returns-in_default
 returns c =
     let told = c.before in
     let a = (start told.before).args in
-    (λ j. comment_left (c.refuse-comment.ensures j) a.comment.now)
-    ∙ refused-comment (not_at a.spot told.match.keys2) a.header.now a.comment.now
+    (λ j. comment_left (c.refuse_comment.ensures j) a.comment.now)
+    ∙ refused-comment (not_at a.spot told.in_default.keys2) a.header.now a.comment.now
 
-entry-comment-requires : tie.Need-entry-comment-requires
+entry-comment-requires : tie.Need-entry_comment-requires
 entry-comment-requires c κs =
-    let at = c.before.before in
-    let s = start at.before.before in
-    subst (λ (x : Spot). IsWithin x s.args.header.now) at.spot.given.1 s.pre
+    let at = c.before in
+    let s = start at.before in
+    subst (λ (x : Spot). IsWithin x s.args.header.now) at.in-At.is s.requires
 
-same_length : tie.Need-same-length
+same_length : tie.Need-shape_of-comment
 same_length c = search rules
 
-returns-2 : tie.Need-returns-2
+returns-2 : tie.Need-returns
 returns-2 c =
     let entry = c.before.before in
-    let at = entry.before.before.before in
-    let a = (start at.before.before).args in
-    entry.entry-comment.ensures
-    ∙ sym (ap (λ (x : Spot). comment_in (sought_at x a.header.now) a.comment.now) at.spot.given.1)
+    let at = entry.before.before in
+    let a = (start at.before).args in
+    entry.entry_comment.ensures
+    ∙ sym (ap (λ (x : Spot). comment_in (sought_at x a.header.now) a.comment.now) at.in-At.is)
 
-pub comment-of-spec : {M : Type 1} → statement M
-comment-of-spec =
+pub comment_of_spec : {M : Type 1} → statement M
+comment_of_spec =
     tie.close
     (tie.spec
     enum-known-spot

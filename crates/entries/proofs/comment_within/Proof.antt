@@ -9,54 +9,54 @@ use borrow.Author.Rules.{rules}
 use Rattle.entries.proofs.comment_within.Statement.{statement}
 use Rattle.entries.proofs.comment_within.Tie as tie
 
-abbrev start : tie.After-join-comments → tie.Start
+abbrev start : tie.After-join_comments-end → tie.Start
 start c = c.before.before.before.before.before
 
-join-comments-requires : tie.Need-join-comments-requires
+join-comments-requires : tie.Need-join_comments-end-requires
 join-comments-requires c κs = search rules
 
-enum-known-reach : tie.Need-enum-known-reach
+enum-known-reach : tie.Need-enum_known-reach
 enum-known-reach c = search rules
 
-first-of-requires : tie.Need-first-of-requires
+first-of-requires : tie.Need-first_of-requires
 first-of-requires c κs = search rules
 
-lay-comment-requires : tie.Need-lay-comment-requires
+lay-comment-requires : tie.Need-lay_comment-requires
 lay-comment-requires c κs = search rules
 
-same_length : tie.Need-same-length
+same_length : tie.Need-shape_of-comments-in_default
 same_length c = search rules
 
-same-length-2 : tie.Need-same-length-2
+same-length-2 : tie.Need-shape_of-comment-in_default
 same-length-2 c = search rules
 
-returns : tie.Need-returns
+returns : tie.Need-returns-in_default
 returns c =
     let lay = c.before.before in
     let first = lay.before.before in
     let told = first.before.before in
     let join = told.before.before.before in
     let comment = (start join).args.comment.now in
-    lay.lay-comment.ensures
+    lay.lay_comment.ensures
     ∙ ap (λ (l : List ℕ). comment_laid (comment_of join.join-comments.result.commented l) comment) first.first_of.ensures
     ∙ string-laid join.join-comments.ensures comment told.match.keys2
 
-refuse-comment-requires : tie.Need-refuse-comment-requires
+refuse-comment-requires : tie.Need-refuse_comment-requires
 refuse-comment-requires c κs = search rules
 
-same-length-3 : tie.Need-same-length-3
+same-length-3 : tie.Need-shape_of-comments
 same-length-3 c = search rules
 
-returns-2 : tie.Need-returns-2
+returns-2 : tie.Need-returns
 returns-2 c =
-    let known = c.before.before in
-    let join = known.before.before.before.before in
+    let known = c.before in
+    let join = known.before.before.before in
     let comment = (start join).args.comment.now in
-    (λ j. comment_left (c.refuse-comment.ensures j) comment)
-    ∙ string_refused_lem join.join-comments.ensures comment known.reach.given.0.0 known.reach.given.1
+    (λ j. comment_left (c.refuse_comment.ensures j) comment)
+    ∙ string_refused_lem join.join_comments-end.ensures comment known.in-Met.stop known.in-Met.is
 
-pub comment-within-spec : {M : Type 1} → statement M
-comment-within-spec =
+pub comment_within_spec : {M : Type 1} → statement M
+comment_within_spec =
     tie.close
     (tie.spec
     join-comments-requires

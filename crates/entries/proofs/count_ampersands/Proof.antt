@@ -10,54 +10,54 @@ use Rattle.entries.proofs.Ampersands.{passing-more, passing-none, passing_space,
 use Rattle.entries.proofs.count_ampersands.Statement.{statement}
 use Rattle.entries.proofs.count_ampersands.Tie as tie
 
-abbrev invariant-loop : tie.invariant-loop
+abbrev invariant-loop : tie.invariant-loop-i
 invariant-loop before s k₀ i₀ k i = (i ≤ length s) × (ampersands k (drop i s) ≡ ampersands before s) × (k ≤ before + i)
 
-abbrev decreases-loop : tie.decreases-loop
+abbrev decreases-loop : tie.decreases-loop-i
 decreases-loop before s k₀ i₀ k i = length s - i
 
-loop-holds : tie.Need-loop-init invariant-loop decreases-loop
+loop-holds : tie.Need-loop-i-init invariant-loop decreases-loop
 loop-holds c = (omega arith, refl, omega arith)
 
-shared-slice-read-b : tie.Need-shared-slice-read-b invariant-loop decreases-loop
+shared-slice-read-b : tie.Need-bounds-s-i invariant-loop decreases-loop
 shared-slice-read-b c = search rules
 
-add-k : tie.Need-overflow-add-k invariant-loop decreases-loop
+add-k : tie.Need-overflow_add-k invariant-loop decreases-loop
 add-k c = search rules
 
-add-i : tie.Need-overflow-add-i invariant-loop decreases-loop
+add-i : tie.Need-overflow_add-i invariant-loop decreases-loop
 add-i c = search rules
 
-loop-less : tie.Need-loop-smaller invariant-loop decreases-loop
+loop-less : tie.Need-loop-i-smaller invariant-loop decreases-loop
 loop-less c = search rules
 
-loop-again : tie.Need-loop-preserved invariant-loop decreases-loop
+loop-again : tie.Need-loop-i-preserved invariant-loop decreases-loop
 loop-again c =
     let byte = c.before in
     let inside = byte.before in
     let at = inside.before in
-    let a = at.before.args in
+    let a = at.args in
     let s = a.s.now in
-    let b = get_or s at.loop.i 0 in
-    let k = at.loop.k in
-    let passed : c.if1.k ≡ passing k b =
+    let b = get_or s at.loop-i.i 0 in
+    let k = at.loop-i.k in
+    let passed : c.if-b-eq-AMPERSAND.k ≡ passing k b =
     ⊎_elim (λ w. w.1 ∙ passing-more k b w.0.taken)
     (⊎_elim (λ w. w.2 ∙ passing-none k b w.0.left w.1.taken) (λ w. w.2 ∙ passing_space k b w.1.left))
-    c.if1.branch in (
+    c.if-b-eq-AMPERSAND.branch in (
       omega arith,
-      ap (λ (m : ℕ). ampersands m (drop (at.loop.i + 1) s)) passed
-          ∙ ampersands_step k s at.loop.i inside.loop-test.true
-          ∙ at.loop.invariant.1,
-      omega (arith, passed, passing-few k b, at.loop.invariant.2),
+      ap (λ (m : ℕ). ampersands m (drop (at.loop-i.i + 1) s)) passed
+          ∙ ampersands_step k s at.loop-i.i inside.loop-i-test.true
+          ∙ at.loop-i.invariant.1,
+      omega (arith, passed, passing-few k b, at.loop-i.invariant.2),
     )
 
 returns : tie.Need-returns invariant-loop decreases-loop
 returns c =
     let at = c.before in
-    ampersands_done at.loop.k at.before.args.s.now at.loop.i c.loop-test.false ∙ at.loop.invariant.1
+    ampersands_done at.loop-i.k at.args.s.now at.loop-i.i c.loop-i-test.false ∙ at.loop-i.invariant.1
 
-pub count-ampersands-spec : {M : Type 1} → statement M
-count-ampersands-spec =
+pub count_ampersands_spec : {M : Type 1} → statement M
+count_ampersands_spec =
     tie.close
     (tie.spec
     invariant-loop

@@ -20,18 +20,18 @@ counted : (c : tie.Start) → c.args.there ≡ true → (n : ℕ) → n ≡ leng
     → n ≡ length (cond c.args.there (bytes_of c.args.t) [])
 counted c e n d = d ∙ sym (ap (λ (b : Bool). length (cond b (bytes_of c.args.t) [])) e)
 
-returns : tie.Need-returns
+returns : tie.Need-returns-then-t-lt-CARD
 returns c =
     let s = c.before.before.before in
-    counted s c.before.before.if1.true s.args.t.len (omega (arith, taken s))
+    counted s c.if-there.true s.args.t.len (omega (arith, taken s))
 
-returns-2 : tie.Need-returns-2
+returns-2 : tie.Need-returns-then-there
 returns-2 c =
     let s = c.before.before.before in
-    counted s c.before.before.if1.true 80 (omega (arith, taken s))
+    counted s c.if-there.true 80 (omega (arith, taken s))
 
-returns-3 : tie.Need-returns-3
+returns-3 : tie.Need-returns
 returns-3 c = search rules
 
-pub count-of-spec : {M : Type 1} → statement M
-count-of-spec = tie.close (tie.spec returns returns-2 returns-3)
+pub count_of_spec : {M : Type 1} → statement M
+count_of_spec = tie.close (tie.spec returns returns-2 returns-3)

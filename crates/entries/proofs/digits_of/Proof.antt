@@ -16,39 +16,39 @@ use Rattle.entries.proofs.digits_of.Tie as tie
 array : (c : tie.Start) → length c.args.own.bytes ≡ size
 array c = search rules
 
-enum_told : tie.Need-enum-told
+enum_told : tie.Need-enum_told-1
 enum_told c = search rules
 
-empty-text-requires : tie.Need-empty-text-requires
+empty-text-requires : tie.Need-empty_text-requires
 empty-text-requires c κs = search rules
 
-returns : tie.Need-returns
+returns : tie.Need-returns-in_default
 returns c =
-    let a = c.before.before.args in
-    c.empty-text.ensures
-    ∙ sym (ap (λ (b : Bool). text_of (cond b (bytes_of a.own) [])) (not_float a.value c.before.match.keys2))
+    let a = c.args in
+    c.empty_text.ensures
+    ∙ sym (ap (λ (b : Bool). text_of (cond b (bytes_of a.own) [])) (not_float a.value c.in_default.keys2))
 
-slice-aggregate-first-of : tie.Need-slice-aggregate-first-of
+slice-aggregate-first-of : tie.Need-slice_bounds-first_of-end
 slice-aggregate-first-of c = search rules
 
-first-of-requires : tie.Need-first-of-requires
+first-of-requires : tie.Need-first_of-requires
 first-of-requires c κs = search rules
 
-text-of-requires : tie.Need-text-of-requires
+text-of-requires : tie.Need-text_of-requires
 text-of-requires c κs = search rules
 
-returns-2 : tie.Need-returns-2
+returns-2 : tie.Need-returns
 returns-2 c =
     let told = c.before.before.before.before in
-    let start = told.before.before in
+    let start = told.before in
     let t = start.args.own in
-    c.text-of.ensures
-    ∙ ap (λ (l : List ℕ). text_of (take size l)) c.before.first_of.ensures
+    c.text_of.ensures
+    ∙ ap (λ (l : List ℕ). text_of (take size l)) c.first_of.ensures
     ∙ whole-text (bytes_of t) (bytes_fit t (array start))
-    ∙ sym (ap (λ (v : Value). text_of (cond (has_digits v) (bytes_of t) [])) told.enum_told.given.1)
+    ∙ sym (ap (λ (v : Value). text_of (cond (has_digits v) (bytes_of t) [])) told.in-Float.is)
 
-pub digits-of-spec : {M : Type 1} → statement M
-digits-of-spec =
+pub digits_of_spec : {M : Type 1} → statement M
+digits_of_spec =
     tie.close
     (tie.spec
     enum_told

@@ -16,18 +16,18 @@ unfolding ends_open ends_with
 nothing-open [] e = refl
 nothing-open (b ∷ s) e = absurd (omega arith)
 
-returns : tie.Need-returns
-returns c = nothing-open c.before.args.s.now c.if1.true
+returns : tie.Need-returns-then-n-eq0
+returns c = nothing-open c.args.s.now c.if-n-eq0.true
 
-sub-result : tie.Need-overflow-sub-result
+sub-result : tie.Need-overflow_sub-result
 sub-result c = search rules
 
-shared-slice-read-result : tie.Need-shared-slice-read-result
+shared-slice-read-result : tie.Need-bounds-s-n
 shared-slice-read-result c = search rules
 
-returns-2 : tie.Need-returns-2
+returns-2 : tie.Need-returns
 unfolding ends_open ends_with
 returns-2 c = refl
 
-pub ends-open-spec : {M : Type 1} → statement M
-ends-open-spec = tie.close (tie.spec returns sub-result shared-slice-read-result returns-2)
+pub ends_open_spec : {M : Type 1} → statement M
+ends_open_spec = tie.close (tie.spec returns sub-result shared-slice-read-result returns-2)

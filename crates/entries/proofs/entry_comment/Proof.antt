@@ -23,88 +23,88 @@ use borrow.Author.Rules.{rules}
 use Rattle.entries.proofs.entry_comment.Statement.{statement}
 use Rattle.entries.proofs.entry_comment.Tie as tie
 
-abbrev start : tie.After-role-of → tie.Start
+abbrev start : tie.After-role_of-role → tie.Start
 start c = c.before.before.before.before
 
 -- the card as it is read
-abbrev card : tie.After-role-of → CardRead
-card c = c.before.card-at.result
+abbrev card : tie.After-role_of-role → CardRead
+card c = c.card_at-part.result
 
-card-is : (c : tie.After-role-of) → card c ≡ card_of (card_no (start c).args.header.now (start c).args.i)
-card-is c = c.before.card-at.ensures ∙ card-here _ _ (start c).requires.0
+card-is : (c : tie.After-role_of-role) → card c ≡ card_of (card_no (start c).args.header.now (start c).args.i)
+card-is c = c.card_at-part.ensures ∙ card-here _ _ (start c).requires.0
 
 -- what is known of it is what is sought
-by : (c : tie.After-role-of) (x : Sought) → let a = (start c).args in
+by : (c : tie.After-role_of-role) (x : Sought) → let a = (start c).args in
     numbered_from (drop a.i (roles_of a.header.now)) a.i ≡ x
     → comment_in x a.comment.now ≡ comment_in (numbered_from (drop a.i (roles_of a.header.now)) a.i) a.comment.now
 by c x e = sym (ap (λ (y : Sought). comment_in y (start c).args.comment.now) e)
 
 -- an entry, by what was told of it
-abbrev value : tie.After-role → Value
-value c = c.role.given.0.0
+abbrev value : tie.In-Entry-2 → Value
+value c = c.in-Entry.value
 
-abbrev joins : tie.After-role → Bool
-joins c = c.role.given.0.1.0
+abbrev joins : tie.In-Entry-2 → Bool
+joins c = c.in-Entry.joins
 
-abbrev read : tie.After-role → tie.After-role-of
-read c = c.before.before
+abbrev read : tie.In-Entry-2 → tie.After-role_of-role
+read c = c.before
 
-told : (c : tie.After-role) → role_by (card (read c)).answer ≡ Entry (value c) (joins c)
-told c = sym (read c).role-of.ensures ∙ c.role.given.1
+told : (c : tie.In-Entry-2) → role_by (card (read c)).answer ≡ Entry (value c) (joins c)
+told c = sym (read c).role_of-role.ensures ∙ c.in-Entry.is
 
-abbrev entry : tie.After-is-open → tie.After-role
-entry c = c.before.before.before
+abbrev entry : tie.After-is_open → tie.In-Entry-2
+entry c = c.before.before
 
-open_is : (c : tie.After-is-open) → (joins (entry c) && ends_open (bytes_of (card (read (entry c))).text)) ≡ c.is_open.result
+open_is : (c : tie.After-is_open) → (joins (entry c) && ends_open (bytes_of (card (read (entry c))).text)) ≡ c.is_open.result
 open_is c = sym c.is_open.ensures
 
-card-at-requires : tie.Need-card-at-requires
+card-at-requires : tie.Need-card_at-part-requires
 card-at-requires c κs = search rules
 
-role-of-requires : tie.Need-role-of-requires
+role-of-requires : tie.Need-role_of-role-requires
 role-of-requires c κs = search rules
 
-enum-known-role : tie.Need-enum-known-role
+enum-known-role : tie.Need-enum_known-role
 enum-known-role c = search rules
 
-no-entry-requires : tie.Need-no-entry-requires
+no-entry-requires : tie.Need-no_entry-requires
 no-entry-requires c κs = search rules
 
-refuse-comment-requires : tie.Need-refuse-comment-requires
+refuse-comment-requires : tie.Need-refuse_comment-requires
 refuse-comment-requires c κs = search rules
 
-returns : tie.Need-returns
+returns : tie.Need-returns-in_default
 returns c =
     let none = c.before in
     let role = none.before.before in
     let a = (start role).args in
-    let told = role.role-of.result in
-    (λ j. comment_left (c.refuse-comment.ensures j) a.comment.now)
-    ∙ ap (λ (x : Spot). comment_left (comment_refused x) a.comment.now) none.no-entry.ensures
+    let told = role.role_of-role.result in
+    (λ j. comment_left (c.refuse_comment.ensures j) a.comment.now)
+    ∙ ap (λ (x : Spot). comment_left (comment_refused x) a.comment.now) none.no_entry.ensures
     ∙ refused-comment (no_entry_vacant told a.i) a.header.now a.comment.now
     ∙ by role _
-    (numbered-none a.header.now a.i (start role).requires.0 (card role) (card-is role) told (sym role.role-of.ensures)
-    none.before.match.keys2)
+    (numbered-none a.header.now a.i (start role).requires.0 (card role) (card-is role) told (sym role.role_of-role.ensures)
+    none.in_default.keys2)
 
-is-open-requires : tie.Need-is-open-requires
+is-open-requires : tie.Need-is_open-requires
 is-open-requires c κs = search rules
 
-joined-comment-requires : tie.Need-joined-comment-requires
+joined-comment-requires : tie.Need-joined_comment-requires
 joined-comment-requires c κs =
     let test = c.before in
     let role = entry test.before in
     let part = read role in
     let s = start part in
     let a = s.args in
-    let opened = open_is test.before ∙ test.if1.true in (
-      open_at a.header.now a.i s.pre.0 (card part) (card-is part) (value role) (joins role) (told role) opened s.pre.1,
-      begins a.header.now a.i s.pre.0 (card part) (card-is part) (value role) (joins role) (told role) opened,
+    let opened = open_is test.before ∙ test.if-is_open.true in (
+      open_at a.header.now a.i s.requires.0 (card part) (card-is part) (value role) (joins role) (told role) opened s.requires.1,
+      begins a.header.now a.i s.requires.0 (card part) (card-is part) (value role) (joins role) (told role) opened,
     )
 
-same_length : tie.Need-same-length
+same_length : tie.Need-shape_of-comment-then-is_open
 same_length c = search rules
 
-returns-2 : tie.Need-returns-2
+returns-2 : tie.Need-returns-then-is_open
 returns-2 c =
     let join = c.before.before in
     let test = join.before.before in
@@ -112,24 +112,24 @@ returns-2 c =
     let part = read role in
     let s = start part in
     let a = s.args in
-    join.joined-comment.ensures
+    join.joined_comment.ensures
     ∙ by part _
-    (numbered_open a.header.now a.i s.pre.0 (card part) (card-is part) (value role) (joins role) (told role)
-    (open_is test.before ∙ test.if1.true))
+    (numbered_open a.header.now a.i s.requires.0 (card part) (card-is part) (value role) (joins role) (told role)
+    (open_is test.before ∙ test.if-is_open.true))
 
-slice-aggregate-first-of : tie.Need-slice-aggregate-first-of
+slice-aggregate-first-of : tie.Need-slice_bounds-first_of-end
 slice-aggregate-first-of c = search rules
 
-first-of-requires : tie.Need-first-of-requires
+first-of-requires : tie.Need-first_of-requires
 first-of-requires c κs = search rules
 
-lay-comment-requires : tie.Need-lay-comment-requires
+lay-comment-requires : tie.Need-lay_comment-requires
 lay-comment-requires c κs = search rules
 
-same-length-2 : tie.Need-same-length-2
+same-length-2 : tie.Need-shape_of-comment
 same-length-2 c = search rules
 
-returns-3 : tie.Need-returns-3
+returns-3 : tie.Need-returns
 returns-3 c =
     let lay = c.before.before in
     let first = lay.before.before in
@@ -139,15 +139,15 @@ returns-3 c =
     let s = start part in
     let a = s.args in
     let p = card part in
-    lay.lay-comment.ensures
+    lay.lay_comment.ensures
     ∙ ap (λ (l : List ℕ). comment_laid (comment_of p.commented l) a.comment.now) first.first_of.ensures
     ∙ held-laid (held_of (value role) (joins role) p) a.comment.now
     ∙ by part _
-    (numbered_shut a.header.now a.i s.pre.0 p (card-is part) (value role) (joins role) (told role)
-    (open_is test.before ∙ test.if1.false))
+    (numbered_shut a.header.now a.i s.requires.0 p (card-is part) (value role) (joins role) (told role)
+    (open_is test.before ∙ test.if-is_open.false))
 
-pub entry-comment-spec : {M : Type 1} → statement M
-entry-comment-spec =
+pub entry_comment_spec : {M : Type 1} → statement M
+entry_comment_spec =
     tie.close
     (tie.spec
     card-at-requires

@@ -24,113 +24,113 @@ use borrow.Author.Rules.{rules}
 use Rattle.entries.proofs.entry_value.Statement.{statement}
 use Rattle.entries.proofs.entry_value.Tie as tie
 
-abbrev start : tie.After-role-of → tie.Start
+abbrev start : tie.After-role_of-role → tie.Start
 start c = c.before.before.before.before
 
 -- the card as it is read
-abbrev card : tie.After-role-of → CardRead
-card c = c.before.card-at.result
+abbrev card : tie.After-role_of-role → CardRead
+card c = c.card_at-part.result
 
-card-is : (c : tie.After-role-of) → card c ≡ card_of (card_no (start c).args.header.now (start c).args.i)
-card-is c = c.before.card-at.ensures ∙ card-here _ _ (start c).requires.0
+card-is : (c : tie.After-role_of-role) → card c ≡ card_of (card_no (start c).args.header.now (start c).args.i)
+card-is c = c.card_at-part.ensures ∙ card-here _ _ (start c).requires.0
 
 -- an entry, by what was told of it
-abbrev value : tie.After-role → Value
-value c = c.role.given.0.0
+abbrev value : tie.In-Entry-2 → Value
+value c = c.in-Entry.value
 
-abbrev joins : tie.After-role → Bool
-joins c = c.role.given.0.1.0
+abbrev joins : tie.In-Entry-2 → Bool
+joins c = c.in-Entry.joins
 
-abbrev read : tie.After-role → tie.After-role-of
-read c = c.before.before
+abbrev read : tie.In-Entry-2 → tie.After-role_of-role
+read c = c.before
 
-told : (c : tie.After-role) → role_by (card (read c)).answer ≡ Entry (value c) (joins c)
-told c = sym (read c).role-of.ensures ∙ c.role.given.1
+told : (c : tie.In-Entry-2) → role_by (card (read c)).answer ≡ Entry (value c) (joins c)
+told c = sym (read c).role_of-role.ensures ∙ c.in-Entry.is
 
-abbrev entry : tie.After-is-open → tie.After-role
-entry c = c.before.before.before
+abbrev entry : tie.After-is_open → tie.In-Entry-2
+entry c = c.before.before
 
-open_is : (c : tie.After-is-open) → (joins (entry c) && ends_open (bytes_of (card (read (entry c))).text)) ≡ c.is_open.result
+open_is : (c : tie.After-is_open) → (joins (entry c) && ends_open (bytes_of (card (read (entry c))).text)) ≡ c.is_open.result
 open_is c = sym c.is_open.ensures
 
-card-at-requires : tie.Need-card-at-requires
+card-at-requires : tie.Need-card_at-part-requires
 card-at-requires c κs = search rules
 
-role-of-requires : tie.Need-role-of-requires
+role-of-requires : tie.Need-role_of-role-requires
 role-of-requires c κs = search rules
 
-enum-known-role : tie.Need-enum-known-role
+enum-known-role : tie.Need-enum_known-role
 enum-known-role c = search rules
 
-no-entry-requires : tie.Need-no-entry-requires
+no-entry-requires : tie.Need-no_entry-requires
 no-entry-requires c κs = search rules
 
-refuse-value-requires : tie.Need-refuse-value-requires
+refuse-value-requires : tie.Need-refuse_value-requires
 refuse-value-requires c κs = search rules
 
-returns : tie.Need-returns
+returns : tie.Need-returns-in_default
 returns c =
     let other = c.before.before in
     let part = other.before in
     let s = start part in
     let h = s.args.header.now in
     let text = s.args.text.now in
-    let role = part.role-of.result in
-    ap (λ (v : ValueHalf). value_left v text) c.refuse-value.ensures
-    ∙ ap (λ (x : Spot). value_left (value_refused x) text) c.before.no-entry.ensures
+    let role = part.role_of-role.result in
+    ap (λ (v : ValueHalf). value_left v text) c.refuse_value.ensures
+    ∙ ap (λ (x : Spot). value_left (value_refused x) text) c.no_entry.ensures
     ∙ refused-value (no_entry_vacant role s.args.i) h text
     ∙ ap (λ (x : Sought). value_in x text)
-    (sym (numbered-none h s.args.i s.pre.0 (card part) (card-is part) role (sym part.role-of.ensures) other.match.keys2))
+    (sym (numbered-none h s.args.i s.requires.0 (card part) (card-is part) role (sym part.role_of-role.ensures) other.in_default.keys2))
 
-is-open-requires : tie.Need-is-open-requires
+is-open-requires : tie.Need-is_open-requires
 is-open-requires c κs = search rules
 
-joined-value-requires : tie.Need-joined-value-requires
+joined-value-requires : tie.Need-joined_value-requires
 joined-value-requires c κs =
     let test = c.before in
     let role = entry test.before in
     let part = read role in
     let s = start part in
     let h = s.args.header.now in
-    let opened = open_is test.before ∙ test.if1.true in (
-      open_at h s.args.i s.pre.0 (card part) (card-is part) (value role) (joins role) (told role) opened s.pre.1,
-      (begins h s.args.i s.pre.0 (card part) (card-is part) (value role) (joins role) (told role) opened).text,
+    let opened = open_is test.before ∙ test.if-is_open.true in (
+      open_at h s.args.i s.requires.0 (card part) (card-is part) (value role) (joins role) (told role) opened s.requires.1,
+      (begins h s.args.i s.requires.0 (card part) (card-is part) (value role) (joins role) (told role) opened).text,
     )
 
-same_length : tie.Need-same-length
+same_length : tie.Need-shape_of-text-then-is_open
 same_length c = search rules
 
-returns-2 : tie.Need-returns-2
+returns-2 : tie.Need-returns-then-is_open
 returns-2 c =
     let joined = c.before.before in
     let test = joined.before.before in
     let role = entry test.before in
     let part = read role in
     let s = start part in
-    joined.joined-value.ensures
+    joined.joined_value.ensures
     ∙ ap (λ (x : Sought). value_in x s.args.text.now)
-    (sym (numbered_open s.args.header.now s.args.i s.pre.0 (card part) (card-is part) (value role) (joins role) (told role)
-    (open_is test.before ∙ test.if1.true)))
+    (sym (numbered_open s.args.header.now s.args.i s.requires.0 (card part) (card-is part) (value role) (joins role) (told role)
+    (open_is test.before ∙ test.if-is_open.true)))
 
-has-text-requires : tie.Need-has-text-requires
+has-text-requires : tie.Need-has_text-requires
 has-text-requires c κs = search rules
 
-count-of-requires : tie.Need-count-of-requires
+count-of-requires : tie.Need-count_of-n-requires
 count-of-requires c κs = search rules
 
-slice-aggregate-first-of : tie.Need-slice-aggregate-first-of
+slice-aggregate-first-of : tie.Need-slice_bounds-first_of-end
 slice-aggregate-first-of c = search rules
 
-first-of-requires : tie.Need-first-of-requires
+first-of-requires : tie.Need-first_of-requires
 first-of-requires c κs = search rules
 
-lay-value-requires : tie.Need-lay-value-requires
+lay-value-requires : tie.Need-lay_value-requires
 lay-value-requires c κs = search rules
 
-same-length-2 : tie.Need-same-length-2
+same-length-2 : tie.Need-shape_of-text
 same-length-2 c = search rules
 
-returns-3 : tie.Need-returns-3
+returns-3 : tie.Need-returns
 returns-3 c =
     let lay = c.before.before in
     let first = lay.before.before in
@@ -143,16 +143,16 @@ returns-3 c =
     let p = card part in
     let text = s.args.text.now in
     let own = bytes_of p.text in
-    let long = count.count_of.ensures ∙ ap (λ (b : Bool). length (cond b own [])) shown.has-text.ensures in
-    lay.lay-value.ensures
+    let long = count.count_of-n.ensures ∙ ap (λ (b : Bool). length (cond b own [])) shown.has_text.ensures in
+    lay.lay_value.ensures
     ∙ ap (λ (t : List ℕ). value_laid (value role) (cond (has_digits (value role)) own []) t text) first.first_of.ensures
     ∙ own_laid (value role) (joins role) p text long
     ∙ ap (λ (x : Sought). value_in x text)
-    (sym (numbered_shut s.args.header.now s.args.i s.pre.0 p (card-is part) (value role) (joins role) (told role)
-    (open_is test.before ∙ test.if1.false)))
+    (sym (numbered_shut s.args.header.now s.args.i s.requires.0 p (card-is part) (value role) (joins role) (told role)
+    (open_is test.before ∙ test.if-is_open.false)))
 
-pub entry-value-spec : {M : Type 1} → statement M
-entry-value-spec =
+pub entry_value_spec : {M : Type 1} → statement M
+entry_value_spec =
     tie.close
     (tie.spec
     card-at-requires

@@ -16,11 +16,11 @@ use borrow.Author.Rules.{rules}
 use Rattle.entries.proofs.find_card.Statement.{statement}
 use Rattle.entries.proofs.find_card.Tie as tie
 
-abbrev start : tie.After-is-bad-length → tie.Start
+abbrev start : tie.After-is_bad_length → tie.Start
 start c = c.before.before
 
-length-is : (c : tie.Else1) → is_bad_length (length (start c.before).args.header.now) ≡ false
-length-is c = sym c.before.is-bad-length.ensures ∙ c.if1.false
+length-is : (c : tie.Else-is_bad_length) → is_bad_length (length (start c.before).args.header.now) ≡ false
+length-is c = sym c.is_bad_length.ensures ∙ c.if-is_bad_length.false
 
 module _ (h : List ℕ) (i : ℕ) where
   bad : is_bad_length (length h) ≡ true → stops (stop_at (fault_of R.HeaderLength) 0) ≡ numbered h i
@@ -31,43 +31,43 @@ module _ (h : List ℕ) (i : ℕ) where
   unfolding numbered
   good e = rw e
 
-is-bad-length-requires : tie.Need-is-bad-length-requires
+is-bad-length-requires : tie.Need-is_bad_length-requires
 is-bad-length-requires c κs = search rules
 
-fault-of-requires : tie.Need-fault-of-requires
+fault-of-requires : tie.Need-fault_of-fault-requires
 fault-of-requires c κs = search rules
 
-stop-at-requires : tie.Need-stop-at-requires
+stop-at-requires : tie.Need-stop_at-requires
 stop-at-requires c κs = search rules
 
-returns : tie.Need-returns
+returns : tie.Need-returns-then-is_bad_length
 returns c =
     let test = c.before.before in
     let a = (start test.before).args in
-    let refused = sym test.before.is-bad-length.ensures ∙ test.if1.true in
+    let refused = sym test.is_bad_length.ensures ∙ test.if-is_bad_length.true in
     record {
       is =
-          ap stops (c.stop-at.ensures ∙ ap (λ (f : Fault). stop_at f 0) c.before.fault-of.ensures)
+          ap stops (c.stop_at.ensures ∙ ap (λ (f : Fault). stop_at f 0) c.fault_of-fault.ensures)
           ∙ bad a.header.now a.i refused;
       within = tt;
     }
 
-returns-2 : tie.Need-returns-2
+returns-2 : tie.Need-returns-then-header-i
 returns-2 c =
     let a = (start c.before.before).args in
     record {
-      is = none_past a.header.now a.i c.if2.true ∙ good a.header.now a.i (length-is c.before);
+      is = none_past a.header.now a.i c.if-header-i.true ∙ good a.header.now a.i (length-is c.before);
       within = tt;
     }
 
-returns-3 : tie.Need-returns-3
+returns-3 : tie.Need-returns
 returns-3 c =
     let a = (start c.before.before).args in
     let long = length-is c.before in
-    record { is = good a.header.now a.i long; within = (c.if2.false, good_cards (length a.header.now) long) }
+    record { is = good a.header.now a.i long; within = (c.if-header-i.false, good_cards (length a.header.now) long) }
 
-pub find-card-spec : {M : Type 1} → statement M
-find-card-spec =
+pub find_card_spec : {M : Type 1} → statement M
+find_card_spec =
     tie.close
     (tie.spec
     is-bad-length-requires

@@ -33,69 +33,69 @@ by_place h name end p a e =
     ap held_in (ap (λ (q : Place). entry_at q (roles_of h)) (sym e) ∙ last_found name (roles_of h)) ∙ by_header_lem h name (Accepted end) a
 
 -- an accepted header, where END stands, and the last card that bears the name
-abbrev end-at : tie.After-last → ℕ
-end-at c = c.last.given.0.0
+abbrev end-at : tie.In-Read-2 → ℕ
+end-at c = c.in-Read.end
 
-abbrev last_at_lem : tie.After-last → Place
-last_at_lem c = c.last.given.0.1.0
+abbrev last_at_lem : tie.In-Read-2 → Place
+last_at_lem c = c.in-Read.last
 
-header_is : (c : tie.After-last) → let a = (start c.before.before).args in
+header_is : (c : tie.In-Read-2) → let a = (start c.before).args in
     (header_of a.header.now ≡ Accepted (end-at c)) × (last_of a.name.now (roles_of a.header.now) ≡ last_at_lem c)
 header_is c =
-    let found = c.before.before in
+    let found = c.before in
     let a = (start found).args in
-    header_read a.header.now a.name.now (end-at c) (last_at_lem c) (sym found.find.ensures ∙ c.last.given.1)
+    header_read a.header.now a.name.now (end-at c) (last_at_lem c) (sym found.find.ensures ∙ c.in-Read.is)
 
 find-requires : tie.Need-find-requires
 find-requires c κs = search rules
 
-enum-known-stop : tie.Need-enum-known-stop
+enum-known-stop : tie.Need-enum_known-stop
 enum-known-stop c = search rules
 
-enum-known-last : tie.Need-enum-known-last
+enum-known-last : tie.Need-enum_known-last
 enum-known-last c = search rules
 
-enum-known-last-2 : tie.Need-enum-known-last-2
+enum-known-last-2 : tie.Need-enum_known-last-in-Read
 enum-known-last-2 c = search rules
 
-enum_told : tie.Need-enum-told
+enum_told : tie.Need-enum_told-1
 enum_told c = search rules
 
-returns : tie.Need-returns
+returns : tie.Need-returns-in-Refused
 returns c =
-    let stop = c.before in
-    let found = stop.before.before in
+    let stop = c in
+    let found = stop.before in
     let a = (start found).args in
-    let s = stop.stop.given.0.0 in
-    let refused = header_refused a.header.now a.name.now s (sym found.find.ensures ∙ stop.stop.given.1) in
+    let s = stop.in-Refused.stop in
+    let refused = header_refused a.header.now a.name.now s (sym found.find.ensures ∙ stop.in-Refused.is) in
     record { is = by_header_lem a.header.now a.name.now (Refused s) refused; within = tt }
 
-returns-2 : tie.Need-returns-2
+returns-2 : tie.Need-returns-in-At
 returns-2 c =
-    let at_last = c.before in
-    let accepted = at_last.before.before.before in
-    let a = (start accepted.before.before).args in
+    let at_last = c in
+    let accepted = at_last.before in
+    let a = (start accepted.before).args in
     let h = a.header.now in
-    let k = at_last.last2.given.0.0 in
+    let k = at_last.in-At.i in
     let is = header_is accepted in
-    let place : last_of a.name.now (roles_of h) ≡ At k = is.1 ∙ at_last.last2.given.1 in
+    let place : last_of a.name.now (roles_of h) ≡ At k = is.1 ∙ at_last.in-At.is in
     record {
       is = last-read a.name.now (end-at accepted) h k is.0 place ∙ by_place h a.name.now (end-at accepted) (At k) is.0 place;
       within = (last_within a.name.now h k place, good_cards (length h) (accepted_good h (end-at accepted) is.0));
     }
 
-returns-3 : tie.Need-returns-3
+returns-3 : tie.Need-returns-in-Nowhere
 returns-3 c =
-    let accepted = c.before.before.before in
-    let a = (start accepted.before.before).args in
+    let accepted = c.before in
+    let a = (start accepted.before).args in
     let is = header_is accepted in
     record {
-      is = by_place a.header.now a.name.now (end-at accepted) Nowhere is.0 (is.1 ∙ c.enum_told.given.1);
+      is = by_place a.header.now a.name.now (end-at accepted) Nowhere is.0 (is.1 ∙ c.in-Nowhere.is);
       within = tt;
     }
 
-pub find-name-spec : {M : Type 1} → statement M
-find-name-spec =
+pub find_name_spec : {M : Type 1} → statement M
+find_name_spec =
     tie.close
     (tie.spec
     find-requires

@@ -30,33 +30,30 @@ by c there e =
     let a = c.args in
     sym (ap (λ (b : Bool). join_comment (comment_of b (take a.n a.held.now)) (some (bytes_of a.c))) e)
 
-slice-aggregate-put-at : tie.Need-slice-aggregate-put-at
-slice-aggregate-put-at c = search rules
-
-put-at-requires : tie.Need-put-at-requires
+put-at-requires : tie.Need-put_at-requires
 put-at-requires c κs = search rules
 
-add-put-text : tie.Need-overflow-add-put-text
+add-put-text : tie.Need-overflow_add-n
 add-put-text c = search rules
 
-put-text-requires : tie.Need-put-text-requires
+put-text-requires : tie.Need-put_text-requires
 put-text-requires c κs = search rules
 
-add-result : tie.Need-overflow-add-result
+add-result : tie.Need-overflow_add-result
 add-result c = search rules
 
-count-of-requires : tie.Need-count-of-requires
+count-of-requires : tie.Need-count_of-requires
 count-of-requires c κs = search rules
 
-add-result-2 : tie.Need-overflow-add-result-2
+add-result-2 : tie.Need-overflow_add-result-then-there
 add-result-2 c =
     let s = c.before.before.before.before.before.before.before.before.before.before.before.before in
     omega (arith, c.count_of.ensures, short s, s.requires)
 
-same_length : tie.Need-same-length
+same_length : tie.Need-shape_of-held-then-there
 same_length c = search rules
 
-returns : tie.Need-returns
+returns : tie.Need-returns-then-there
 returns c =
     let put = c.before.before.before in
     let line = put.before.before.before.before in
@@ -64,38 +61,37 @@ returns c =
     let s = test.before.before in
     let a = s.args in (
       ap₂ (λ (k : ℕ) (l : List ℕ). some (take (a.n + 1 + k) l)) c.count_of.ensures
-          (put.put-text.ensures ∙ ap (λ (l : List ℕ). sets l (a.n + 1) (bytes_of a.c)) line.put-at.ensures)
+          (put.put_text.ensures ∙ ap (λ (l : List ℕ). sets l (a.n + 1) (bytes_of a.c)) line.put_at.ensures)
           ∙ put-behind a.held.now (bytes_of a.c) a.n (omega (arith, short s, s.requires))
-          ∙ by s _ test.if1.true,
+          ∙ by s _ test.if-there.true,
       omega (arith, c.count_of.ensures, short s),
     )
 
-put-text-requires-2 : tie.Need-put-text-requires-2
+put-text-requires-2 : tie.Need-put_text-requires-2
 put-text-requires-2 c κs = search rules
 
-count-of-requires-2 : tie.Need-count-of-requires-2
+count-of-requires-2 : tie.Need-count_of-requires-2
 count-of-requires-2 c κs = search rules
 
-same-length-2 : tie.Need-same-length-2
+same-length-2 : tie.Need-shape_of-held
 same-length-2 c = search rules
 
-returns-2 : tie.Need-returns-2
+returns-2 : tie.Need-returns
 returns-2 c =
     let put = c.before.before.before in
     let test = put.before.before in
     let s = test.before.before in
     let a = s.args in (
-      ap₂ (λ (k : ℕ) (l : List ℕ). some (take k l)) c.count-of2.ensures put.put-text2.ensures
+      ap₂ (λ (k : ℕ) (l : List ℕ). some (take k l)) c.count_of-2.ensures put.put_text-2.ensures
           ∙ put_alone a.held.now (bytes_of a.c) (omega (arith, short s, s.requires))
-          ∙ by s _ test.if1.false,
-      omega (arith, c.count-of2.ensures, short s),
+          ∙ by s _ test.if-there.false,
+      omega (arith, c.count_of-2.ensures, short s),
     )
 
-pub join-comment-spec : {M : Type 1} → statement M
-join-comment-spec =
+pub join_comment_spec : {M : Type 1} → statement M
+join_comment_spec =
     tie.close
     (tie.spec
-    slice-aggregate-put-at
     put-at-requires
     add-put-text
     put-text-requires

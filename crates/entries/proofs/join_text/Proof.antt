@@ -21,28 +21,28 @@ array c = search rules
 short : (c : tie.Start) → length (bytes_of c.args.t) ≤ size
 short c = bytes_fit c.args.t (array c)
 
-sub-m : tie.Need-overflow-sub-m
+sub-m : tie.Need-overflow_sub-m
 sub-m c = search rules
 
-adds-nothing-requires : tie.Need-adds-nothing-requires
+adds-nothing-requires : tie.Need-adds_nothing-requires
 adds-nothing-requires c κs = search rules
 
-slice-reshare-prefix-trim-end : tie.Need-slice-reshare-prefix-trim-end
+slice-reshare-prefix-trim-end : tie.Need-slice_bounds-trim_end-end
 slice-reshare-prefix-trim-end c = search rules
 
-slice-aggregate-trim-end : tie.Need-slice-aggregate-trim-end
+slice-aggregate-trim-end : tie.Need-slice_bounds-trim_end-end-then-adds_nothing
 slice-aggregate-trim-end c =
     let s = c.before.before.before.before in
     let a = s.args in
     sym (length-take-le (a.n - 1) a.held.now (omega (arith, s.requires.1)))
 
-trim-end-requires : tie.Need-trim-end-requires
+trim-end-requires : tie.Need-trim_end-requires
 trim-end-requires c κs = search rules
 
-same_length : tie.Need-same-length
+same_length : tie.Need-shape_of-held-then-adds_nothing
 same_length c = search rules
 
-returns : tie.Need-returns
+returns : tie.Need-returns-then-adds_nothing
 returns c =
     let test = c.before.before.before in
     let s = test.before.before in
@@ -51,40 +51,40 @@ returns c =
     let cut : c.trim_end.result.now ≡ trim_end is_space (take (a.n - 1) d) = c.trim_end.ensures in
     let front = take (a.n - 1) d in
     let less : length (trim_end is_space front) ≤ a.n - 1 = omega (arith, end_shorter is_space front, length-take (a.n - 1) d) in
-    let nothing = sym test.adds-nothing.ensures ∙ c.before.before.if1.true in (
+    let nothing = sym test.adds-nothing.ensures ∙ c.if-adds_nothing.true in (
       ap (λ (l : List ℕ). take (length l) d) cut ∙ joined-cut d (bytes_of a.t) a.n s.requires.0 (omega (arith, s.requires.1)) nothing,
       rw cut (omega arith),
     )
 
-put-text-requires : tie.Need-put-text-requires
+put-text-requires : tie.Need-put_text-requires
 put-text-requires c κs = search rules
 
-count-of-requires : tie.Need-count-of-requires
+count-of-requires : tie.Need-count_of-requires
 count-of-requires c κs = search rules
 
-add-result : tie.Need-overflow-add-result
+add-result : tie.Need-overflow_add-result
 add-result c =
     let s = c.before.before.before.before.before.before.before.before in
     omega (arith, c.count_of.ensures, short s, s.requires.1)
 
-same-length-2 : tie.Need-same-length-2
+same-length-2 : tie.Need-shape_of-held
 same-length-2 c = search rules
 
-returns-2 : tie.Need-returns-2
+returns-2 : tie.Need-returns
 returns-2 c =
     let put = c.before.before.before in
     let test = put.before.before.before in
     let s = test.before.before in
     let a = s.args in
-    let something = sym test.adds-nothing.ensures ∙ put.before.before.if1.false in (
-      ap₂ take (ap (λ (k : ℕ). a.n - 1 + k) c.count_of.ensures) put.put-text.ensures
+    let something = sym test.adds_nothing.ensures ∙ put.if-adds_nothing.false in (
+      ap₂ take (ap (λ (k : ℕ). a.n - 1 + k) c.count_of.ensures) put.put_text.ensures
           ∙ joined-put a.held.now (bytes_of a.t) a.n s.requires.0 (omega (arith, s.requires.1))
           (omega (arith, s.requires.0, s.requires.1, short s)) something,
       omega (arith, c.count_of.ensures, short s, s.requires.0),
     )
 
-pub join-text-spec : {M : Type 1} → statement M
-join-text-spec =
+pub join_text_spec : {M : Type 1} → statement M
+join_text_spec =
     tie.close
     (tie.spec
     sub-m

@@ -12,62 +12,62 @@ use borrow.Author.Rules.{rules}
 use Rattle.entries.proofs.lay_comment.Statement.{statement}
 use Rattle.entries.proofs.lay_comment.Tie as tie
 
-abbrev start : tie.After-slice-known → tie.Start
+abbrev start : tie.After-slice_known-1 → tie.Start
 start c = c.before.before
 
 -- the case that a test knows is the whole
-by : (c : tie.After-slice-known) (there : Bool) → (start c).args.there ≡ there → let a = (start c).args in
+by : (c : tie.After-slice_known-1) (there : Bool) → (start c).args.there ≡ there → let a = (start c).args in
     comment_laid (comment_of there a.s.now) a.comment.now ≡ comment_laid (comment_of a.there a.s.now) a.comment.now
 by c there e = let a = (start c).args in sym (ap (λ (b : Bool). comment_laid (comment_of b a.s.now) a.comment.now) e)
 
-comment-half-requires : tie.Need-comment-half-requires
+comment-half-requires : tie.Need-comment_half-requires
 comment-half-requires c κs = search rules
 
-returns : tie.Need-returns
+returns : tie.Need-returns-then-not-there
 returns c =
     let at = c.before.before in
     let a = (start at).args in
-    (λ j. comment_left (c.comment-half.ensures j) a.comment.now)
+    (λ j. comment_left (c.comment_half.ensures j) a.comment.now)
     ∙ laid_none a.comment.now
-    ∙ by at false (not-true _ c.before.if1.true)
+    ∙ by at false (not-true _ c.if-not-there.true)
 
-fault-of-requires : tie.Need-fault-of-requires
+fault-of-requires : tie.Need-fault_of-requires
 fault-of-requires c κs = search rules
 
-comment-half-requires-2 : tie.Need-comment-half-requires-2
+comment-half-requires-2 : tie.Need-comment_half-requires-then-comment-n
 comment-half-requires-2 c κs = search rules
 
-returns-2 : tie.Need-returns-2
+returns-2 : tie.Need-returns-then-comment-n
 returns-2 c =
     let test = c.before.before in
     let other = test.before in
     let a = (start other.before).args in
-    (λ j. comment_left (c.comment-half2.ensures j) a.comment.now)
-    ∙ ap (λ (f : Fault). comment_left (comment_half (C.Refused f) (length a.s.now)) a.comment.now) c.before.fault-of.ensures
-    ∙ laid-short a.s.now a.comment.now test.if2.true
-    ∙ by other.before true (not-false _ other.if1.false)
+    (λ j. comment_left (c.comment_half-then-comment-n.ensures j) a.comment.now)
+    ∙ ap (λ (f : Fault). comment_left (comment_half (C.Refused f) (length a.s.now)) a.comment.now) c.fault_of.ensures
+    ∙ laid-short a.s.now a.comment.now test.if-comment-n.true
+    ∙ by other.before true (not-false _ other.if-not-there.false)
 
-put-at-requires : tie.Need-put-at-requires
+put-at-requires : tie.Need-put_at-requires
 put-at-requires c κs = search rules
 
-comment-half-requires-3 : tie.Need-comment-half-requires-3
+comment-half-requires-3 : tie.Need-comment_half-requires-2
 comment-half-requires-3 c κs = search rules
 
-same_length : tie.Need-same-length
+same_length : tie.Need-shape_of-comment
 same_length c = search rules
 
-returns-3 : tie.Need-returns-3
+returns-3 : tie.Need-returns
 returns-3 c =
     let put = c.before.before.before in
     let test = put.before.before in
     let other = test.before in
     let a = (start other.before).args in
-    (λ j. comment_left (c.comment-half3.ensures j) (put.put-at.ensures j))
-    ∙ laid-whole a.s.now a.comment.now test.if2.false
-    ∙ by other.before true (not-false _ other.if1.false)
+    (λ j. comment_left (c.comment_half-2.ensures j) (put.put_at.ensures j))
+    ∙ laid-whole a.s.now a.comment.now test.if-comment-n.false
+    ∙ by other.before true (not-false _ other.if-not-there.false)
 
-pub lay-comment-spec : {M : Type 1} → statement M
-lay-comment-spec =
+pub lay_comment_spec : {M : Type 1} → statement M
+lay_comment_spec =
     tie.close
     (tie.spec
     comment-half-requires

@@ -31,41 +31,41 @@ module _ (v : Value) (digits s text : List ℕ) where
       → value_left (record { answer = L.Found v; digits = text_of digits; text = length s }) (sets text 0 s) ≡ value_laid v digits s text
   laid-whole h = rw (le-leb (length s) (length text) h)
 
-fault-of-requires : tie.Need-fault-of-requires
+fault-of-requires : tie.Need-fault_of-requires
 fault-of-requires c κs = search rules
 
-no-value-requires : tie.Need-no-value-requires
+no-value-requires : tie.Need-no_value-requires
 no-value-requires c κs = search rules
 
-returns : tie.Need-returns
+returns : tie.Need-returns-then-text-n
 returns c =
     let short = c.before.before in
-    let a = short.before.before.before.args in
+    let a = short.args in
     let s = a.s.now in
     (λ j. value_left (c.no_value.ensures j) a.text.now)
-    ∙ ap (λ (f : Fault). value_left (no_value (L.Refused f) (length s)) a.text.now) c.before.fault-of.ensures
-    ∙ laid-short a.value (digitsIn a.value a.own) s a.text.now short.if1.true
+    ∙ ap (λ (f : Fault). value_left (no_value (L.Refused f) (length s)) a.text.now) c.fault_of.ensures
+    ∙ laid-short a.value (digitsIn a.value a.own) s a.text.now short.if-text-n.true
 
-put-at-requires : tie.Need-put-at-requires
+put-at-requires : tie.Need-put_at-requires
 put-at-requires c κs = search rules
 
-digits-of-requires : tie.Need-digits-of-requires
+digits-of-requires : tie.Need-digits_of-requires
 digits-of-requires c κs = search rules
 
-same_length : tie.Need-same-length
+same_length : tie.Need-shape_of-text
 same_length c = search rules
 
-returns-2 : tie.Need-returns-2
+returns-2 : tie.Need-returns
 returns-2 c =
     let put = c.before.before.before in
     let whole = put.before.before in
-    let a = whole.before.before.before.args in
+    let a = whole.args in
     let s = a.s.now in
-    (λ j. value_left (record { answer = L.Found a.value; digits = c.digits_of.ensures j; text = length s }) (put.put-at.ensures j))
-    ∙ laid-whole a.value (digitsIn a.value a.own) s a.text.now whole.if1.false
+    (λ j. value_left (record { answer = L.Found a.value; digits = c.digits_of.ensures j; text = length s }) (put.put_at.ensures j))
+    ∙ laid-whole a.value (digitsIn a.value a.own) s a.text.now whole.if-text-n.false
 
-pub lay-value-spec : {M : Type 1} → statement M
-lay-value-spec =
+pub lay_value_spec : {M : Type 1} → statement M
+lay_value_spec =
     tie.close
     (tie.spec
     fault-of-requires

@@ -5,22 +5,22 @@ use borrow.Author.Rules.{rules}
 use Rattle.entries.proofs.lookup_comment.Statement.{statement}
 use Rattle.entries.proofs.lookup_comment.Tie as tie
 
-find-name-requires : tie.Need-find-name-requires
+find-name-requires : tie.Need-find_name-requires
 find-name-requires c κs = search rules
 
-comment-of-requires : tie.Need-comment-of-requires
+comment-of-requires : tie.Need-comment_of-requires
 comment-of-requires c κs = search rules
 
-same_length : tie.Need-same-length
+same_length : tie.Need-shape_of-comment
 same_length c = search rules
 
 returns : tie.Need-returns
 returns c =
     let comment = c.before.before in
     let found = comment.before.before in
-    let a = found.before.before.before.before.args in
-    comment.comment-of.ensures ∙ ap (λ (x : Sought). comment_in x a.comment.now) found.find-name.ensures.is
+    let a = found.args in
+    comment.comment_of.ensures ∙ ap (λ (x : Sought). comment_in x a.comment.now) found.find_name.ensures.is
 
-pub lookup-comment-spec : {M : Type 1} → statement M
-lookup-comment-spec =
+pub lookup_comment_spec : {M : Type 1} → statement M
+lookup_comment_spec =
     tie.close (tie.spec find-name-requires comment-of-requires same_length returns)

@@ -5,21 +5,21 @@ use borrow.Author.Rules.{rules}
 use Rattle.entries.proofs.lookup_value.Statement.{statement}
 use Rattle.entries.proofs.lookup_value.Tie as tie
 
-find-name-requires : tie.Need-find-name-requires
+find-name-requires : tie.Need-find_name-requires
 find-name-requires c κs = search rules
 
-value-of-requires : tie.Need-value-of-requires
+value-of-requires : tie.Need-value_of-requires
 value-of-requires c κs = search rules
 
-same_length : tie.Need-same-length
+same_length : tie.Need-shape_of-text
 same_length c = search rules
 
 returns : tie.Need-returns
 returns c =
     let read = c.before.before in
     let found = read.before.before in
-    let text = found.before.before.before.before.args.text.now in
-    read.value_of_lem.ensures ∙ ap (λ (x : Sought). value_in x text) found.find-name.ensures.is
+    let text = found.args.text.now in
+    read.value_of.ensures ∙ ap (λ (x : Sought). value_in x text) found.find_name.ensures.is
 
-pub lookup-value-spec : {M : Type 1} → statement M
-lookup-value-spec = tie.close (tie.spec find-name-requires value-of-requires same_length returns)
+pub lookup_value_spec : {M : Type 1} → statement M
+lookup_value_spec = tie.close (tie.spec find-name-requires value-of-requires same_length returns)

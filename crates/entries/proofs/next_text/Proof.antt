@@ -23,107 +23,107 @@ use borrow.Author.Rules.{rules}
 use Rattle.entries.proofs.next_text.Statement.{statement}
 use Rattle.entries.proofs.next_text.Tie as tie
 
-abbrev start : tie.After-role-of → tie.Start
+abbrev start : tie.After-role_of → tie.Start
 start c = c.before.before.before.before
 
 -- the card as it is read
-abbrev card : tie.After-role-of → CardRead
-card c = c.before.card-at.result
+abbrev card : tie.After-role_of → CardRead
+card c = c.card_at-part.result
 
-card-is : (c : tie.After-role-of) → card c ≡ card_of (card_no (start c).args.header.now (start c).args.j)
-card-is c = c.before.card-at.ensures ∙ card-here _ _ (start c).requires.0
+card-is : (c : tie.After-role_of) → card c ≡ card_of (card_no (start c).args.header.now (start c).args.j)
+card-is c = c.card_at-part.ensures ∙ card-here _ _ (start c).requires.0
 
 -- what a card leaves, by its role as the code has it
-left : (c : tie.After-role-of) (t : Told) → c.role-of.result ≡ t → (r : TextHeld) (texts₁ : List ℕ) → let a = (start c).args in
+left : (c : tie.After-role_of) (t : Told) → c.role_of.result ≡ t → (r : TextHeld) (texts₁ : List ℕ) → let a = (start c).args in
     NextText (role_in t (card c)) a.j a.n r a.texts.now texts₁
     → NextText (role_no a.header.now a.j) a.j a.n r a.texts.now texts₁
 left c t e r texts₁ =
     let a = (start c).args in
     subst (λ (x : Role). NextText x a.j a.n r a.texts.now texts₁)
-    (role_told a.header.now a.j (card c) (card-is c) t (sym c.role-of.ensures ∙ e))
+    (role_told a.header.now a.j (card c) (card-is c) t (sym c.role_of.ensures ∙ e))
 
-abbrev at : tie.After-join-text → tie.After-role-of
-at c = c.before.before.before.before.before
+abbrev at : tie.After-join_text-m → tie.After-role_of
+at c = c.before.before.before.before
 
-within : (c : tie.After-join-text) → c.join-text.result ≤ length c.join-text.new.0
+within : (c : tie.After-join_text-m) → c.join_text-m.result ≤ length c.join_text-m.new.0
 within c =
     let s = start (at c) in
-    let same : length c.join-text.new.0 ≡ length s.args.texts.now = search rules in
-    omega (arith, c.join-text.ensures.1, s.pre.2)
+    let same : length c.join_text-m.new.0 ≡ length s.args.texts.now = search rules in
+    omega (arith, c.join_text-m.ensures.1, s.pre.2)
 
-card-at-requires : tie.Need-card-at-requires
+card-at-requires : tie.Need-card_at-part-requires
 card-at-requires c κs = search rules
 
-role-of-requires : tie.Need-role-of-requires
+role-of-requires : tie.Need-role_of-requires
 role-of-requires c κs = search rules
 
-enum_told : tie.Need-enum-told
+enum_told : tie.Need-enum_told-1
 enum_told c = search rules
 
-join-text-requires : tie.Need-join-text-requires
+join-text-requires : tie.Need-join_text-m-requires
 join-text-requires c κs = search rules
 
-slice-reshare-prefix-ends-open : tie.Need-slice-reshare-prefix-ends-open
+slice-reshare-prefix-ends-open : tie.Need-slice_bounds-ends_open-end
 slice-reshare-prefix-ends-open c = search rules
 
-slice-aggregate-ends-open : tie.Need-slice-aggregate-ends-open
+slice-aggregate-ends-open : tie.Need-slice_bounds-ends_open-end-in-More
 slice-aggregate-ends-open c =
     let j = c.before.before.before in
     sym (length-take-le j.join-text.result j.join-text.new.0 (within j))
 
-ends-open-requires : tie.Need-ends-open-requires
+ends-open-requires : tie.Need-ends_open-requires
 ends-open-requires c κs = search rules
 
-reach-by-requires : tie.Need-reach-by-requires
+reach-by-requires : tie.Need-reach_by-requires
 reach-by-requires c κs = search rules
 
-enum-told-2 : tie.Need-enum-told-2
+enum-told-2 : tie.Need-enum_told-in-Neutral
 enum-told-2 c = search rules
 
-enum-known-fault : tie.Need-enum-known-fault
+enum-known-fault : tie.Need-enum_known-fault
 enum-known-fault c = search rules
 
-stop-at-requires : tie.Need-stop-at-requires
+stop-at-requires : tie.Need-stop_at-requires
 stop-at-requires c κs = search rules
 
-same_length : tie.Need-same-length
+same_length : tie.Need-shape_of-texts
 same_length c = search rules
 
-returns : tie.Need-returns
+returns : tie.Need-returns-in-More
 returns c =
     let j = c.before.before.before.before.before in
-    left (at j) More j.before.before.before.enum_told.given.1 _ j.join-text.new.0
+    left (at j) More j.in-More.is _ j.join-text.new.0
     record {
       text = j.join-text.ensures.0;
-      reach = c.reach-by.ensures ∙ ap (λ (b : Bool). cond b On Ended) c.before.ends_open.ensures;
+      reach = c.reach_by.ensures ∙ ap (λ (b : Bool). cond b On Ended) c.ends_open.ensures;
       short = j.join-text.ensures.1;
     }
 
-returns-2 : tie.Need-returns-2
+returns-2 : tie.Need-returns-in-Neutral
 returns-2 c =
-    let at = c.before.before in
+    let at = c.before in
     let a = (start at).args in
-    left at Neutral c.enum-told2.given.1 (text_held a.n On) a.texts.now (passed a.j a.n a.texts.now)
+    left at Neutral c.in-Neutral.is (text_held a.n On) a.texts.now (passed a.j a.n a.texts.now)
 
-returns-3 : tie.Need-returns-3
+returns-3 : tie.Need-returns-in-Refused
 returns-3 c =
-    let known = c.before.before in
-    let at = known.before.before in
+    let known = c.before in
+    let at = known.before in
     let a = (start at).args in
-    let f = known.fault.given.0.0 in
-    left at (Refused f) known.fault.given.1 (text_held a.n (Met c.stop-at.result)) a.texts.now
+    let f = known.in-Refused.fault in
+    left at (Refused f) known.in-Refused.is (text_held a.n (Met c.stop_at.result)) a.texts.now
     (subst (λ (s : Stop). NextText (role_in (Refused f) (card at)) a.j a.n (text_held a.n (Met s)) a.texts.now a.texts.now)
-    (sym c.stop-at.ensures) (refusing a.j a.n a.texts.now f))
+    (sym c.stop_at.ensures) (refusing a.j a.n a.texts.now f))
 
-returns-4 : tie.Need-returns-4
+returns-4 : tie.Need-returns-in_default
 returns-4 c =
     let at = c.before in
     let a = (start at).args in
-    let role = at.role-of.result in
-    left at role refl (text_held a.n Ended) a.texts.now (ended a.j a.n a.texts.now role c.match.keys4 (card at))
+    let role = at.role_of.result in
+    left at role refl (text_held a.n Ended) a.texts.now (ended a.j a.n a.texts.now role c.in_default.keys4 (card at))
 
-pub next-text-spec : {M : Type 1} → statement M
-next-text-spec =
+pub next_text_spec : {M : Type 1} → statement M
+next_text_spec =
     tie.close
     (tie.spec
     card-at-requires

@@ -12,31 +12,31 @@ use borrow.Author.Rules.{rules}
 use Rattle.entries.proofs.refuse_comment.Statement.{statement}
 use Rattle.entries.proofs.refuse_comment.Tie as tie
 
-enum-known-spot : tie.Need-enum-known-spot
+enum-known-spot : tie.Need-enum_known-spot
 enum-known-spot c = search rules
 
-fault-of-requires : tie.Need-fault-of-requires
+fault-of-requires : tie.Need-fault_of-requires
 fault-of-requires c κs = search rules
 
-comment-half-requires : tie.Need-comment-half-requires
+comment-half-requires : tie.Need-comment_half-requires
 comment-half-requires c κs = search rules
 
-returns : tie.Need-returns
+returns : tie.Need-returns-in_default
 returns c =
     let told = c.before.before in
-    c.comment-half.ensures
-    ∙ ap (λ (f : Fault). comment_half (C.Refused f) 0) c.before.fault-of.ensures
+    c.comment_half.ensures
+    ∙ ap (λ (f : Fault). comment_half (C.Refused f) 0) c.fault_of.ensures
     ∙ sym (not_stopped comment_refused (comment_half (C.Refused (fault_of R.NameNotFound)) 0) (λ (i : ℕ). refl) refl
-    told.before.args.spot told.match.keys2)
+    told.args.spot told.in_default.keys2)
 
-comment-half-requires-2 : tie.Need-comment-half-requires-2
+comment-half-requires-2 : tie.Need-comment_half-requires-2
 comment-half-requires-2 c κs = search rules
 
-returns-2 : tie.Need-returns-2
-returns-2 c = c.comment-half2.ensures ∙ sym (ap comment_refused c.before.before.spot.given.1)
+returns-2 : tie.Need-returns
+returns-2 c = c.comment_half-2.ensures ∙ sym (ap comment_refused c.in-Stops.is)
 
-pub refuse-comment-spec : {M : Type 1} → statement M
-refuse-comment-spec =
+pub refuse_comment_spec : {M : Type 1} → statement M
+refuse_comment_spec =
     tie.close
     (tie.spec
     enum-known-spot

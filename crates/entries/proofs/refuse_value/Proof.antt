@@ -12,32 +12,32 @@ use borrow.Author.Rules.{rules}
 use Rattle.entries.proofs.refuse_value.Statement.{statement}
 use Rattle.entries.proofs.refuse_value.Tie as tie
 
-enum-known-spot : tie.Need-enum-known-spot
+enum-known-spot : tie.Need-enum_known-spot
 enum-known-spot c = search rules
 
-fault-of-requires : tie.Need-fault-of-requires
+fault-of-requires : tie.Need-fault_of-requires
 fault-of-requires c κs = search rules
 
-no-value-requires : tie.Need-no-value-requires
+no-value-requires : tie.Need-no_value-requires
 no-value-requires c κs = search rules
 
-returns : tie.Need-returns
+returns : tie.Need-returns-in_default
 returns c =
     let fault = c.before in
     let other = fault.before in
     c.no_value.ensures
-    ∙ ap (λ (f : Fault). no_value (L.Refused f) 0) fault.fault-of.ensures
+    ∙ ap (λ (f : Fault). no_value (L.Refused f) 0) fault.fault_of.ensures
     ∙ sym (not_stopped value_refused (no_value (L.Refused (fault_of R.NameNotFound)) 0) (λ (i : ℕ). refl) refl
-    other.before.args.spot other.match.keys2)
+    other.args.spot other.in_default.keys2)
 
-no-value-requires-2 : tie.Need-no-value-requires-2
+no-value-requires-2 : tie.Need-no_value-requires-2
 no-value-requires-2 c κs = search rules
 
-returns-2 : tie.Need-returns-2
-returns-2 c = c.no-value2.ensures ∙ ap value_refused (sym c.before.before.spot.given.1)
+returns-2 : tie.Need-returns
+returns-2 c = c.no_value-2.ensures ∙ ap value_refused (sym c.in-Stops.is)
 
-pub refuse-value-spec : {M : Type 1} → statement M
-refuse-value-spec =
+pub refuse_value_spec : {M : Type 1} → statement M
+refuse_value_spec =
     tie.close
     (tie.spec
     enum-known-spot

@@ -10,41 +10,41 @@ use borrow.Author.Rules.{rules}
 use Rattle.entries.proofs.value_of.Statement.{statement}
 use Rattle.entries.proofs.value_of.Tie as tie
 
-abbrev start : tie.After-spot → tie.Start
-start c = c.before.before.before.before
+abbrev start : tie.In-At-2 → tie.Start
+start c = c.before.before.before
 
-enum-known-spot : tie.Need-enum-known-spot
+enum-known-spot : tie.Need-enum_known-spot
 enum-known-spot c = search rules
 
-refuse-value-requires : tie.Need-refuse-value-requires
+refuse-value-requires : tie.Need-refuse_value-requires
 refuse-value-requires c κs = search rules
 
-returns : tie.Need-returns
+returns : tie.Need-returns-in_default
 returns c =
     let other = c.before in
-    let a = other.before.before.before.args in
-    ap (λ (v : ValueHalf). value_left v a.text.now) c.refuse-value.ensures
-    ∙ refused-value (not_at a.spot other.match.keys2) a.header.now a.text.now
+    let a = other.args in
+    ap (λ (v : ValueHalf). value_left v a.text.now) c.refuse_value.ensures
+    ∙ refused-value (not_at a.spot other.in_default.keys2) a.header.now a.text.now
 
-entry-value-requires : tie.Need-entry-value-requires
+entry-value-requires : tie.Need-entry_value-requires
 entry-value-requires c κs =
-    let spot = c.before.before in
+    let spot = c.before in
     let s = start spot in
-    subst (λ (x : Spot). IsWithin x s.args.header.now) spot.spot.given.1 s.pre
+    subst (λ (x : Spot). IsWithin x s.args.header.now) spot.in-At.is s.requires
 
-same_length : tie.Need-same-length
+same_length : tie.Need-shape_of-text
 same_length c = search rules
 
-returns-2 : tie.Need-returns-2
+returns-2 : tie.Need-returns
 returns-2 c =
     let entry = c.before.before in
-    let spot = entry.before.before.before in
+    let spot = entry.before.before in
     let a = (start spot).args in
     entry.entry_value.ensures
-    ∙ ap (λ (x : Spot). value_in (sought_at x a.header.now) a.text.now) (sym spot.spot.given.1)
+    ∙ ap (λ (x : Spot). value_in (sought_at x a.header.now) a.text.now) (sym spot.in-At.is)
 
-pub value-of-spec : {M : Type 1} → statement M
-value-of-spec =
+pub value_of_spec : {M : Type 1} → statement M
+value_of_spec =
     tie.close
     (tie.spec
     enum-known-spot

@@ -10,54 +10,54 @@ use borrow.Author.Rules.{rules}
 use Rattle.entries.proofs.value_within.Statement.{statement}
 use Rattle.entries.proofs.value_within.Tie as tie
 
-abbrev start : tie.After-join-texts → tie.Start
+abbrev start : tie.After-join_texts-end → tie.Start
 start c = c.before.before.before.before.before
 
-join-texts-requires : tie.Need-join-texts-requires
+join-texts-requires : tie.Need-join_texts-end-requires
 join-texts-requires c κs = search rules
 
-enum-known-reach : tie.Need-enum-known-reach
+enum-known-reach : tie.Need-enum_known-reach
 enum-known-reach c = search rules
 
-first-of-requires : tie.Need-first-of-requires
+first-of-requires : tie.Need-first_of-requires
 first-of-requires c κs = search rules
 
-lay-value-requires : tie.Need-lay-value-requires
+lay-value-requires : tie.Need-lay_value-requires
 lay-value-requires c κs = search rules
 
-same_length : tie.Need-same-length
+same_length : tie.Need-shape_of-texts-in_default
 same_length c = search rules
 
-same-length-2 : tie.Need-same-length-2
+same-length-2 : tie.Need-shape_of-text-in_default
 same-length-2 c = search rules
 
-returns : tie.Need-returns
+returns : tie.Need-returns-in_default
 returns c =
     let lay = c.before.before in
     let front = lay.before.before in
     let known = front.before.before in
     let joined = known.before.before.before in
     let text = (start joined).args.text.now in
-    lay.lay-value.ensures
+    lay.lay_value.ensures
     ∙ ap (λ (s : List ℕ). value_laid String [] s text) front.first_of.ensures
     ∙ string-laid joined.join-texts.ensures text known.match.keys2
 
-refuse-value-requires : tie.Need-refuse-value-requires
+refuse-value-requires : tie.Need-refuse_value-requires
 refuse-value-requires c κs = search rules
 
-same-length-3 : tie.Need-same-length-3
+same-length-3 : tie.Need-shape_of-texts
 same-length-3 c = search rules
 
-returns-2 : tie.Need-returns-2
+returns-2 : tie.Need-returns
 returns-2 c =
-    let known = c.before.before in
-    let joined = known.before.before.before.before in
+    let known = c.before in
+    let joined = known.before.before.before in
     let text = (start joined).args.text.now in
-    ap (λ (v : ValueHalf). value_left v text) c.refuse-value.ensures
-    ∙ string_refused_lem joined.join-texts.ensures text known.reach.given.0.0 known.reach.given.1
+    ap (λ (v : ValueHalf). value_left v text) c.refuse_value.ensures
+    ∙ string_refused_lem joined.join_texts-end.ensures text known.in-Met.stop known.in-Met.is
 
-pub value-within-spec : {M : Type 1} → statement M
-value-within-spec =
+pub value_within_spec : {M : Type 1} → statement M
+value_within_spec =
     tie.close
     (tie.spec
     join-texts-requires

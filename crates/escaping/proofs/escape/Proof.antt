@@ -11,23 +11,23 @@ use Rattle.escaping.proofs.Showing.{byte-few, put_next, count_next, at_the_end, 
 use Rattle.escaping.proofs.escape.Statement.{statement}
 use Rattle.escaping.proofs.escape.Tie as tie
 
-abbrev invariant-loop : tie.invariant-loop
+abbrev invariant-loop : tie.invariant-loop-i
 invariant-loop s out₀ part put₀ i₀ out put i =
     (i ≤ length part) × (put ≤ 4 * i) × (length out ≡ length out₀) × (4 * length part ≤ length out₀)
     × (sets out put (escaped (drop i part)) ≡ sets out₀ 0 (escaped part))
     × (put + length (escaped (drop i part)) ≡ length (escaped part))
 
-abbrev decreases-loop : tie.decreases-loop
+abbrev decreases-loop : tie.decreases-loop-i
 decreases-loop s out₀ part put₀ i₀ out put i = length part - i
 
-first-of-requires : tie.Need-first-of-requires invariant-loop decreases-loop
+first-of-requires : tie.Need-first_of-part-requires invariant-loop decreases-loop
 first-of-requires c κs = search rules
 
-loop-holds : tie.Need-loop-init invariant-loop decreases-loop
+loop-holds : tie.Need-loop-i-init invariant-loop decreases-loop
 loop-holds c =
-    let a = c.before.before.before.args in
+    let a = c.args in
     let quarter = length a.out.now / 4 in
-    let long : length c.first_of.result.now ≡ length (take quarter a.s.now) = ap length c.first_of.ensures in (
+    let long : length c.first_of-part.result.now ≡ length (take quarter a.s.now) = ap length c.first_of-part.ensures in (
       omega arith,
       omega arith,
       refl,
@@ -37,71 +37,71 @@ loop-holds c =
     )
 
 -- the loop where a byte was put
-abbrev inside : tie.After-put-byte invariant-loop decreases-loop → tie.In-loop invariant-loop decreases-loop
+abbrev inside : tie.After-put_byte-put invariant-loop decreases-loop → tie.In-loop-i invariant-loop decreases-loop
 inside c = c.before.before.before
 
-shared-slice-read-put-byte : tie.Need-shared-slice-read-put-byte invariant-loop decreases-loop
+shared-slice-read-put-byte : tie.Need-bounds-part-i invariant-loop decreases-loop
 shared-slice-read-put-byte c = search rules
 
-put-byte-requires : tie.Need-put-byte-requires invariant-loop decreases-loop
+put-byte-requires : tie.Need-put_byte-put-requires invariant-loop decreases-loop
 put-byte-requires c κs = search rules
 
-add-put : tie.Need-overflow-add-put invariant-loop decreases-loop
+add-put : tie.Need-overflow_add-put invariant-loop decreases-loop
 add-put c =
     let put = c.before.before in
     let l = (inside put).before in
-    let b = get_or l.before.first_of.result.now l.loop.i 0 in
-    let few : put.put_byte.result ≤ 4 = rw put.put_byte.ensures.0 (byte-few b) in
-    record { fits = omega (arith, few, l.loop.inv.1, l.loop.inv.3, (inside put).loop-test.true) }
+    let b = get_or l.first_of-part.result.now l.loop-i.i 0 in
+    let few : put.put_byte-put.result ≤ 4 = rw put.put_byte-put.ensures.0 (byte-few b) in
+    record { fits = omega (arith, few, l.loop-i.invariant.1, l.loop-i.invariant.3, (inside put).loop-i-test.true) }
 
-add-i : tie.Need-overflow-add-i invariant-loop decreases-loop
+add-i : tie.Need-overflow_add-i invariant-loop decreases-loop
 add-i c = search rules
 
-loop-less : tie.Need-loop-smaller invariant-loop decreases-loop
+loop-less : tie.Need-loop-i-smaller invariant-loop decreases-loop
 loop-less c = search rules
 
-loop-again : tie.Need-loop-preserved invariant-loop decreases-loop
+loop-again : tie.Need-loop-i-preserved invariant-loop decreases-loop
 loop-again c =
     let put = c.before.before in
     let l = (inside put).before in
-    let v = l.loop.inv in
-    let part = l.before.first_of.result.now in
-    let i = l.loop.i in
-    let under = (inside put).loop-test.true in
+    let v = l.loop-i.invariant in
+    let part = l.first_of-part.result.now in
+    let i = l.loop-i.i in
+    let under = (inside put).loop-i-test.true in
     let b = get_or part i 0 in
-    let n = put.put_byte.ensures.0 in
-    let few : put.put_byte.result ≤ 4 = rw n (byte-few b) in (
+    let n = put.put_byte-put.ensures.0 in
+    let few : put.put_byte-put.result ≤ 4 = rw n (byte-few b) in (
       omega (arith, under),
       omega (arith, few, v.1),
       search rules,
       v.3,
-      ap₂ (λ (d : List ℕ) (k : ℕ). sets d (l.loop.put + k) (escaped (drop (i + 1) part))) put.put_byte.ensures.1 n
-          ∙ put_next part l.loop.out i l.loop.put under
+      ap₂ (λ (d : List ℕ) (k : ℕ). sets d (l.loop-i.put + k) (escaped (drop (i + 1) part))) put.put_byte-put.ensures.1 n
+          ∙ put_next part l.loop-i.out i l.loop-i.put under
           ∙ v.4,
       omega (arith, n, count_next part i under, v.5),
     )
 
-same_length : tie.Need-same-length invariant-loop decreases-loop
+same_length : tie.Need-shape_of-out invariant-loop decreases-loop
 same_length c = search rules
 
 returns : tie.Need-returns invariant-loop decreases-loop
 returns c =
     let l = c.before in
-    let a = l.before.before.before.before.args in
-    let part = l.before.first_of.result.now in
-    let v = l.loop.invariant in
-    let none = drop_of_length-le part c.loop-test.false in
-    let put : l.loop.put ≡ length (escaped part) =
-    at_the_end (sym (ap (λ (r : List ℕ). l.loop.put + length (escaped r)) none) ∙ v.5) in
-    let content : l.loop.out ≡ sets a.out.now 0 (escaped part) =
-    stored_all l.loop.out l.loop.put
-    ∙ sym (ap (λ (r : List ℕ). sets l.loop.out l.loop.put (escaped r)) none)
+    let a = l.args in
+    let part = l.first_of-part.result.now in
+    let v = l.loop-i.invariant in
+    let none = drop_of_length-le part c.loop-i-test.false in
+    let put : l.loop-i.put ≡ length (escaped part) =
+    at_the_end (sym (ap (λ (r : List ℕ). l.loop-i.put + length (escaped r)) none) ∙ v.5) in
+    let content : l.loop-i.out ≡ sets a.out.now 0 (escaped part) =
+    stored_all l.loop-i.out l.loop-i.put
+    ∙ sym (ap (λ (r : List ℕ). sets l.loop-i.out l.loop-i.put (escaped r)) none)
     ∙ v.4 in
     (λ j. record { taken = length part; put = put j; content = content j })
-    ∙ ap (λ (r : List ℕ). escaped_in r a.out.now) l.before.first_of.ensures
+    ∙ ap (λ (r : List ℕ). escaped_in r a.out.now) l.first_of-part.ensures
 
-pub escape-spec : {M : Type 1} → statement M
-escape-spec =
+pub escape_spec : {M : Type 1} → statement M
+escape_spec =
     tie.close
     (tie.spec
     invariant-loop

@@ -19,57 +19,57 @@ by s t e =
     ap (λ (x : Role). pass_of x (bytes_of a.own) a.name.now a.i a.last) (sym e)
 
 -- an entry, by whether it bears the name
-entry-so : (c : tie.After-bears) → let a = c.before.before.before.before.args in
+entry-so : (c : tie.After-bears) → let a = c.args in
     On (cond c.bears.result (At a.i) a.last) ≡ pass_of a.role (bytes_of a.own) a.name.now a.i a.last
 entry-so c =
     let told = c.before in
-    let s = told.before.before.before in
+    let s = told.before.before in
     let a = s.args in
     ap (λ (b : Bool). On (cond b (At a.i) a.last)) c.bears.ensures
-    ∙ by s (Entry told.enum_told.given.0.0 told.enum_told.given.0.1.0) told.enum_told.given.1
+    ∙ by s (Entry told.in-Entry.value told.in-Entry.joins) told.in-Entry.is
 
-enum_told : tie.Need-enum-told
+enum_told : tie.Need-enum_told-1
 enum_told c = search rules
 
 bears-requires : tie.Need-bears-requires
 bears-requires c κs = search rules
 
-returns : tie.Need-returns
+returns : tie.Need-returns-then-bears
 returns c =
-    let a = c.before.before.before.before.before.args in
-    sym (ap (λ (b : Bool). On (cond b (At a.i) a.last)) c.if1.true) ∙ entry-so c.before
+    let a = c.args in
+    sym (ap (λ (b : Bool). On (cond b (At a.i) a.last)) c.if-bears.true) ∙ entry-so c.before
 
-enum-told-2 : tie.Need-enum-told-2
+enum-told-2 : tie.Need-enum_told-in-More
 enum-told-2 c = search rules
 
-enum-told-3 : tie.Need-enum-told-3
+enum-told-3 : tie.Need-enum_told-in-Neutral
 enum-told-3 c = search rules
 
-enum-told-4 : tie.Need-enum-told-4
+enum-told-4 : tie.Need-enum_told-in-Last
 enum-told-4 c = search rules
 
-enum-told-5 : tie.Need-enum-told-5
+enum-told-5 : tie.Need-enum_told-in-Refused
 enum-told-5 c = search rules
 
-returns-2 : tie.Need-returns-2
+returns-2 : tie.Need-returns-else-bears
 returns-2 c =
-    let a = c.before.before.before.before.before.args in
-    sym (ap (λ (b : Bool). On (cond b (At a.i) a.last)) c.if1.false) ∙ entry-so c.before
+    let a = c.args in
+    sym (ap (λ (b : Bool). On (cond b (At a.i) a.last)) c.if-bears.false) ∙ entry-so c.before
 
-returns-3 : tie.Need-returns-3
-returns-3 c = by c.before.before.before More c.enum-told2.given.1
+returns-3 : tie.Need-returns-in-More
+returns-3 c = by c.before.before More c.in-More.is
 
-returns-4 : tie.Need-returns-4
-returns-4 c = by c.before.before.before Neutral c.enum-told3.given.1
+returns-4 : tie.Need-returns-in-Neutral
+returns-4 c = by c.before.before Neutral c.in-Neutral.is
 
-returns-5 : tie.Need-returns-5
+returns-5 : tie.Need-returns-in-Last
 returns-5 c = search rules
 
-returns-6 : tie.Need-returns-6
+returns-6 : tie.Need-returns-in-Refused
 returns-6 c = search rules
 
-pub pass-card-spec : {M : Type 1} → statement M
-pass-card-spec =
+pub pass_card_spec : {M : Type 1} → statement M
+pass_card_spec =
     tie.close
     (tie.spec
     enum_told

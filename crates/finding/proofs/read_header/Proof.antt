@@ -6,33 +6,34 @@ use borrow.Author.Rules.{rules}
 use Rattle.finding.proofs.read_header.Statement.{statement}
 use Rattle.finding.proofs.read_header.Tie as tie
 
-slice-aggregate-find : tie.Need-slice-aggregate-find
-slice-aggregate-find c = search rules
-
 find-requires : tie.Need-find-requires
 find-requires c κs = search rules
 
-enum-known-stop : tie.Need-enum-known-stop
+enum-known-stop : tie.Need-enum_known-stop
 enum-known-stop c = search rules
 
-enum-known-end : tie.Need-enum-known-end
+enum-known-end : tie.Need-enum_known-end
 enum-known-end c = search rules
 
-returns : tie.Need-returns
+returns : tie.Need-returns-in-Refused
 returns c =
-    let stop = c.before in
-    let found = stop.before.before in
-    let h = found.before.before.before.args.header.now in
-    sym (header_refused h [] stop.stop.given.0.0 (sym found.find.ensures ∙ stop.stop.given.1))
+    let stop = c in
+    let found = stop.before in
+    let h = found.args.header.now in
+    sym (header_refused h [] stop.in-Refused.stop (sym found.find.ensures ∙ stop.in-Refused.is))
 
-returns-2 : tie.Need-returns-2
+returns-2 : tie.Need-returns-in-Read
 returns-2 c =
-    let end = c.before in
-    let found = end.before.before in
-    let h = found.before.before.before.args.header.now in
-    sym (header_read h [] end.end.given.0.0 _ (sym found.find.ensures ∙ end.end.given.1)).0
+    let end = c in
+    let found = end.before in
+    let h = found.args.header.now in
+    sym (header_read h [] end.in-Read.end _ (sym found.find.ensures ∙ end.in-Read.is)).0
 
-pub read-header-spec : {M : Type 1} → statement M
-read-header-spec =
+pub read_header_spec : {M : Type 1} → statement M
+read_header_spec =
     tie.close
-    (tie.spec slice-aggregate-find find-requires enum-known-stop enum-known-end returns returns-2)
+    (tie.spec find-requires
+    enum-known-stop
+    enum-known-end
+    returns
+    returns-2)

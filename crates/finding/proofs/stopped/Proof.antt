@@ -22,20 +22,20 @@ read Neutral i p e = refl
 read Last i p e = refl
 read (Refused f) i p e = absurd (miss (0 ∷ 1 ∷ 2 ∷ 3 ∷ []) 4 tt e)
 
-enum-known-role : tie.Need-enum-known-role
+enum-known-role : tie.Need-enum_known-role
 enum-known-role c = search rules
 
-returns : tie.Need-returns
-returns c = read c.before.args.role c.before.args.i c.before.args.last c.match.keys2
+returns : tie.Need-returns-in_default
+returns c = read c.args.role c.args.i c.args.last c.in_default.keys2
 
-stop-at-requires : tie.Need-stop-at-requires
+stop-at-requires : tie.Need-stop_at-requires
 stop-at-requires c κs = search rules
 
-returns-2 : tie.Need-returns-2
+returns-2 : tie.Need-returns
 returns-2 c =
-    let at = c.before.before in
-    let a = at.before.before.args in
-    ap F.Refused c.stop-at.ensures ∙ sym (ap (λ (r : Role). stopped_at r a.i a.last) at.role.given.1)
+    let at = c.before in
+    let a = at.args in
+    ap F.Refused c.stop_at.ensures ∙ sym (ap (λ (r : Role). stopped_at r a.i a.last) at.in-Refused.is)
 
-pub stopped-spec : {M : Type 1} → statement M
-stopped-spec = tie.close (tie.spec enum-known-role returns stop-at-requires returns-2)
+pub stopped_spec : {M : Type 1} → statement M
+stopped_spec = tie.close (tie.spec enum-known-role returns stop-at-requires returns-2)

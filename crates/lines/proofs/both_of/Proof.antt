@@ -7,29 +7,29 @@ use Rattle.text.specs.Text.{size, text_of}
 use Rattle.lines.proofs.both_of.Statement.{statement}
 use Rattle.lines.proofs.both_of.Tie as tie
 
-slice-aggregate-first-of : tie.Need-slice-aggregate-first-of
+slice-aggregate-first-of : tie.Need-slice_bounds-first_of-end
 slice-aggregate-first-of c = search rules
 
-first-of-requires : tie.Need-first-of-requires
+first-of-requires : tie.Need-first_of-requires
 first-of-requires c κs = search rules
 
-slice-aggregate-first-of-2 : tie.Need-slice-aggregate-first-of-2
+slice-aggregate-first-of-2 : tie.Need-slice_bounds-first_of-end-2
 slice-aggregate-first-of-2 c = search rules
 
-first-of-requires-2 : tie.Need-first-of-requires-2
+first-of-requires-2 : tie.Need-first_of-requires-2
 first-of-requires-2 c κs = search rules
 
-joined-text-requires : tie.Need-joined-text-requires
+joined-text-requires : tie.Need-joined_text-requires
 joined-text-requires c κs = search rules
 
 returns : tie.Need-returns
 returns c =
-    let behind = c.before.first-of2.ensures in
-    let front = c.before.before.before.first_of.ensures in
-    c.joined-text.ensures ∙ (λ j. text_of (take size (front j ++ behind j)))
+    let behind = c.first_of-2.ensures in
+    let front = c.first_of.ensures in
+    c.joined_text.ensures ∙ (λ j. text_of (take size (front j ++ behind j)))
 
-pub both-of-spec : {M : Type 1} → statement M
-both-of-spec =
+pub both_of_spec : {M : Type 1} → statement M
+both_of_spec =
     tie.close
     (tie.spec
     slice-aggregate-first-of

@@ -9,32 +9,28 @@ use Rattle.lines.proofs.Parts.{both_whole}
 use Rattle.lines.proofs.column_text.Statement.{statement}
 use Rattle.lines.proofs.column_text.Tie as tie
 
-slice-aggregate-text-of : tie.Need-slice-aggregate-text-of
-slice-aggregate-text-of c = search rules
-
-text-of-requires : tie.Need-text-of-requires
+text-of-requires : tie.Need-text_of-requires
 text-of-requires c κs = search rules
 
-natural-text-requires : tie.Need-natural-text-requires
+natural-text-requires : tie.Need-natural_text-requires
 natural-text-requires c κs = search rules
 
-both-of-requires : tie.Need-both-of-requires
+both-of-requires : tie.Need-both_of-requires
 both-of-requires c κs = search rules
 
 returns : tie.Need-returns
 returns c =
     let number = c.before in
     let front = number.before in
-    let n = front.before.before.args.byte in
+    let n = front.args.byte in
     c.both_of.ensures
-    ∙ both_whole (ascii ":") (decimal_digits n) front.text-of.ensures number.natural-text.ensures
+    ∙ both_whole (ascii ":") (decimal_digits n) front.text_of.ensures number.natural_text.ensures
     (omega (arith, few-digits n (omega arith)))
 
-pub column-text-spec : {M : Type 1} → statement M
-column-text-spec =
+pub column_text_spec : {M : Type 1} → statement M
+column_text_spec =
     tie.close
     (tie.spec
-    slice-aggregate-text-of
     text-of-requires
     natural-text-requires
     both-of-requires

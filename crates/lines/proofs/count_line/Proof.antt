@@ -10,36 +10,32 @@ use Rattle.lines.proofs.Segmenting.{count_segments}
 use Rattle.lines.proofs.count_line.Statement.{statement}
 use Rattle.lines.proofs.count_line.Tie as tie
 
-natural-text-requires : tie.Need-natural-text-requires
+natural-text-requires : tie.Need-natural_text-count-requires
 natural-text-requires c κs = search rules
 
-empty-text-requires : tie.Need-empty-text-requires
+empty-text-requires : tie.Need-empty_text-none-requires
 empty-text-requires c κs = search rules
 
-slice-aggregate-put-line : tie.Need-slice-aggregate-put-line
-slice-aggregate-put-line c = search rules
-
-put-line-requires : tie.Need-put-line-requires
+put-line-requires : tie.Need-put_line-requires
 put-line-requires c κs = search rules
 
-same_length : tie.Need-same-length
+same_length : tie.Need-shape_of-out
 same_length c = search rules
 
 returns : tie.Need-returns
 returns c =
     let put = c.before.before in
     let texts = put.before.before.before in
-    let a = texts.before.before.before.args in
-    let e = count_segments a.n texts.before.natural-text.ensures texts.empty-text.ensures in
-    (put.put-line.ensures.0 ∙ ap (λ (l : List ℕ). laid l a.out.now) e, omega (arith, put.put-line.ensures.1, ap length e))
+    let a = texts.args in
+    let e = count_segments a.n texts.natural_text-count.ensures texts.empty_text-none.ensures in
+    (put.put_line.ensures.0 ∙ ap (λ (l : List ℕ). laid l a.out.now) e, omega (arith, put.put_line.ensures.1, ap length e))
 
-pub count-line-spec : {M : Type 1} → statement M
-count-line-spec =
+pub count_line_spec : {M : Type 1} → statement M
+count_line_spec =
     tie.close
     (tie.spec
     natural-text-requires
     empty-text-requires
-    slice-aggregate-put-line
     put-line-requires
     same_length
     returns)

@@ -18,147 +18,144 @@ use Rattle.lines.proofs.Segmenting.{entry_segments}
 use Rattle.lines.proofs.entry_line.Statement.{statement}
 use Rattle.lines.proofs.entry_line.Tie as tie
 
-abbrev tails : tie.After-middle-of → tie.After-tail-of
+abbrev tails : tie.After-middle_of → tie.After-tail_of
 tails m = m.before.before.before
 
-abbrev heads : tie.After-middle-of → tie.After-head-of
+abbrev heads : tie.After-middle_of → tie.After-head_of-head
 heads m = (tails m).before.before
 
-abbrev start : tie.After-middle-of → tie.Start
+abbrev start : tie.After-middle_of → tie.Start
 start m = (heads m).before.before.before.before.before.before.before
 
 -- the middle of the line, by the case of it that an arm knows
-abbrev middle : tie.After-middle-of → Middle → List ℕ
+abbrev middle : tie.After-middle_of → Middle → List ℕ
 middle m k = middle_bytes k (bytes_of (start m).args.digits) (start m).args.text.now
 
 -- the line that is asked for
-abbrev line : tie.After-middle-of → List ℕ
+abbrev line : tie.After-middle_of → List ℕ
 line m =
     let a = (start m).args in
     entry_line (bytes_of a.name) a.value (bytes_of a.digits) a.text.now a.times
 
 -- the number of cards fits behind the tail
-tail-told : (m : tie.After-middle-of) → let a = (start m).args in
-    m.before.both_of.result ≡ text_of (reading_tail a.value (is_empty (bytes_of a.digits)) ++ times_part a.times)
+tail-told : (m : tie.After-middle_of) → let a = (start m).args in
+    m.both_of-tail.result ≡ text_of (reading_tail a.value (is_empty (bytes_of a.digits)) ++ times_part a.times)
 tail-told m =
     let a = (start m).args in
-    let shown = (tails m).before.is-empty2.ensures ∙ ap is_empty (heads m).before.before.first_of.ensures in
+    let shown = (tails m).is_empty-2.ensures ∙ ap is_empty (heads m).first_of-shown.ensures in
     let tail = (tails m).Tail-of.ensures in
-    m.before.both_of.ensures
-    ∙ both_whole (reading_tail a.value (tails m).before.is-empty2.result) (times_part a.times) tail.made
-    m.before.before.times-text.ensures
+    m.both_of-tail.ensures
+    ∙ both_whole (reading_tail a.value (tails m).is_empty-2.result) (times_part a.times) tail.made
+    m.times_text.ensures
     (omega (arith, tail.short, short-times a.times (omega arith)))
     ∙ ap (λ (t : Bool). text_of (reading_tail a.value t ++ times_part a.times)) shown
 
-line-told : (m : tie.After-middle-of) (k : Middle) (x : List ℕ) → m.middle_of.result ≡ k → x ≡ middle m k
-    → bytes_of (start m).args.name ++ bytes_of (heads m).head_of.result ++ x ++ bytes_of m.before.both_of.result ++ line_feed ∷ []
+line-told : (m : tie.After-middle_of) (k : Middle) (x : List ℕ) → m.middle_of.result ≡ k → x ≡ middle m k
+    → bytes_of (start m).args.name ++ bytes_of (heads m).head_of-head.result ++ x ++ bytes_of m.both_of-tail.result ++ line_feed ∷ []
     ≡ line m
 line-told m k x e f =
     let a = (start m).args in
     entry_segments (bytes_of a.name) a.value (bytes_of a.digits) a.text.now x a.times
-    ((heads m).head_of.ensures ∙ ap (λ (t : Bool). text_of (line_head a.value t)) (heads m).before.is-empty.ensures)
+    ((heads m).head_of-head.ensures ∙ ap (λ (t : Bool). text_of (line_head a.value t)) (heads m).is_empty.ensures)
     (f ∙ ap (middle m) (sym e ∙ m.middle_of.ensures))
     (tail-told m)
 
 -- the digits fill their array at most
-few-digits : (d : tie.After-first-of) → length d.first_of.result.now ≤ 80
+few-digits : (d : tie.After-first_of-shown) → length d.first_of-shown.result.now ≤ 80
 few-digits d =
-    let own = d.before.before.before.before.before.args.digits in
+    let own = d.args.digits in
     let long : length own.bytes ≡ size = search rules in
-    omega (arith, ap length d.first_of.ensures, bytes_fit own long)
+    omega (arith, ap length d.first_of-shown.ensures, bytes_fit own long)
 
 -- the segments that were laid are the line, and it is not longer than it may be
-said : (m : tie.After-middle-of) (x l : List ℕ) {r : LineOutcome} → let a = (start m).args in
+said : (m : tie.After-middle_of) (x l : List ℕ) {r : LineOutcome} → let a = (start m).args in
     r ≡ laid l a.out.now → length l ≤ segment_room + length x → l ≡ line m → length x ≤ 80 + length a.text.now
     → (r ≡ laid (line m) a.out.now) × (length (line m) ≤ line_room + length a.text.now)
 said m x l p few e h =
     let a = (start m).args in
     (p ∙ ap (λ (k : List ℕ). laid k a.out.now) e, omega (arith, few, ap length e))
 
-slice-aggregate-first-of : tie.Need-slice-aggregate-first-of
+slice-aggregate-first-of : tie.Need-slice_bounds-first_of-end
 slice-aggregate-first-of c = search rules
 
-first-of-requires : tie.Need-first-of-requires
+first-of-requires : tie.Need-first_of-shown-requires
 first-of-requires c κs = search rules
 
-is-empty-requires : tie.Need-is-empty-requires
+is-empty-requires : tie.Need-is_empty-requires
 is-empty-requires c κs = search rules
 
-head-of-requires : tie.Need-head-of-requires
+head-of-requires : tie.Need-head_of-head-requires
 head-of-requires c κs = search rules
 
-is-empty-requires-2 : tie.Need-is-empty-requires-2
+is-empty-requires-2 : tie.Need-is_empty-requires-2
 is-empty-requires-2 c κs = search rules
 
-tail-of-requires : tie.Need-tail-of-requires
+tail-of-requires : tie.Need-tail_of-requires
 tail-of-requires c κs = search rules
 
-times-text-requires : tie.Need-times-text-requires
+times-text-requires : tie.Need-times_text-requires
 times-text-requires c κs = search rules
 
-both-of-requires : tie.Need-both-of-requires
+both-of-requires : tie.Need-both_of-tail-requires
 both-of-requires c κs = search rules
 
-middle-of-requires : tie.Need-middle-of-requires
+middle-of-requires : tie.Need-middle_of-requires
 middle-of-requires c κs = search rules
 
-enum_told : tie.Need-enum-told
+enum_told : tie.Need-enum_told-1
 enum_told c = search rules
 
-put-line-requires : tie.Need-put-line-requires
+put-line-requires : tie.Need-put_line-requires
 put-line-requires c κs = search rules
 
-enum-told-2 : tie.Need-enum-told-2
+enum-told-2 : tie.Need-enum_told-in-Words
 enum-told-2 c = search rules
 
-put-line-requires-2 : tie.Need-put-line-requires-2
+put-line-requires-2 : tie.Need-put_line-requires-in-Words
 put-line-requires-2 c κs = search rules
 
-enum-told-3 : tie.Need-enum-told-3
+enum-told-3 : tie.Need-enum_told-in-Nothing
 enum-told-3 c = search rules
 
-slice-aggregate-put-line : tie.Need-slice-aggregate-put-line
-slice-aggregate-put-line c = search rules
-
-put-line-requires-3 : tie.Need-put-line-requires-3
+put-line-requires-3 : tie.Need-put_line-requires-in-Nothing
 put-line-requires-3 c κs = search rules
 
-same_length : tie.Need-same-length
+same_length : tie.Need-shape_of-out-in-Digits
 same_length c = search rules
 
-returns : tie.Need-returns
+returns : tie.Need-returns-in-Digits
 returns c =
     let put = c.before.before in
     let told = put.before.before in
-    let m = told.before.before in
-    let e = line-told m _ _ told.enum_told.given.1 (heads m).before.before.first_of.ensures in
-    said m (heads m).before.before.first_of.result.now _ put.put-line.ensures.0 put.put-line.ensures.1 e
+    let m = told.before in
+    let e = line-told m _ _ told.in-Digits.is (heads m).first_of-shown.ensures in
+    said m (heads m).first_of-shown.result.now _ put.put_line.ensures.0 put.put_line.ensures.1 e
     (omega (arith, few-digits (heads m).before.before))
 
-same-length-2 : tie.Need-same-length-2
+same-length-2 : tie.Need-shape_of-out-in-Words
 same-length-2 c = search rules
 
-returns-2 : tie.Need-returns-2
+returns-2 : tie.Need-returns-in-Words
 returns-2 c =
     let put = c.before.before in
     let told = put.before.before in
-    let m = told.before.before in
-    let e = line-told m _ _ told.enum-told2.given.1 refl in
-    said m (start m).args.text.now _ put.put-line2.ensures.0 put.put-line2.ensures.1 e (omega arith)
+    let m = told.before in
+    let e = line-told m _ _ told.in-Words.is refl in
+    said m (start m).args.text.now _ put.put_line-in-Words.ensures.0 put.put_line-in-Words.ensures.1 e (omega arith)
 
-same-length-3 : tie.Need-same-length-3
+same-length-3 : tie.Need-shape_of-out-in-Nothing
 same-length-3 c = search rules
 
-returns-3 : tie.Need-returns-3
+returns-3 : tie.Need-returns-in-Nothing
 returns-3 c =
     let put = c.before.before in
     let told = put.before.before.before in
-    let m = told.before.before in
-    let e = line-told m _ _ told.enum-told3.given.1 refl in
-    said m [] _ put.put-line3.ensures.0 put.put-line3.ensures.1 e (omega arith)
+    let m = told.before in
+    let e = line-told m _ _ told.in-Nothing.is refl in
+    said m [] _ put.put_line-in-Nothing.ensures.0 put.put_line-in-Nothing.ensures.1 e (omega arith)
 
-pub entry-line-spec : {M : Type 1} → statement M
-entry-line-spec =
+pub entry_line_spec : {M : Type 1} → statement M
+entry_line_spec =
     tie.close
     (tie.spec
     slice-aggregate-first-of
@@ -175,7 +172,6 @@ entry-line-spec =
     enum-told-2
     put-line-requires-2
     enum-told-3
-    slice-aggregate-put-line
     put-line-requires-3
     same_length
     returns

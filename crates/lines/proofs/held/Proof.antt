@@ -6,12 +6,12 @@ use lib.ListN.{length, length-take}
 use Rattle.lines.proofs.held.Statement.{statement}
 use Rattle.lines.proofs.held.Tie as tie
 
-at-most-all-requires : tie.Need-at-most-all-requires
+at-most-all-requires : tie.Need-at_most_all-requires
 at-most-all-requires c κs = search rules
 
 returns : tie.Need-returns
 returns c =
-    let t = c.before.args.t in
+    let t = c.args.t in
     let long : length t.bytes ≡ 80 = search rules in
     (omega (arith, length-take t.len t.bytes), omega arith)
 

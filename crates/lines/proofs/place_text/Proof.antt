@@ -18,42 +18,42 @@ by-column : (s : tie.Start) {k : Column} → s.args.column ≡ k
     → text_of (decimal_digits s.args.card ++ column_part k) ≡ text_of (decimal_digits s.args.card ++ column_part s.args.column)
 by-column s e = sym (ap (λ (k : Column). text_of (decimal_digits s.args.card ++ column_part k)) e)
 
-natural-text-requires : tie.Need-natural-text-requires
+natural-text-requires : tie.Need-natural_text-number-requires
 natural-text-requires c κs = search rules
 
-enum-known-column : tie.Need-enum-known-column
+enum-known-column : tie.Need-enum_known-column
 enum-known-column c = search rules
 
-column-text-requires : tie.Need-column-text-requires
+column-text-requires : tie.Need-column_text-requires
 column-text-requires c κs = search rules
 
-both-of-requires : tie.Need-both-of-requires
+both-of-requires : tie.Need-both_of-requires
 both-of-requires c κs = search rules
 
-enum_told : tie.Need-enum-told
+enum_told : tie.Need-enum_told-1
 enum_told c = search rules
 
-returns : tie.Need-returns
+returns : tie.Need-returns-in-At
 returns c =
     let part = c.before in
-    let known = part.before.before in
-    let number = known.before.before in
-    let card = number.before.args.card in
-    let byte = known.column.given.0.0 in
+    let known = part.before in
+    let number = known.before in
+    let card = number.args.card in
+    let byte = known.in-At.byte in
     c.both_of.ensures
-    ∙ both_whole (decimal_digits card) (column_part (At byte)) number.natural-text.ensures part.column-text.ensures
+    ∙ both_whole (decimal_digits card) (column_part (At byte)) number.natural_text-number.ensures part.column_text.ensures
     (omega (arith, few-digits card (omega arith), few-digits byte (omega arith)))
-    ∙ by-column number.before known.column.given.1
+    ∙ by-column number.before known.in-At.is
 
-returns-2 : tie.Need-returns-2
+returns-2 : tie.Need-returns-in-Absent
 returns-2 c =
-    let number = c.before.before in
-    let card = number.before.args.card in
-    number.natural-text.ensures ∙ sym (ap text_of (append-nil (decimal_digits card)))
-    ∙ by-column number.before c.enum_told.given.1
+    let number = c.before in
+    let card = number.args.card in
+    number.natural_text-number.ensures ∙ sym (ap text_of (append-nil (decimal_digits card)))
+    ∙ by-column number.before c.in-Absent.is
 
-pub place-text-spec : {M : Type 1} → statement M
-place-text-spec =
+pub place_text_spec : {M : Type 1} → statement M
+place_text_spec =
     tie.close
     (tie.spec
     natural-text-requires

@@ -12,31 +12,25 @@ use Rattle.lines.proofs.Segmenting.{refused_segments}
 use Rattle.lines.proofs.refused_line.Statement.{statement}
 use Rattle.lines.proofs.refused_line.Tie as tie
 
-slice-aggregate-text-of : tie.Need-slice-aggregate-text-of
-slice-aggregate-text-of c = search rules
-
-text-of-requires : tie.Need-text-of-requires
+text-of-requires : tie.Need-text_of-word-requires
 text-of-requires c κs = search rules
 
 number-requires : tie.Need-number-requires
 number-requires c κs = search rules
 
-cast-natural-text : tie.Need-overflow-cast-natural-text
+cast-natural-text : tie.Need-overflow_cast-number
 cast-natural-text c = search rules
 
-natural-text-requires : tie.Need-natural-text-requires
+natural-text-requires : tie.Need-natural_text-number-requires
 natural-text-requires c κs = search rules
 
-place-text-requires : tie.Need-place-text-requires
+place-text-requires : tie.Need-place_text-place-requires
 place-text-requires c κs = search rules
 
-slice-aggregate-put-line : tie.Need-slice-aggregate-put-line
-slice-aggregate-put-line c = search rules
-
-put-line-requires : tie.Need-put-line-requires
+put-line-requires : tie.Need-put_line-requires
 put-line-requires c κs = search rules
 
-same_length : tie.Need-same-length
+same_length : tie.Need-shape_of-out
 same_length c = search rules
 
 returns : tie.Need-returns
@@ -44,23 +38,21 @@ returns c =
     let put = c.before.before in
     let place = put.before.before.before in
     let texts = place.before in
-    let a = texts.before.before.before.before.before.args in
-    let number = texts.natural-text.ensures ∙ ap (λ (n : ℕ). text_of (decimal_digits n)) texts.before.number.ensures in
-    let word = texts.before.before.text-of.ensures in
-    let e = refused_segments a.fault a.card word number place.place-text.ensures in
-    (put.put-line.ensures.0 ∙ ap (λ (l : List ℕ). laid l a.out.now) e, omega (arith, put.put-line.ensures.1, ap length e))
+    let a = texts.args in
+    let number = texts.natural_text-number.ensures ∙ ap (λ (n : ℕ). text_of (decimal_digits n)) texts.number.ensures in
+    let word = texts.text_of-word.ensures in
+    let e = refused_segments a.fault a.card word number place.place_text-place.ensures in
+    (put.put_line.ensures.0 ∙ ap (λ (l : List ℕ). laid l a.out.now) e, omega (arith, put.put_line.ensures.1, ap length e))
 
-pub refused-line-spec : {M : Type 1} → statement M
-refused-line-spec =
+pub refused_line_spec : {M : Type 1} → statement M
+refused_line_spec =
     tie.close
     (tie.spec
-    slice-aggregate-text-of
     text-of-requires
     number-requires
     cast-natural-text
     natural-text-requires
     place-text-requires
-    slice-aggregate-put-line
     put-line-requires
     same_length
     returns)

@@ -21,74 +21,62 @@ use Rattle.lines.proofs.tail_at.Tie as tie
 by_both : {u v : Size} {t empty : Bool} {r : Text} → u ≡ v → t ≡ empty → IsTail r (size_tail v empty) → IsTail r (size_tail u t)
 by_both {r = r} e f = subst (IsTail r) (sym (ap₂ size_tail e f))
 
-enum-known-size : tie.Need-enum-known-size
+enum-known-size : tie.Need-enum_known-size
 enum-known-size c = search rules
 
-slice-aggregate-text-of : tie.Need-slice-aggregate-text-of
-slice-aggregate-text-of c = search rules
-
-text-of-requires : tie.Need-text-of-requires
+text-of-requires : tie.Need-text_of-requires
 text-of-requires c κs = search rules
 
-returns : tie.Need-returns
+returns : tie.Need-returns-then-empty
 returns c =
-    by_both c.before.before.before.before.size.given.1 c.before.before.if1.true
-    (record { made = c.text-of.ensures; short = omega arith })
+    by_both c.in-Finite.is c.if-empty.true
+    (record { made = c.text_of.ensures; short = omega arith })
 
-power-text-requires : tie.Need-power-text-requires
+power-text-requires : tie.Need-power_text-requires
 power-text-requires c κs = search rules
 
-enum_told : tie.Need-enum-told
+enum_told : tie.Need-enum_told-1
 enum_told c = search rules
 
-slice-aggregate-text-of-2 : tie.Need-slice-aggregate-text-of-2
-slice-aggregate-text-of-2 c = search rules
-
-text-of-requires-2 : tie.Need-text-of-requires-2
+text-of-requires-2 : tie.Need-text_of-requires-in-Infinite
 text-of-requires-2 c κs = search rules
 
-enum-told-2 : tie.Need-enum-told-2
+enum-told-2 : tie.Need-enum_told-in-Nan
 enum-told-2 c = search rules
 
-slice-aggregate-text-of-3 : tie.Need-slice-aggregate-text-of-3
-slice-aggregate-text-of-3 c = search rules
-
-text-of-requires-3 : tie.Need-text-of-requires-3
+text-of-requires-3 : tie.Need-text_of-requires-in-Nan
 text-of-requires-3 c κs = search rules
 
-returns-2 : tie.Need-returns-2
+returns-2 : tie.Need-returns-else-empty
 returns-2 c =
     let told = c.before.before in
-    let power = told.before.size.given.0.0 in
-    let fits : SFits w64 power = record { sfits = told.known-told.given.0.1 } in
-    by_both told.before.size.given.1 c.before.if1.false
+    let power = told.in-Finite.power in
+    let fits : SFits w64 power = record { sfits = told.in-Finite.known_told-1-own.given.0.1 } in
+    by_both told.in-Finite.is c.if-empty.false
     (record {
-      made = c.power-text.ensures ∙ ap (λ (z : ℤ). text_of (power_text (code "e") z)) (to_z-of_z fits);
+      made = c.power_text.ensures ∙ ap (λ (z : ℤ). text_of (power_text (code "e") z)) (to_z-of_z fits);
       short = omega (arith, few_signed power fits);
     })
 
-returns-3 : tie.Need-returns-3
+returns-3 : tie.Need-returns-in-Infinite
 returns-3 c =
-    by_both c.before.before.enum_told.given.1 refl (record { made = c.text-of2.ensures; short = omega arith })
+    by_both c.in-Infinite.is refl (record { made = c.text_of-in-Infinite.ensures; short = omega arith })
 
-returns-4 : tie.Need-returns-4
+returns-4 : tie.Need-returns-in-Nan
 returns-4 c =
-    by_both c.before.before.enum-told2.given.1 refl (record { made = c.text-of3.ensures; short = omega arith })
+    by_both c.in-Nan.is refl (record { made = c.text_of-in-Nan.ensures; short = omega arith })
 
-pub tail-at-spec : {M : Type 1} → statement M
-tail-at-spec =
+pub tail_at_spec : {M : Type 1} → statement M
+tail_at_spec =
     tie.close
     (tie.spec
     enum-known-size
-    slice-aggregate-text-of
     text-of-requires
     returns
     power-text-requires
     enum_told
-    slice-aggregate-text-of-2
     text-of-requires-2
     enum-told-2
-    slice-aggregate-text-of-3
     text-of-requires-3
     returns-2
     returns-3

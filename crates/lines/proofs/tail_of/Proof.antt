@@ -32,81 +32,75 @@ short-logical : (t : Bool) → length (logical_of t) ≤ tail_room
 short-logical true = omega arith
 short-logical false = omega arith
 
-enum-known-value : tie.Need-enum-known-value
+enum-known-value : tie.Need-enum_known-value
 enum-known-value c = search rules
 
-integer-text-requires : tie.Need-integer-text-requires
+integer-text-requires : tie.Need-integer_text-requires
 integer-text-requires c κs = search rules
 
-enum-known-value-2 : tie.Need-enum-known-value-2
+enum-known-value-2 : tie.Need-enum_known-value-in-Float-1
 enum-known-value-2 c = search rules
 
-tail-at-requires : tie.Need-tail-at-requires
+tail-at-requires : tie.Need-tail_at-requires
 tail-at-requires c κs = search rules
 
-enum-known-value-3 : tie.Need-enum-known-value-3
+enum-known-value-3 : tie.Need-enum_known-value-in-Logical-1
 enum-known-value-3 c = search rules
 
-slice-aggregate-one-of : tie.Need-slice-aggregate-one-of
-slice-aggregate-one-of c = search rules
-
-slice-aggregate-one-of-2 : tie.Need-slice-aggregate-one-of-2
-slice-aggregate-one-of-2 c = search rules
-
-one-of-requires : tie.Need-one-of-requires
+one-of-requires : tie.Need-one_of-requires
 one-of-requires c κs = search rules
 
-enum_told : tie.Need-enum-told
+enum_told : tie.Need-enum_told-1
 enum_told c = search rules
 
-empty-text-requires : tie.Need-empty-text-requires
+empty-text-requires : tie.Need-empty_text-requires
 empty-text-requires c κs = search rules
 
-enum-told-2 : tie.Need-enum-told-2
+enum-told-2 : tie.Need-enum_told-in-Undefined
 enum-told-2 c = search rules
 
-empty-text-requires-2 : tie.Need-empty-text-requires-2
+empty-text-requires-2 : tie.Need-empty_text-requires-in-Undefined
 empty-text-requires-2 c κs = search rules
 
-enum-told-3 : tie.Need-enum-told-3
+enum-told-3 : tie.Need-enum_told-in-Invalid
 enum-told-3 c = search rules
 
-empty-text-requires-3 : tie.Need-empty-text-requires-3
+empty-text-requires-3 : tie.Need-empty_text-requires-in-Invalid
 empty-text-requires-3 c κs = search rules
 
-returns : tie.Need-returns
+returns : tie.Need-returns-in-Integer
 returns c =
     let told = c.before in
-    let z = told.before.value.given.0.0 in
-    let fits : SFits w64 z = record { sfits = told.known-told.given.0.1 } in
-    by_kind told.before.before.before told.before.value.given.1
+    let z = told.in-Integer.z in
+    let fits : SFits w64 z = record { sfits = told.in-Integer.known_told-1-own.given.0.1 } in
+    by_kind told.before told.in-Integer.is
     (record {
-      made = c.integer-text.ensures ∙ ap (λ (z : ℤ). text_of (signed_digits z)) (to_z-of_z fits);
+      made = c.integer_text.ensures ∙ ap (λ (z : ℤ). text_of (signed_digits z)) (to_z-of_z fits);
       short = omega (arith, few_signed z fits);
     })
 
-returns-2 : tie.Need-returns-2
+returns-2 : tie.Need-returns-in-Float
 returns-2 c =
-    let known = c.before.before in
-    by_kind known.before.before known.value2.given.1 c.tail_at.ensures
+    let known = c.before in
+    by_kind known.before known.in-Float.is c.tail_at.ensures
 
-returns-3 : tie.Need-returns-3
+returns-3 : tie.Need-returns-in-Logical
 returns-3 c =
     let known = c.before.before.before.before in
-    by_kind known.before.before known.value3.given.1
-    (record { made = c.one_of.ensures; short = short-logical known.value3.given.0.0 })
+    by_kind known.before known.in-Logical.is
+    (record { made = c.one_of.ensures; short = short-logical known.in-Logical.t })
 
-returns-4 : tie.Need-returns-4
-returns-4 c = by_kind c.before.before.before c.before.enum_told.given.1 (no-tail c.empty-text.ensures)
+returns-4 : tie.Need-returns-in-String
+returns-4 c = by_kind c.before.before c.in-String.is (no-tail c.empty_text.ensures)
 
-returns-5 : tie.Need-returns-5
-returns-5 c = by_kind c.before.before.before c.before.enum-told2.given.1 (no-tail c.empty-text2.ensures)
+returns-5 : tie.Need-returns-in-Undefined
+returns-5 c = by_kind c.before.before c.in-Undefined.is (no-tail c.empty_text-in-Undefined.ensures)
 
-returns-6 : tie.Need-returns-6
-returns-6 c = by_kind c.before.before.before c.before.enum-told3.given.1 (no-tail c.empty-text3.ensures)
+returns-6 : tie.Need-returns-in-Invalid
+returns-6 c = by_kind c.before.before c.in-Invalid.is (no-tail c.empty_text-in-Invalid.ensures)
 
-pub tail-of-spec : {M : Type 1} → statement M
-tail-of-spec =
+pub tail_of_spec : {M : Type 1} → statement M
+tail_of_spec =
     tie.close
     (tie.spec
     enum-known-value
@@ -114,8 +108,6 @@ tail-of-spec =
     enum-known-value-2
     tail-at-requires
     enum-known-value-3
-    slice-aggregate-one-of
-    slice-aggregate-one-of-2
     one-of-requires
     enum_told
     empty-text-requires

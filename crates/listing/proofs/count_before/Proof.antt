@@ -25,62 +25,62 @@ middle c = c.halves.low + (c.halves.high - c.halves.low) / 2
 halves-holds : tie.Need-halves-init invariant-halves decreases-halves
 halves-holds c = half-start _ _ _
 
-sub-mid : tie.Need-overflow-sub-mid invariant-halves decreases-halves
+sub-mid : tie.Need-overflow_sub-mid invariant-halves decreases-halves
 sub-mid c = omega arith
 
-add-mid : tie.Need-overflow-add-mid invariant-halves decreases-halves
-add-mid c = omega (arith, c.before.halves.invariant.to, (ordered c.before).few)
+add-mid : tie.Need-overflow_add-mid invariant-halves decreases-halves
+add-mid c = omega (arith, c.halves.invariant.to, (ordered c.before).few)
 
-mul-row-before : tie.Need-overflow-mul-row-before invariant-halves decreases-halves
-mul-row-before c = omega (arith, c.before.halves.invariant.to, (ordered c.before).few)
+mul-row-before : tie.Need-offset_bounds-order-mid invariant-halves decreases-halves
+mul-row-before c = omega (arith, c.halves.invariant.to, (ordered c.before).few)
 
-shared-slice-read-row-before : tie.Need-shared-slice-read-row-before invariant-halves decreases-halves
+shared-slice-read-row-before : tie.Need-bounds-order-mid invariant-halves decreases-halves
 shared-slice-read-row-before c =
     let at = c.before.before in
-    omega (arith, at.halves.invariant.to, (ordered at).few, (ordered at).order-long, c.before.halves-test.true)
+    omega (arith, at.halves.invariant.to, (ordered at).few, (ordered at).order-long, c.halves-test.true)
 
-cast-row-before : tie.Need-overflow-cast-row-before invariant-halves decreases-halves
+cast-row-before : tie.Need-overflow_cast-order invariant-halves decreases-halves
 cast-row-before c =
     let at = c.before.before in
     let O = ordered at in
-    let place = O.within (middle at) (omega (arith, at.halves.invariant.under, at.halves.invariant.to, c.before.halves-test.true)) in
+    let place = O.within (middle at) (omega (arith, at.halves.invariant.under, at.halves.invariant.to, c.halves-test.true)) in
     omega (arith, place, O.few)
 
-row-before-requires : tie.Need-row-before-requires invariant-halves decreases-halves
+row-before-requires : tie.Need-row_before-requires invariant-halves decreases-halves
 row-before-requires c κs =
     let at = c.before.before in
     let O = ordered at in
-    let place = O.within (middle at) (omega (arith, at.halves.invariant.under, at.halves.invariant.to, c.before.halves-test.true)) in
+    let place = O.within (middle at) (omega (arith, at.halves.invariant.under, at.halves.invariant.to, c.halves-test.true)) in
     (omega (arith, place, O.few, O.keys-long), omega (arith, (start at).requires.1, O.keys-long))
 
-add_low : tie.Need-overflow-add-low invariant-halves decreases-halves
+add_low : tie.Need-overflow_add-low invariant-halves decreases-halves
 add_low c =
     let at = c.before.before.before.before in
     omega (arith, at.halves.invariant.to, (ordered at).few)
 
-halves-less : tie.Need-halves-smaller invariant-halves decreases-halves
-halves-less c = omega (arith, c.before.before.before.halves-test.true)
+halves-less : tie.Need-halves-smaller-then-row_before invariant-halves decreases-halves
+halves-less c = omega (arith, c.halves-test.true)
 
-halves-again : tie.Need-halves-preserved invariant-halves decreases-halves
+halves-again : tie.Need-halves-preserved-then-row_before invariant-halves decreases-halves
 halves-again c =
     let at = c.before.before.before.before in
-    half-lower at.halves.invariant (ordered at) (middle at) (omega arith) (omega (arith, c.before.before.before.halves-test.true))
-    (sym c.before.row_before.ensures ∙ c.if1.true)
+    half-lower at.halves.invariant (ordered at) (middle at) (omega arith) (omega (arith, c.halves-test.true))
+    (sym c.row_before.ensures ∙ c.if-row_before.true)
 
-halves-less-2 : tie.Need-halves-smaller-2 invariant-halves decreases-halves
-halves-less-2 c = omega (arith, c.before.before.before.halves-test.true)
+halves-less-2 : tie.Need-halves-smaller invariant-halves decreases-halves
+halves-less-2 c = omega (arith, c.halves-test.true)
 
-halves-again-2 : tie.Need-halves-preserved-2 invariant-halves decreases-halves
+halves-again-2 : tie.Need-halves-preserved invariant-halves decreases-halves
 halves-again-2 c =
     let at = c.before.before.before.before in
-    half-upper at.halves.invariant (ordered at) (middle at) (omega arith) (omega (arith, c.before.before.before.halves-test.true))
-    (sym c.before.row_before.ensures ∙ c.if1.false)
+    half-upper at.halves.invariant (ordered at) (middle at) (omega arith) (omega (arith, c.halves-test.true))
+    (sym c.row_before.ensures ∙ c.if-row_before.false)
 
 returns : tie.Need-returns invariant-halves decreases-halves
-returns c = half-end c.before.halves.invariant c.halves-test.false
+returns c = half-end c.halves.invariant c.halves-test.false
 
-pub count-before-spec : {M : Type 1} → statement M
-count-before-spec =
+pub count_before_spec : {M : Type 1} → statement M
+count_before_spec =
     tie.close
     (tie.spec
     invariant-halves

@@ -15,35 +15,35 @@ use Rattle.listing.proofs.enter.Statement.{statement}
 use Rattle.listing.proofs.enter.Tie as tie
 
 -- when the key is stored: what is given, the name, and the keys then
-abbrev start : tie.After-put-key → tie.Start
+abbrev start : tie.After-put_key → tie.Start
 start c = c.before.before.before.before.before.before.before.before.before.before
 
-module _ (c : tie.After-put-key) where
+module _ (c : tie.After-put_key) where
   abbrev name : List ℕ
   name = bytes_of (start c).args.text
 
   abbrev keys₁ : List ℕ
-  keys₁ = c.put-key.new.1.0
+  keys₁ = c.put_key.new.1.0
 
   ready : let a = (start c).args in Ready a.count a.first.now a.last.now a.times.now a.keys.now a.order.now
   ready = (start c).requires
 
   stored : keys₁ ≡ sets (start c).args.keys.now ((start c).args.count * words_of_key) (key_of name)
   stored =
-      c.put-key.ensures
+      c.put_key.ensures
       ∙ ap (λ (l : List ℕ). sets (start c).args.keys.now ((start c).args.count * words_of_key) (key_of l))
-      c.before.before.first_of.ensures
+      c.first_of.ensures
 
   ordered : Ordered keys₁ (start c).args.order.now (start c).args.count
   ordered = behind ready name (start c).args.i stored
 
 -- when the number in the order is known
-abbrev storing : tie.After-count-before → tie.After-put-key
+abbrev storing : tie.After-count_before-at → tie.After-put_key
 storing c = c.before.before.before.before.before
 
-parted : (c : tie.After-count-before) → let a = (start (storing c)).args in
-    Parted (keys₁ (storing c)) a.order.now a.count c.count-before.result
-parted c = c.count-before.ensures
+parted : (c : tie.After-count_before-at) → let a = (start (storing c)).args in
+    Parted (keys₁ (storing c)) a.order.now a.count c.count_before-at.result
+parted c = c.count_before-at.ensures
 
 -- when that number is below the count: the place that has it is one of the table's
 module _ (c : tie.Then1) where
@@ -56,134 +56,134 @@ module _ (c : tie.Then1) where
   below : place < (start put).args.count
   below = (ordered put).within c.before.count-before.result c.if1.true
 
-slice-aggregate-first-of : tie.Need-slice-aggregate-first-of
+slice-aggregate-first-of : tie.Need-slice_bounds-first_of-end
 slice-aggregate-first-of c = search rules
 
-first-of-requires : tie.Need-first-of-requires
+first-of-requires : tie.Need-first_of-requires
 first-of-requires c κs = search rules
 
-mul-put-key : tie.Need-overflow-mul-put-key
+mul-put-key : tie.Need-overflow_mul-count
 mul-put-key c = search rules
 
-put-key-requires : tie.Need-put-key-requires
+put-key-requires : tie.Need-put_key-requires
 put-key-requires c κs = search rules
 
-count-before-requires : tie.Need-count-before-requires
+count-before-requires : tie.Need-count_before-at-requires
 count-before-requires c κs =
     let stood = c.before.before.before.before in
     (ordered stood, (ready stood).room)
 
-mul-k : tie.Need-overflow-mul-k
+mul-k : tie.Need-offset_bounds-order-at
 mul-k c = search rules
 
-slice-read-k : tie.Need-slice-read-k
+slice-read-k : tie.Need-bounds-order-at
 slice-read-k c = search rules
 
-cast-k : tie.Need-overflow-cast-k
+cast-k : tie.Need-overflow_cast-k
 cast-k c = let t = c.before in omega (arith, below t, (ready (put t)).room)
 
-row-before-requires : tie.Need-row-before-requires
+row-before-requires : tie.Need-row_before-requires
 row-before-requires c κs =
     let t = c.before.before in
     let O = ordered (put t) in
     (omega (arith, (ready (put t)).room, O.keys-long), omega (arith, below t, (ready (put t)).room, O.keys-long))
 
-mul-last : tie.Need-overflow-mul-last
+mul-last : tie.Need-offset_bounds-last-k
 mul-last c = let t = c.before.before.before.before in omega (arith, below t, (ready (put t)).room)
 
-slice-write-last : tie.Need-slice-write-last
+slice-write-last : tie.Need-bounds-last-k
 slice-write-last c =
     let t = c.before.before.before.before in
     omega (arith, below t, (ready (put t)).room, (ready (put t)).last-long)
 
-mul-times : tie.Need-overflow-mul-times
+mul-times : tie.Need-offset_bounds-times-k
 mul-times c = let t = c.before.before.before.before in omega (arith, below t, (ready (put t)).room)
 
-slice-read-times : tie.Need-slice-read-times
+slice-read-times : tie.Need-bounds-times-k
 slice-read-times c =
     let t = c.before.before.before.before.before in
     omega (arith, below t, (ready (put t)).room, (ready (put t)).times_long)
 
-add_times : tie.Need-overflow-add-times
+add_times : tie.Need-overflow_add-times
 add_times c =
     let t = c.before.before.before.before.before in
     omega (arith, (ready (put t)).few-times (place t))
 
-slice-write-times : tie.Need-slice-write-times
+slice-write-times : tie.Need-bounds-times-k-then-not-row_before
 slice-write-times c =
     let t = c.before.before.before.before.before in
     omega (arith, below t, (ready (put t)).room, (ready (put t)).times_long)
 
-same_length : tie.Need-same-length
+same_length : tie.Need-shape_of-last-then-not-row_before
 same_length c = search rules
 
-same-length-2 : tie.Need-same-length-2
+same-length-2 : tie.Need-shape_of-times-then-not-row_before
 same-length-2 c = search rules
 
-same-length-3 : tie.Need-same-length-3
+same-length-3 : tie.Need-shape_of-keys-then-not-row_before
 same-length-3 c = search rules
 
-same-length-4 : tie.Need-same-length-4
+same-length-4 : tie.Need-shape_of-order-then-not-row_before
 same-length-4 c = search rules
 
-returns : tie.Need-returns
+returns : tie.Need-returns-then-not-row_before
 returns c =
     let t = c.before.before.before.before.before in
     let stood = put t in
-    enter_again (ready stood) (name stood) (start stood).args.i (stored stood) (parted t.before) t.if1.true
-    (sym c.before.before.row_before.ensures ∙ not-true _ c.before.if2.true)
+    enter_again (ready stood) (name stood) (start None).args.i (stored stood) (parted t.before) t.if1.true
+    (sym c.row_before.ensures ∙ not-true _ c.if-not-row_before.true)
 
-cast-put-between : tie.Need-overflow-cast-put-between
+cast-put-between : tie.Need-overflow_cast-count
 cast-put-between c = omega (arith, (ready (storing c.before.before)).room)
 
-put-between-requires : tie.Need-put-between-requires
+put-between-requires : tie.Need-put_between-requires
 put-between-requires c κs = search rules
 
-mul-first : tie.Need-overflow-mul-first
+mul-first : tie.Need-offset_bounds-first-count
 mul-first c = search rules
 
-slice-write-first : tie.Need-slice-write-first
+slice-write-first : tie.Need-bounds-first-count
 slice-write-first c = search rules
 
-mul-last-2 : tie.Need-overflow-mul-last-2
+mul-last-2 : tie.Need-offset_bounds-last-count
 mul-last-2 c = search rules
 
-slice-write-last-2 : tie.Need-slice-write-last-2
+slice-write-last-2 : tie.Need-bounds-last-count
 slice-write-last-2 c = search rules
 
-mul-times-2 : tie.Need-overflow-mul-times-2
+mul-times-2 : tie.Need-offset_bounds-times-count
 mul-times-2 c = search rules
 
-slice-write-times-2 : tie.Need-slice-write-times-2
+slice-write-times-2 : tie.Need-bounds-times-count
 slice-write-times-2 c = search rules
 
-add-result : tie.Need-overflow-add-result
+add-result : tie.Need-overflow_add-result
 add-result c = search rules
 
-same-length-5 : tie.Need-same-length-5
+same-length-5 : tie.Need-shape_of-first
 same-length-5 c = search rules
 
-same-length-6 : tie.Need-same-length-6
+same-length-6 : tie.Need-shape_of-last
 same-length-6 c = search rules
 
-same-length-7 : tie.Need-same-length-7
+same-length-7 : tie.Need-shape_of-times
 same-length-7 c = search rules
 
-same-length-8 : tie.Need-same-length-8
+same-length-8 : tie.Need-shape_of-keys
 same-length-8 c = search rules
 
-same-length-9 : tie.Need-same-length-9
+same-length-9 : tie.Need-shape_of-order
 same-length-9 c = search rules
 
-returns-2 : tie.Need-returns-2
+returns-2 : tie.Need-returns
 returns-2 c =
     let moved = c.before.before in
     let joined = moved.before.before in
     let told = joined.before in
     let stood = storing told in
     enter_new (ready stood) (name stood) (start stood).args.i (stored stood) (parted told)
-    (λ h. ⊎_elim (λ w. sym w.3.ensures ∙ not-false _ w.4.left) (λ w. absurd (omega (arith, w.left))) joined.if1.branch)
-    moved.put-between.ensures
+    (λ h. ⊎_elim (λ w. sym w.3.ensures ∙ not-false _ w.4.left) (λ w. absurd (omega (arith, w.left))) joined.if-at-count.branch)
+    moved.put_between.ensures
 
 pub enter_spec : {M : Type 1} → statement M
 enter_spec =

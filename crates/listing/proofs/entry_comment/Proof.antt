@@ -7,13 +7,13 @@ use borrow.Author.Rules.{rules}
 use Rattle.listing.proofs.entry_comment.Statement.{statement}
 use Rattle.listing.proofs.entry_comment.Tie as tie
 
-last-at-requires : tie.Need-last-at-requires
+last-at-requires : tie.Need-last_at-requires
 last-at-requires c κs = search rules
 
-comment-at-requires : tie.Need-comment-at-requires
+comment-at-requires : tie.Need-comment_at-requires
 comment-at-requires c κs = search rules
 
-same_length : tie.Need-same-length
+same_length : tie.Need-shape_of-comment
 same_length c = search rules
 
 returns : tie.Need-returns
@@ -21,8 +21,8 @@ unfolding place_of_comment
 returns c =
     let read = c.before.before in
     let found = read.before.before in
-    let a = found.before.before.before.before.args in
-    read.comment-at.ensures ∙ ap (λ (i : ℕ). comment_numbered a.header.now i a.comment.now) found.last-at.ensures
+    let a = found.args in
+    read.comment_at.ensures ∙ ap (λ (i : ℕ). comment_numbered a.header.now i a.comment.now) found.last_at.ensures
 
-pub entry-comment-spec : {M : Type 1} → statement M
-entry-comment-spec = tie.close (tie.spec last-at-requires comment-at-requires same_length returns)
+pub entry_comment_spec : {M : Type 1} → statement M
+entry_comment_spec = tie.close (tie.spec last-at-requires comment-at-requires same_length returns)

@@ -7,13 +7,13 @@ use borrow.Author.Rules.{rules}
 use Rattle.listing.proofs.entry_value.Statement.{statement}
 use Rattle.listing.proofs.entry_value.Tie as tie
 
-last-at-requires : tie.Need-last-at-requires
+last-at-requires : tie.Need-last_at-requires
 last-at-requires c κs = search rules
 
-value-at-requires : tie.Need-value-at-requires
+value-at-requires : tie.Need-value_at-requires
 value-at-requires c κs = search rules
 
-same_length : tie.Need-same-length
+same_length : tie.Need-shape_of-text
 same_length c = search rules
 
 returns : tie.Need-returns
@@ -21,8 +21,8 @@ unfolding place_of_value
 returns c =
     let read = c.before.before in
     let found = read.before.before in
-    let a = found.before.before.before.before.args in
-    read.value-at.ensures ∙ ap (λ (i : ℕ). value_numbered a.header.now i a.text.now) found.last-at.ensures
+    let a = found.args in
+    read.value_at.ensures ∙ ap (λ (i : ℕ). value_numbered a.header.now i a.text.now) found.last_at.ensures
 
-pub entry-value-spec : {M : Type 1} → statement M
-entry-value-spec = tie.close (tie.spec last-at-requires value-at-requires same_length returns)
+pub entry_value_spec : {M : Type 1} → statement M
+entry_value_spec = tie.close (tie.spec last-at-requires value-at-requires same_length returns)

@@ -10,77 +10,77 @@ use Rattle.listing.proofs.Ordering.{before-left, before_right, before_next, befo
 use Rattle.listing.proofs.is_before.Statement.{statement}
 use Rattle.listing.proofs.is_before.Tie as tie
 
-abbrev invariant-loop : tie.invariant-loop
+abbrev invariant-loop : tie.invariant-loop-q
 invariant-loop s t q₀ q = (q ≤ length s) × (q ≤ length t) × (is_before (drop q s) (drop q t) ≡ is_before s t)
 
-abbrev decreases-loop : tie.decreases-loop
+abbrev decreases-loop : tie.decreases-loop-q
 decreases-loop s t q₀ q = length s - q
 
-loop-holds : tie.Need-loop-init invariant-loop decreases-loop
+loop-holds : tie.Need-loop-q-init invariant-loop decreases-loop
 loop-holds c = (omega arith, omega arith, refl)
 
-mul-if2 : tie.Need-overflow-mul-if2 invariant-loop decreases-loop
+mul-if2 : tie.Need-offset_bounds-s-q invariant-loop decreases-loop
 mul-if2 c = search rules
 
-shared-slice-read-if2 : tie.Need-shared-slice-read-if2 invariant-loop decreases-loop
+shared-slice-read-if2 : tie.Need-bounds-s-q invariant-loop decreases-loop
 shared-slice-read-if2 c = search rules
 
-mul-if2-2 : tie.Need-overflow-mul-if2-2 invariant-loop decreases-loop
+mul-if2-2 : tie.Need-offset_bounds-t-q invariant-loop decreases-loop
 mul-if2-2 c = search rules
 
-shared-slice-read-if2-2 : tie.Need-shared-slice-read-if2-2 invariant-loop decreases-loop
+shared-slice-read-if2-2 : tie.Need-bounds-t-q invariant-loop decreases-loop
 shared-slice-read-if2-2 c = search rules
 
-mul-result : tie.Need-overflow-mul-result invariant-loop decreases-loop
+mul-result : tie.Need-offset_bounds-s-q-then-s-q invariant-loop decreases-loop
 mul-result c = search rules
 
-shared-slice-read-result : tie.Need-shared-slice-read-result invariant-loop decreases-loop
+shared-slice-read-result : tie.Need-bounds-s-q-then-s-q invariant-loop decreases-loop
 shared-slice-read-result c = search rules
 
-mul-result-2 : tie.Need-overflow-mul-result-2 invariant-loop decreases-loop
+mul-result-2 : tie.Need-offset_bounds-t-q-then-s-q invariant-loop decreases-loop
 mul-result-2 c = search rules
 
-shared-slice-read-result-2 : tie.Need-shared-slice-read-result-2 invariant-loop decreases-loop
+shared-slice-read-result-2 : tie.Need-bounds-t-q-then-s-q invariant-loop decreases-loop
 shared-slice-read-result-2 c = search rules
 
-returns : tie.Need-returns invariant-loop decreases-loop
+returns : tie.Need-returns-then-s-q invariant-loop decreases-loop
 returns c =
     let then1 = c.before.before.before.before.before in
     let l = then1.before.before in
-    let a = l.before.args in
-    before_here a.s.now a.t.now l.loop.q then1.before.loop-test.true (ltb-true _ _ then1.if1.true)
-    c.before.before.if2.true
-    ∙ l.loop.invariant.2
+    let a = l.args in
+    before_here a.s.now a.t.now l.loop-q.q then1.loop-q-test.true (then1.if-q-t.true)
+    c.if-s-q.true
+    ∙ l.loop-q.invariant.2
 
-add-q : tie.Need-overflow-add-q invariant-loop decreases-loop
+add-q : tie.Need-overflow_add-q invariant-loop decreases-loop
 add-q c = search rules
 
-loop-less : tie.Need-loop-smaller invariant-loop decreases-loop
+loop-less : tie.Need-loop-q-smaller invariant-loop decreases-loop
 loop-less c = search rules
 
-loop-again : tie.Need-loop-preserved invariant-loop decreases-loop
+loop-again : tie.Need-loop-q-preserved invariant-loop decreases-loop
 loop-again c =
     let then1 = c.before.before.before in
     let l = then1.before.before in
-    let a = l.before.args in
-    let more : l.loop.q < length a.t.now = ltb-true _ _ then1.if1.true in
-    let next = before_next a.s.now a.t.now l.loop.q then1.before.loop-test.true more c.if2.false in
-    (omega arith, omega arith, next ∙ l.loop.invariant.2)
+    let a = l.args in
+    let more : l.loop-q.q < length a.t.now = then1.if-q-t.true in
+    let next = before_next a.s.now a.t.now l.loop-q.q then1.loop-q-test.true more c.if-s-q.false in
+    (omega arith, omega arith, next ∙ l.loop-q.invariant.2)
 
-returns-2 : tie.Need-returns-2 invariant-loop decreases-loop
+returns-2 : tie.Need-returns-else-q-t invariant-loop decreases-loop
 returns-2 c =
     let l = c.before.before in
-    let a = l.before.args in
-    before_right a.s.now a.t.now l.loop.q c.before.loop-test.true (ltb-false _ _ c.if1.false) ∙ l.loop.invariant.2
+    let a = l.args in
+    before_right a.s.now a.t.now l.loop-q.q c.loop-q-test.true (c.if-q-t.false) ∙ l.loop-q.invariant.2
 
-returns-3 : tie.Need-returns-3 invariant-loop decreases-loop
+returns-3 : tie.Need-returns-after-loop-q invariant-loop decreases-loop
 returns-3 c =
     let l = c.before in
-    let a = l.before.args in
-    before-left a.s.now a.t.now l.loop.q c.loop-test.false ∙ l.loop.invariant.2
+    let a = l.args in
+    before-left a.s.now a.t.now l.loop-q.q c.loop-q-test.false ∙ l.loop-q.invariant.2
 
-pub is-before-spec : {M : Type 1} → statement M
-is-before-spec =
+pub is_before_spec : {M : Type 1} → statement M
+is_before_spec =
     tie.close
     (tie.spec
     invariant-loop

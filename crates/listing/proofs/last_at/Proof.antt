@@ -7,20 +7,20 @@ use borrow.Author.Rules.{rules}
 use Rattle.listing.proofs.last_at.Statement.{statement}
 use Rattle.listing.proofs.last_at.Tie as tie
 
-mul-result : tie.Need-overflow-mul-result
+mul-result : tie.Need-offset_bounds-lasts-place
 mul-result c = search rules
 
-shared-slice-read-result : tie.Need-shared-slice-read-result
+shared-slice-read-result : tie.Need-bounds-lasts-place
 shared-slice-read-result c = search rules
 
-returns : tie.Need-returns
+returns : tie.Need-returns-then-place-lasts
 returns c =
     let inside = c.before in
-    let a = inside.before.args in
-    at_within a.lasts.now a.place 0 free inside.if1.true
+    let a = inside.args in
+    at_within a.lasts.now a.place 0 free inside.if-place-lasts.true
 
-returns-2 : tie.Need-returns-2
-returns-2 c = sym (get_or-eq_default c.before.args.lasts.now free c.if1.false)
+returns-2 : tie.Need-returns
+returns-2 c = sym (get_or-eq_default c.args.lasts.now free c.if-place-lasts.false)
 
-pub last-at-spec : {M : Type 1} → statement M
-last-at-spec = tie.close (tie.spec mul-result shared-slice-read-result returns returns-2)
+pub last_at_spec : {M : Type 1} → statement M
+last_at_spec = tie.close (tie.spec mul-result shared-slice-read-result returns returns-2)

@@ -32,53 +32,53 @@ use Rattle.listing.proofs.Placing.{on_refused, on_last, on_more, on_neutral, rea
 use Rattle.listing.proofs.list_over.Statement.{statement}
 use Rattle.listing.proofs.list_over.Tie as tie
 
-abbrev invariant-loop : tie.invariant-loop
+abbrev invariant-loop : tie.invariant-loop-i
 invariant-loop header first₀ last₀ times₀ cards keys₀ order₀ count₀ i₀ first last times keys order count i =
     Standing header first last times keys order count i
 
-abbrev decreases-loop : tie.decreases-loop
+abbrev decreases-loop : tie.decreases-loop-i
 decreases-loop header first₀ last₀ times₀ cards keys₀ order₀ count₀ i₀ first last times keys order count i = cards - i
 
 -- the number of cards
-abbrev counted : tie.At-loop invariant-loop decreases-loop → tie.After-card-count invariant-loop decreases-loop
+abbrev counted : tie.At-loop-i invariant-loop decreases-loop → tie.After-card_count-cards invariant-loop decreases-loop
 counted c = c.before.before.before.before.before.before
 
-abbrev header : tie.At-loop invariant-loop decreases-loop → List ℕ
-header c = (counted c).before.before.args.header.now
+abbrev header : tie.At-loop-i invariant-loop decreases-loop → List ℕ
+header c = (counted c).args.header.now
 
-good : (c : tie.Else1 invariant-loop decreases-loop) → is_bad_length (length c.before.before.before.args.header.now) ≡ false
+good : (c : tie.Else-cards-eq0 invariant-loop decreases-loop) → is_bad_length (length c.args.header.now) ≡ false
 good c =
-    let h = c.before.before.before.args.header.now in
-    count-some (length h) (λ e. c.if1.false (c.before.card-count.ensures ∙ e))
+    let h = c.args.header.now in
+    count-some (length h) (λ e. c.if-cards-eq0.false (c.card_count-cards.ensures ∙ e))
 
-all : (c : tie.At-loop invariant-loop decreases-loop) → (counted c).card-count.result ≡ length (header c) / 80
-all c = (counted c).card-count.ensures ∙ count-is (length (header c)) (good c.before.before.before.before.before)
+all : (c : tie.At-loop-i invariant-loop decreases-loop) → (counted c).card_count-cards.result ≡ length (header c) / 80
+all c = (counted c).card_count-cards.ensures ∙ count-is (length (header c)) (good c.before.before.before.before.before)
 
 -- at a card: where the loop stands, and what the card is
-abbrev at : tie.After-course-of invariant-loop decreases-loop → tie.At-loop invariant-loop decreases-loop
+abbrev at : tie.After-course_of invariant-loop decreases-loop → tie.At-loop-i invariant-loop decreases-loop
 at c = c.before.before.before.before.before
 
-abbrev number : tie.After-course-of invariant-loop decreases-loop → ℕ
-number c = (at c).loop.i
+abbrev number : tie.After-course_of invariant-loop decreases-loop → ℕ
+number c = (at c).loop-i.i
 
-standing : (c : tie.After-course-of invariant-loop decreases-loop) → let l = (at c).loop in
+standing : (c : tie.After-course_of invariant-loop decreases-loop) → let l = (at c).loop-i in
     Standing (header (at c)) l.first l.last l.times l.keys l.order l.count l.i
-standing c = (at c).loop.invariant
+standing c = (at c).loop-i.invariant
 
-more : (c : tie.After-course-of invariant-loop decreases-loop) → number c < length (header (at c)) / 80
-more c = omega (arith, c.before.before.before.before.loop-test.true, all (at c))
+more : (c : tie.After-course_of invariant-loop decreases-loop) → number c < length (header (at c)) / 80
+more c = omega (arith, c.loop-i-test.true, all (at c))
 
 -- the card as it is read, and its role
-abbrev read : tie.After-course-of invariant-loop decreases-loop → CardRead
-read c = c.before.before.before.card-at.result
+abbrev read : tie.After-course_of invariant-loop decreases-loop → CardRead
+read c = c.card_at-card.result
 
-abbrev told : tie.After-course-of invariant-loop decreases-loop → Told
-told c = c.before.role-of.result
+abbrev told : tie.After-course_of invariant-loop decreases-loop → Told
+told c = c.role_of-role.result
 
-role_so : (c : tie.After-course-of invariant-loop decreases-loop) (t : Told) → told c ≡ t → role_in t (read c) ≡ role_no (header (at c)) (number c)
+role_so : (c : tie.After-course_of invariant-loop decreases-loop) (t : Told) → told c ≡ t → role_in t (read c) ≡ role_no (header (at c)) (number c)
 role_so c t e =
-    ap (λ (q : Told). role_in q (read c)) (sym e ∙ c.before.role-of.ensures)
-    ∙ ap role_read (c.before.before.before.card-at.ensures ∙ card-here (header (at c)) (number c) (more c))
+    ap (λ (q : Told). role_in q (read c)) (sym e ∙ c.role_of-role.ensures)
+    ∙ ap role_read (c.card_at-card.ensures ∙ card-here (header (at c)) (number c) (more c))
 
 -- ---- what a course says of the role
 -- the reading stops at a card that is not refused: it is END
@@ -112,9 +112,9 @@ holds h i r T.Last e is = absurd (let z : ◌≡◌ {A = ℕ} 0 1 = cc in omega 
 holds h i r (T.Refused f) e is = absurd (let z : ◌≡◌ {A = ℕ} 0 1 = cc in omega arith)
 
 -- the card where it is an entry
-own : (c : tie.After-course-of invariant-loop decreases-loop) → c.course-of.result ≡ On true → IsEntry (header (at c)) (number c)
+own : (c : tie.After-course_of invariant-loop decreases-loop) → c.course_of.result ≡ On true → IsEntry (header (at c)) (number c)
 own c e =
-    let H = holds (header (at c)) (number c) (read c) (told c) (sym c.course-of.ensures ∙ e) (role_so c (told c) refl) in
+    let H = holds (header (at c)) (number c) (read c) (told c) (sym c.course_of.ensures ∙ e) (role_so c (told c) refl) in
     let long : length (read c).name.bytes ≡ 80 = search rules in
     record {
       within = more c;
@@ -128,59 +128,59 @@ own c e =
 refused-so : (f : Fault) (i : ℕ) (s : Stop) → s ≡ stop_at f i → tabled (Refused s) empty ≡ tabled (Refused (stop_at f i)) empty
 refused-so f i s e = ap (λ (x : Stop). tabled (Refused x) empty) e
 
-card-count-requires : tie.Need-card-count-requires invariant-loop decreases-loop
+card-count-requires : tie.Need-card_count-cards-requires invariant-loop decreases-loop
 card-count-requires c κs = search rules
 
-fault-of-requires : tie.Need-fault-of-requires invariant-loop decreases-loop
+fault-of-requires : tie.Need-fault_of-requires invariant-loop decreases-loop
 fault-of-requires c κs = search rules
 
-stop-at-requires : tie.Need-stop-at-requires invariant-loop decreases-loop
+stop-at-requires : tie.Need-stop_at-none-requires invariant-loop decreases-loop
 stop-at-requires c κs = search rules
 
 refused-requires : tie.Need-refused-requires invariant-loop decreases-loop
 refused-requires c κs = search rules
 
-returns : tie.Need-returns invariant-loop decreases-loop
+returns : tie.Need-returns-then-cards-eq0 invariant-loop decreases-loop
 returns c =
     let stop = c.before.before.before.before in
     let test = stop.before.before in
-    let h = test.before.before.before.args.header.now in
+    let h = test.args.header.now in
     c.refused.ensures
-    ∙ refused-so (fault_of R.HeaderLength) 0 stop.stop-at.result
-    (stop.stop-at.ensures ∙ ap (λ (f : Fault). stop_at f 0) stop.before.fault-of.ensures)
-    ∙ refused-length h (count_none (length h) (sym test.before.card-count.ensures ∙ test.if1.true))
+    ∙ refused-so (fault_of R.HeaderLength) 0 stop.stop_at-none.result
+    (stop.stop_at-none.ensures ∙ ap (λ (f : Fault). stop_at f 0) stop.fault_of.ensures)
+    ∙ refused-length h (count_none (length h) (sym test.card_count-cards.ensures ∙ test.if-cards-eq0.true))
 
-free-all-requires : tie.Need-free-all-requires invariant-loop decreases-loop
+free-all-requires : tie.Need-free_all-requires invariant-loop decreases-loop
 free-all-requires c κs = search rules
 
-loop-holds : tie.Need-loop-init invariant-loop decreases-loop
+loop-holds : tie.Need-loop-i-init invariant-loop decreases-loop
 loop-holds c =
     let freed = c.free_all.ensures in
     start _ _ _ _ _ _ (good c.before.before.before.before) freed.0 freed.1 freed.2 (ordered-none _ _ refl refl)
 
-card-at-requires : tie.Need-card-at-requires invariant-loop decreases-loop
+card-at-requires : tie.Need-card_at-card-requires invariant-loop decreases-loop
 card-at-requires c κs = search rules
 
-role-of-requires : tie.Need-role-of-requires invariant-loop decreases-loop
+role-of-requires : tie.Need-role_of-role-requires invariant-loop decreases-loop
 role-of-requires c κs = search rules
 
-course-of-requires : tie.Need-course-of-requires invariant-loop decreases-loop
+course-of-requires : tie.Need-course_of-requires invariant-loop decreases-loop
 course-of-requires c κs = search rules
 
-enum-known-entry : tie.Need-enum-known-entry invariant-loop decreases-loop
+enum-known-entry : tie.Need-enum_known-entry invariant-loop decreases-loop
 enum-known-entry c = search rules
 
-enum_told : tie.Need-enum-told invariant-loop decreases-loop
+enum_told : tie.Need-enum_told-1 invariant-loop decreases-loop
 enum_told c = search rules
 
-enum-known-role : tie.Need-enum-known-role invariant-loop decreases-loop
+enum-known-role : tie.Need-enum_known-role invariant-loop decreases-loop
 enum-known-role c = search rules
 
-returns-2 : tie.Need-returns-2 invariant-loop decreases-loop
+returns-2 : tie.Need-returns-in_default-role invariant-loop decreases-loop
 returns-2 c =
-    let co = c.before.before.before in
+    let co = c.before.before in
     let S = standing co in
-    let end = is_last (told co) c.match2.keys2 (sym co.course-of.ensures ∙ c.before.enum_told.given.1) in
+    let end = is_last (told co) c.in_default-role.keys2 (sym co.course_of.ensures ∙ c.in_default.is) in
     (λ j.
     record {
       header = Accepted (number co);
@@ -191,50 +191,50 @@ returns-2 c =
     })
     ∙ on_last S (more co) (role_so co T.Last end)
 
-stop-at-requires-2 : tie.Need-stop-at-requires-2 invariant-loop decreases-loop
+stop-at-requires-2 : tie.Need-stop_at-requires invariant-loop decreases-loop
 stop-at-requires-2 c κs = search rules
 
-refused-requires-2 : tie.Need-refused-requires-2 invariant-loop decreases-loop
+refused-requires-2 : tie.Need-refused-requires-in_default invariant-loop decreases-loop
 refused-requires-2 c κs = search rules
 
-returns-3 : tie.Need-returns-3 invariant-loop decreases-loop
+returns-3 : tie.Need-returns-in_default invariant-loop decreases-loop
 returns-3 c =
     let stop = c.before.before.before.before in
-    let known = stop.before.before in
-    let co = known.before.before.before.before in
-    let f = known.role.given.0.0 in
-    c.refused2.ensures
-    ∙ refused-so f (number co) stop.stop-at2.result stop.stop-at2.ensures
-    ∙ on_refused (standing co) (more co) f (role_so co (T.Refused f) known.role.given.1)
+    let known = stop.before in
+    let co = known.before.before in
+    let f = known.in-Refused.fault in
+    c.refused-in_default.ensures
+    ∙ refused-so f (number co) stop.stop_at.result stop.stop_at.ensures
+    ∙ on_refused (standing co) (more co) f (role_so co (T.Refused f) known.in-Refused.is)
 
-slice-aggregate-enter : tie.Need-slice-aggregate-enter invariant-loop decreases-loop
-slice-aggregate-enter c = sym (standing c.before.before.before.before.before.before.before.before).ordered.keys-long
+slice-aggregate-enter : tie.Need-slice_bounds-enter-end-then-entry-3 invariant-loop decreases-loop
+slice-aggregate-enter c = sym (standing c.before.before.before.before.before.before).ordered.keys-long
 
-slice-aggregate-enter-2 : tie.Need-slice-aggregate-enter-2 invariant-loop decreases-loop
+slice-aggregate-enter-2 : tie.Need-slice_bounds-enter-end-then-entry-4 invariant-loop decreases-loop
 slice-aggregate-enter-2 c =
-    sym (standing c.before.before.before.before.before.before.before.before.before).ordered.order-long
+    sym (standing c.before.before.before.before.before.before.before).ordered.order-long
 
-enter-requires : tie.Need-enter-requires invariant-loop decreases-loop
+enter-requires : tie.Need-enter-count-requires invariant-loop decreases-loop
 enter-requires c κs =
-    let co = c.before.before.before.before.before.before.before.before.before in
+    let co = c.before.before.before.before.before.before.before in
     ready (standing co) (more co)
 
-add-i : tie.Need-overflow-add-i invariant-loop decreases-loop
+add-i : tie.Need-overflow_add-i invariant-loop decreases-loop
 add-i c = search rules
 
-loop-less : tie.Need-loop-smaller invariant-loop decreases-loop
+loop-less : tie.Need-loop-i-smaller invariant-loop decreases-loop
 loop-less c = search rules
 
-loop-again : tie.Need-loop-preserved invariant-loop decreases-loop
+loop-again : tie.Need-loop-i-preserved invariant-loop decreases-loop
 unfolding own
 loop-again c =
-    let known = c.before.before in
-    let co = known.before.before in
+    let known = c.before in
+    let co = known.before in
     let S = standing co in
-    let course : (b : Bool) → known.entry.given.0.0 ≡ b
-    → co.course-of.result ≡ On b = λ b e. known.entry.given.1 ∙ ap On e in
-    let other : known.entry.given.0.0 ≡ false
-    → course_of (told co) ≡ On false = λ e. sym co.course-of.ensures ∙ course false e in
+    let course : (b : Bool) → known.in-On.entry ≡ b
+    → co.course_of.result ≡ On b = λ b e. known.in-On.is ∙ ap On e in
+    let other : known.in-On.entry ≡ false
+    → course_of (told co) ≡ On false = λ e. sym co.course_of.ensures ∙ course false e in
     ⊎_elim
     (λ w.
     standing_as w.9 w.10 w.11 w.12 w.13 w.14
@@ -242,31 +242,31 @@ loop-again c =
     (λ w.
     standing_as w.1 w.2 w.3 w.4 w.5 w.6
     (passed S (more co) (read co) (told co) (other w.0.left) (role_so co (told co) refl)))
-    c.if2.branch
+    c.if-entry.branch
 
-fault-of-requires-2 : tie.Need-fault-of-requires-2 invariant-loop decreases-loop
+fault-of-requires-2 : tie.Need-fault_of-requires-2 invariant-loop decreases-loop
 fault-of-requires-2 c κs = search rules
 
-stop-at-requires-3 : tie.Need-stop-at-requires-3 invariant-loop decreases-loop
+stop-at-requires-3 : tie.Need-stop_at-none-requires-2 invariant-loop decreases-loop
 stop-at-requires-3 c κs = search rules
 
-refused-requires-3 : tie.Need-refused-requires-3 invariant-loop decreases-loop
+refused-requires-3 : tie.Need-refused-requires-2 invariant-loop decreases-loop
 refused-requires-3 c κs = search rules
 
-returns-4 : tie.Need-returns-4 invariant-loop decreases-loop
+returns-4 : tie.Need-returns invariant-loop decreases-loop
 returns-4 c =
     let stop = c.before.before.before.before in
     let past = stop.before.before in
     let at-loop = past.before in
-    let n = (counted at-loop).card-count.result in
-    c.refused3.ensures
-    ∙ refused-so (fault_of R.NoEnd) n stop.stop-at3.result
-    (stop.stop-at3.ensures ∙ ap (λ (f : Fault). stop_at f n) stop.before.fault-of2.ensures)
+    let n = (counted at-loop).card_count-cards.result in
+    c.refused-2.ensures
+    ∙ refused-so (fault_of R.NoEnd) n stop.stop_at-none-2.result
+    (stop.stop_at-none-2.ensures ∙ ap (λ (f : Fault). stop_at f n) stop.fault_of-2.ensures)
     ∙ ap (λ (k : ℕ). tabled (Refused (stop_at (fault_of R.NoEnd) k)) empty) (all at-loop)
-    ∙ at_end at-loop.loop.invariant (omega (arith, past.loop-test.false, all at-loop))
+    ∙ at_end at-loop.loop-i.invariant (omega (arith, past.loop-i-test.false, all at-loop))
 
-pub list-over-spec : {M : Type 1} → statement M
-list-over-spec =
+pub list_over_spec : {M : Type 1} → statement M
+list_over_spec =
     tie.close
     (tie.spec
     invariant-loop

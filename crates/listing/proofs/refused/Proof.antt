@@ -7,7 +7,7 @@ use Rattle.listing.specs.Listing.{free, places}
 use Rattle.listing.proofs.refused.Statement.{statement}
 use Rattle.listing.proofs.refused.Tie as tie
 
-free-all-requires : tie.Need-free-all-requires
+free-all-requires : tie.Need-free_all-requires
 free-all-requires c κs = search rules
 
 returns : tie.Need-returns
@@ -16,12 +16,12 @@ returns c =
     let unused = filled_none free places in
     λ j.
     record {
-      header = Refused c.before.before.before.before.args.stop;
+      header = Refused c.args.stop;
       first = (freed.0 ∙ unused) j;
       last = (freed.1 ∙ unused) j;
       times = (freed.2 ∙ filled_none 0 places) j;
       count = 0;
     }
 
-pub refused-spec : {M : Type 1} → statement M
-refused-spec = tie.close (tie.spec free-all-requires returns)
+pub refused_spec : {M : Type 1} → statement M
+refused_spec = tie.close (tie.spec free-all-requires returns)

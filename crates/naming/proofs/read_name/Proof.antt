@@ -16,130 +16,130 @@ use Rattle.naming.proofs.Reading.{bad, past, here}
 use Rattle.naming.proofs.read_name.Statement.{statement}
 use Rattle.naming.proofs.read_name.Tie as tie
 
-abbrev start : tie.After-is-bad-length → tie.Start
+abbrev start : tie.After-is_bad_length → tie.Start
 start c = c.before.before.before
 
-good : (c : tie.Else1) → is_bad_length (length (start c.before).args.header.now) ≡ false
-good c = sym c.before.is-bad-length.ensures ∙ c.if1.false
+good : (c : tie.Else-is_bad_length) → is_bad_length (length (start c.before).args.header.now) ≡ false
+good c = sym c.is_bad_length.ensures ∙ c.if-is_bad_length.false
 
 -- the card that is read, and where its number is tested
-abbrev read : tie.After-role-of → tie.After-card-at
+abbrev read : tie.After-role_of-role → tie.After-card_at-card
 read c = c.before.before
 
-abbrev tested : tie.After-role-of → tie.Else2
+abbrev tested : tie.After-role_of-role → tie.Else-header-i
 tested c = (read c).before
 
-abbrev first : tie.After-role-of → tie.Start
+abbrev first : tie.After-role_of-role → tie.Start
 first c = start (tested c).before.before
 
 -- the answer by what the card is told to be
-abbrev byTold : tie.After-role-of → Told → NameOutcome
-byTold c t = name_by (role_in t (read c).card-at.result) (first c).args.name.now
+abbrev byTold : tie.After-role_of-role → Told → NameOutcome
+byTold c t = name_by (role_in t (read c).card_at-card.result) (first c).args.name.now
 
 -- the case that is known is the whole
-whole : (c : tie.After-role-of) (t : Told) → c.role-of.result ≡ t
+whole : (c : tie.After-role_of-role) (t : Told) → c.role_of-role.result ≡ t
     → byTold c t ≡ name_at (first c).args.header.now (first c).args.i (first c).args.name.now
 whole c t e =
     let a = (first c).args in
-    let within = (tested c).if2.false in
-    ap (byTold c) (sym e ∙ c.role-of.ensures)
-    ∙ ap (λ r. name_by (role_read r) a.name.now) ((read c).card-at.ensures ∙ card-here a.header.now a.i within)
+    let within = (tested c).if-header-i.false in
+    ap (byTold c) (sym e ∙ c.role_of-role.ensures)
+    ∙ ap (λ r. name_by (role_read r) a.name.now) ((read c).card_at-card.ensures ∙ card-here a.header.now a.i within)
     ∙ here a.header.now a.i a.name.now (good (tested c).before) within
 
 -- a card that bears no name
-abbrev none-there : tie.After-role-of → Named → NameOutcome
+abbrev none-there : tie.After-role_of-role → Named → NameOutcome
 none-there c n = naming_by n (first c).args.name.now
 
-is-bad-length-requires : tie.Need-is-bad-length-requires
+is-bad-length-requires : tie.Need-is_bad_length-requires
 is-bad-length-requires c κs = search rules
 
-fault-of-requires : tie.Need-fault-of-requires
+fault-of-requires : tie.Need-fault_of-requires
 fault-of-requires c κs = search rules
 
-returns : tie.Need-returns
+returns : tie.Need-returns-then-is_bad_length
 returns c =
     let test = c.before in
     let a = (start test.before).args in
-    ap (λ (f : Fault). unnamed f a.name.now) c.fault-of.ensures
-    ∙ bad a.header.now a.i a.name.now (sym test.before.is-bad-length.ensures ∙ test.if1.true)
+    ap (λ (f : Fault). unnamed f a.name.now) c.fault_of.ensures
+    ∙ bad a.header.now a.i a.name.now (sym test.is_bad_length.ensures ∙ test.if-is_bad_length.true)
 
-no-name-requires : tie.Need-no-name-requires
+no-name-requires : tie.Need-no_name-requires
 no-name-requires c κs = search rules
 
-returns-2 : tie.Need-returns-2
+returns-2 : tie.Need-returns-then-header-i
 returns-2 c =
     let test = c.before in
     let a = (start test.before.before).args in
     ap (λ (n : Named). naming_by n a.name.now) c.no_name.ensures
-    ∙ past a.header.now a.i a.name.now (good test.before) test.if2.true
+    ∙ past a.header.now a.i a.name.now (good test.before) test.if-header-i.true
 
-card-at-requires : tie.Need-card-at-requires
+card-at-requires : tie.Need-card_at-card-requires
 card-at-requires c κs = search rules
 
-role-of-requires : tie.Need-role-of-requires
+role-of-requires : tie.Need-role_of-role-requires
 role-of-requires c κs = search rules
 
-enum_told : tie.Need-enum-told
+enum_told : tie.Need-enum_told-1
 enum_told c = search rules
 
-write-name-requires : tie.Need-write-name-requires
+write-name-requires : tie.Need-write_name-requires
 write-name-requires c κs = search rules
 
-enum-known-role : tie.Need-enum-known-role
+enum-known-role : tie.Need-enum_known-role
 enum-known-role c = search rules
 
-enum-told-2 : tie.Need-enum-told-2
+enum-told-2 : tie.Need-enum_told-in-More
 enum-told-2 c = search rules
 
-no-name-requires-2 : tie.Need-no-name-requires-2
+no-name-requires-2 : tie.Need-no_name-requires-in-More
 no-name-requires-2 c κs = search rules
 
-enum-told-3 : tie.Need-enum-told-3
+enum-told-3 : tie.Need-enum_told-in-Neutral
 enum-told-3 c = search rules
 
-no-name-requires-3 : tie.Need-no-name-requires-3
+no-name-requires-3 : tie.Need-no_name-requires-in-Neutral
 no-name-requires-3 c κs = search rules
 
-enum-told-4 : tie.Need-enum-told-4
+enum-told-4 : tie.Need-enum_told-in-Last
 enum-told-4 c = search rules
 
-no-name-requires-4 : tie.Need-no-name-requires-4
+no-name-requires-4 : tie.Need-no_name-requires-in-Last
 no-name-requires-4 c κs = search rules
 
-same_length : tie.Need-same-length
+same_length : tie.Need-shape_of-name
 same_length c = search rules
 
-returns-3 : tie.Need-returns-3
+returns-3 : tie.Need-returns-in-Entry
 returns-3 c =
     let wrote = c.before.before in
     let known = wrote.before.before in
-    wrote.write-name.ensures ∙ whole known.before.before _ known.enum_told.given.1
+    wrote.write_name.ensures ∙ whole known.before _ known.in-Entry.is
 
-returns-4 : tie.Need-returns-4
+returns-4 : tie.Need-returns-in-Refused
 returns-4 c =
-    let known = c.before in
-    whole known.before.before _ known.role.given.1
+    let known = c in
+    whole known.before _ known.in-Refused.is
 
-returns-5 : tie.Need-returns-5
+returns-5 : tie.Need-returns-in-More
 returns-5 c =
     let known = c.before in
-    let r = known.before.before in
-    ap (none-there r) c.no-name2.ensures ∙ whole r T.More known.enum-told2.given.1
+    let r = known.before in
+    ap (none-there r) c.no_name-in-More.ensures ∙ whole r T.More known.in-More.is
 
-returns-6 : tie.Need-returns-6
+returns-6 : tie.Need-returns-in-Neutral
 returns-6 c =
     let known = c.before in
-    let r = known.before.before in
-    ap (none-there r) c.no-name3.ensures ∙ whole r T.Neutral known.enum-told3.given.1
+    let r = known.before in
+    ap (none-there r) c.no_name-in-Neutral.ensures ∙ whole r T.Neutral known.in-Neutral.is
 
-returns-7 : tie.Need-returns-7
+returns-7 : tie.Need-returns-in-Last
 returns-7 c =
     let known = c.before in
-    let r = known.before.before in
-    ap (none-there r) c.no-name4.ensures ∙ whole r T.Last known.enum-told4.given.1
+    let r = known.before in
+    ap (none-there r) c.no_name-in-Last.ensures ∙ whole r T.Last known.in-Last.is
 
-pub read-name-spec : {M : Type 1} → statement M
-read-name-spec =
+pub read_name_spec : {M : Type 1} → statement M
+read_name_spec =
     tie.close
     (tie.spec
     is-bad-length-requires

@@ -9,21 +9,21 @@ use Rattle.numbers.proofs.Signing.{difference_minus, difference_plus}
 use Rattle.numbers.proofs.difference.Statement.{statement}
 use Rattle.numbers.proofs.difference.Tie as tie
 
-sub-signed : tie.Need-overflow-sub-signed
+sub-signed : tie.Need-overflow_sub-b
 sub-signed c = search rules
 
 signed-requires : tie.Need-signed-requires
-signed-requires c κs = le-leb (c.before.args.b - c.before.args.a) (2 ^ 63) (omega arith)
+signed-requires c κs = le-leb (c.args.b - c.args.a) (2 ^ 63) (omega arith)
 
-returns : tie.Need-returns
-returns c = to_z-of_z (record { sfits = c.signed.type-inv }) ∙ c.signed.ensures ∙ difference_minus _ _ c.before.if1.true
+returns : tie.Need-returns-then-a-b
+returns c = to_z-of_z (record { sfits = c.signed.type-inv }) ∙ c.signed.ensures ∙ difference_minus _ _ c.if-a-b.true
 
 signed-requires-2 : tie.Need-signed-requires-2
-signed-requires-2 c κs = lt-ltb (c.before.args.a - c.before.args.b) (2 ^ 63) (omega arith)
+signed-requires-2 c κs = lt-ltb (c.args.a - c.args.b) (2 ^ 63) (omega arith)
 
-returns-2 : tie.Need-returns-2
-returns-2 c = to_z-of_z (record { sfits = c.signed2.type-inv }) ∙ c.signed2.ensures ∙ difference_plus _ _ c.before.if1.false
+returns-2 : tie.Need-returns
+returns-2 c = to_z-of_z (record { sfits = c.signed-2.type-inv }) ∙ c.signed-2.ensures ∙ difference_plus _ _ c.if-a-b.false
 
-pub difference-spec : {M : Type 1} → statement M
-difference-spec =
+pub difference_spec : {M : Type 1} → statement M
+difference_spec =
     tie.close (tie.spec sub-signed signed-requires returns signed-requires-2 returns-2)

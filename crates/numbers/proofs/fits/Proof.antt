@@ -5,11 +5,11 @@ use Rattle.numbers.specs.Signs.{fits64}
 use Rattle.numbers.proofs.fits.Statement.{statement}
 use Rattle.numbers.proofs.fits.Tie as tie
 
-returns : tie.Need-returns
-returns c = sym (ap (λ (t : Bool). fits64 t c.before.args.n) c.if1.true)
+returns : tie.Need-returns-then-negative
+returns c = sym (ap (λ (t : Bool). fits64 t c.args.n) c.if-negative.true)
 
-returns-2 : tie.Need-returns-2
-returns-2 c = sym (ap (λ (t : Bool). fits64 t c.before.args.n) c.if1.false)
+returns-2 : tie.Need-returns
+returns-2 c = sym (ap (λ (t : Bool). fits64 t c.args.n) c.if-negative.false)
 
-pub fits-spec : {M : Type 1} → statement M
-fits-spec = tie.close (tie.spec returns returns-2)
+pub fits_spec : {M : Type 1} → statement M
+fits_spec = tie.close (tie.spec returns returns-2)

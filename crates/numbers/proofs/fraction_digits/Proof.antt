@@ -9,43 +9,43 @@ use Rattle.numbers.proofs.Fronts.{none, fraction_at, fraction_none}
 use Rattle.numbers.proofs.fraction_digits.Statement.{statement}
 use Rattle.numbers.proofs.fraction_digits.Tie as tie
 
-returns : tie.Need-returns
+returns : tie.Need-returns-then-s-eq0
 unfolding fraction_of
 returns c =
-    let e = none c.before.before.args.s.now c.if1.true in e ∙ sym (ap fraction_of e)
+    let e = none c.args.s.now c.if-s-eq0.true in e ∙ sym (ap fraction_of e)
 
-shared-slice-read-if2 : tie.Need-shared-slice-read-if2
+shared-slice-read-if2 : tie.Need-bounds-s-0
 shared-slice-read-if2 c = search rules
 
-sub-leading-of : tie.Need-overflow-sub-leading-of
+sub-leading-of : tie.Need-slice_bounds-leading_of-count
 sub-leading-of c = search rules
 
-part-leading-of-start : tie.Need-slice-bounds-leading-of-start
+part-leading-of-start : tie.Need-slice_bounds-leading_of-start
 part-leading-of-start c = search rules
 
-part-leading-of-end : tie.Need-slice-bounds-leading-of-end
+part-leading-of-end : tie.Need-slice_bounds-leading_of-end
 part-leading-of-end c = search rules
 
-leading-of-requires : tie.Need-leading-of-requires
+leading-of-requires : tie.Need-leading_of-requires
 leading-of-requires c κs = search rules
 
-returns-2 : tie.Need-returns-2
+returns-2 : tie.Need-returns-then-s-eq46
 returns-2 c =
-    let s = c.before.before.before.before.before.before.args.s.now in
-    c.leading-of.ensures
+    let s = c.args.s.now in
+    c.leading_of.ensures
     ∙ ap (leading is_digit) (take_rest s 1)
-    ∙ fraction_at s c.before.before.before.before.if1.false c.before.before.if2.true
+    ∙ fraction_at s c.if-s-eq0.false c.if-s-eq46.true
 
-slice-aggregate-result : tie.Need-slice-aggregate-result
+slice-aggregate-result : tie.Need-slice_bounds-result-end
 slice-aggregate-result c = search rules
 
-returns-3 : tie.Need-returns-3
+returns-3 : tie.Need-returns
 returns-3 c =
     let f = c.before.before.before in
-    fraction_none f.before.before.args.s.now f.if1.false c.before.if2.false
+    fraction_none f.args.s.now f.if1.false c.if-s-eq46.false
 
-pub fraction-digits-spec : {M : Type 1} → statement M
-fraction-digits-spec =
+pub fraction_digits_spec : {M : Type 1} → statement M
+fraction_digits_spec =
     tie.close
     (tie.spec
     returns

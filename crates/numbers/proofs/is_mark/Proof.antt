@@ -4,13 +4,13 @@ use Rattle.numbers.specs.Decimals.{is_mark}
 use Rattle.numbers.proofs.is_mark.Statement.{statement}
 use Rattle.numbers.proofs.is_mark.Tie as tie
 
-returns : tie.Need-returns
+returns : tie.Need-returns-then-b-eq101
 unfolding is_mark
-returns c = rw (eq-eqb _ _ c.if1.true)
+returns c = rw (eq-eqb _ _ c.if-b-eq101.true)
 
-returns-2 : tie.Need-returns-2
+returns-2 : tie.Need-returns
 unfolding is_mark
-returns-2 c = rw (ne_eqb _ _ c.if1.false)
+returns-2 c = rw (ne_eqb _ _ c.if-b-eq101.false)
 
-pub is-mark-spec : {M : Type 1} → statement M
-is-mark-spec = tie.close (tie.spec returns returns-2)
+pub is_mark_spec : {M : Type 1} → statement M
+is_mark_spec = tie.close (tie.spec returns returns-2)

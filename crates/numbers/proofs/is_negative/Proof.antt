@@ -6,16 +6,16 @@ use Rattle.numbers.proofs.Fronts.{none, front}
 use Rattle.numbers.proofs.is_negative.Statement.{statement}
 use Rattle.numbers.proofs.is_negative.Tie as tie
 
-returns : tie.Need-returns
+returns : tie.Need-returns-then-s-eq0
 unfolding is_negative
-returns c = sym (ap is_negative (none c.before.args.s.now c.if1.true))
+returns c = sym (ap is_negative (none c.args.s.now c.if-s-eq0.true))
 
-shared-slice-read-result : tie.Need-shared-slice-read-result
+shared-slice-read-result : tie.Need-bounds-s-0
 shared-slice-read-result c = search rules
 
-returns-2 : tie.Need-returns-2
+returns-2 : tie.Need-returns
 unfolding is_negative
-returns-2 c = sym (ap is_negative (front c.before.before.args.s.now c.before.if1.false))
+returns-2 c = sym (ap is_negative (front c.args.s.now c.if-s-eq0.false))
 
-pub is-negative-spec : {M : Type 1} → statement M
-is-negative-spec = tie.close (tie.spec returns shared-slice-read-result returns-2)
+pub is_negative_spec : {M : Type 1} → statement M
+is_negative_spec = tie.close (tie.spec returns shared-slice-read-result returns-2)

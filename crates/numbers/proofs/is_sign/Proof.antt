@@ -4,13 +4,13 @@ use Rattle.numbers.specs.Signs.{is_sign}
 use Rattle.numbers.proofs.is_sign.Statement.{statement}
 use Rattle.numbers.proofs.is_sign.Tie as tie
 
-returns : tie.Need-returns
+returns : tie.Need-returns-then-b-eq43
 unfolding is_sign
-returns c = rw (eq-eqb _ _ c.if1.true)
+returns c = rw (eq-eqb _ _ c.if-b-eq43.true)
 
-returns-2 : tie.Need-returns-2
+returns-2 : tie.Need-returns
 unfolding is_sign
-returns-2 c = rw (ne_eqb _ _ c.if1.false)
+returns-2 c = rw (ne_eqb _ _ c.if-b-eq43.false)
 
-pub is-sign-spec : {M : Type 1} → statement M
-is-sign-spec = tie.close (tie.spec returns returns-2)
+pub is_sign_spec : {M : Type 1} → statement M
+is_sign_spec = tie.close (tie.spec returns returns-2)

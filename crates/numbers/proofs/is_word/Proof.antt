@@ -30,62 +30,62 @@ module _ (s word : List ℕ) (i : ℕ) (in-s : i < length s) (in-word : i < leng
   stops : (b ≡ get_or word i 0 → ⊥) → false ≡ same (drop i (small s)) (drop i word)
   stops e = sym (same_stop (small s) word i within in-word (λ d. e (byte ∙ d)))
 
-abbrev invariant-loop : tie.invariant-loop
+abbrev invariant-loop : tie.invariant-loop-i
 invariant-loop s word i₀ i = (i ≤ length s) × (same (drop i (small s)) (drop i word) ≡ is_word word s)
 
-abbrev decreases-loop : tie.decreases-loop
+abbrev decreases-loop : tie.decreases-loop-i
 decreases-loop s word i₀ i = length s - i
 
-returns : tie.Need-returns invariant-loop decreases-loop
+returns : tie.Need-returns-then-s-word invariant-loop decreases-loop
 unfolding is_word
 returns c =
-    let a = c.before.before.before.args in
-    sym (same_lengths (small a.s.now) a.word.now (λ e. c.if1.true (sym (length-map a.s.now lowered) ∙ e)))
+    let a = c.args in
+    sym (same_lengths (small a.s.now) a.word.now (λ e. c.if-s-word.true (sym (length-map a.s.now lowered) ∙ e)))
 
-loop-holds : tie.Need-loop-init invariant-loop decreases-loop
+loop-holds : tie.Need-loop-i-init invariant-loop decreases-loop
 unfolding is_word
 loop-holds c = (omega arith, refl)
 
-shared-slice-read-lower : tie.Need-shared-slice-read-lower invariant-loop decreases-loop
+shared-slice-read-lower : tie.Need-bounds-s-i invariant-loop decreases-loop
 shared-slice-read-lower c = search rules
 
 lower-requires : tie.Need-lower-requires invariant-loop decreases-loop
 lower-requires c κs = search rules
 
-shared-slice-read-if2 : tie.Need-shared-slice-read-if2 invariant-loop decreases-loop
+shared-slice-read-if2 : tie.Need-bounds-word-i invariant-loop decreases-loop
 shared-slice-read-if2 c = search rules
 
-returns-2 : tie.Need-returns-2 invariant-loop decreases-loop
+returns-2 : tie.Need-returns-then-lower-word invariant-loop decreases-loop
 returns-2 c =
     let at-loop = c.before.before.before.before.before in
-    let a = at-loop.before.before.before.before.args in
-    stops a.s.now a.word.now at-loop.loop.i (omega arith) (omega arith) c.before.before.lower.ensures c.if2.true
-    ∙ at-loop.loop.invariant.1
+    let a = at-loop.args in
+    stops a.s.now a.word.now at-loop.loop-i.i (omega arith) (omega arith) c.lower.ensures c.if-lower-word.true
+    ∙ at-loop.loop-i.invariant.1
 
-add-i : tie.Need-overflow-add-i invariant-loop decreases-loop
+add-i : tie.Need-overflow_add-i invariant-loop decreases-loop
 add-i c = search rules
 
-loop-less : tie.Need-loop-smaller invariant-loop decreases-loop
+loop-less : tie.Need-loop-i-smaller invariant-loop decreases-loop
 loop-less c = search rules
 
-loop-again : tie.Need-loop-preserved invariant-loop decreases-loop
+loop-again : tie.Need-loop-i-preserved invariant-loop decreases-loop
 loop-again c =
     let at-loop = c.before.before.before.before.before in
-    let a = at-loop.before.before.before.before.args in
-    let low = c.before.before.lower.ensures in
-    let next = goes_on a.s.now a.word.now at-loop.loop.i (omega arith) (omega arith) low c.if2.false in
-    (omega arith, next ∙ at-loop.loop.invariant.1)
+    let a = at-loop.args in
+    let low = c.lower.ensures in
+    let next = goes_on a.s.now a.word.now at-loop.loop-i.i (omega arith) (omega arith) low c.if-lower-word.false in
+    (omega arith, next ∙ at-loop.loop-i.invariant.1)
 
-returns-3 : tie.Need-returns-3 invariant-loop decreases-loop
+returns-3 : tie.Need-returns invariant-loop decreases-loop
 returns-3 c =
     let at-loop = c.before in
-    let a = at-loop.before.before.before.before.args in
+    let a = at-loop.args in
     let s = a.s.now in
-    sym (same_end (small s) a.word.now at-loop.loop.i (omega (arith, length-map s lowered)) (omega arith))
-    ∙ at-loop.loop.invariant.1
+    sym (same_end (small s) a.word.now at-loop.loop-i.i (omega (arith, length-map s lowered)) (omega arith))
+    ∙ at-loop.loop-i.invariant.1
 
-pub is-word-spec : {M : Type 1} → statement M
-is-word-spec =
+pub is_word_spec : {M : Type 1} → statement M
+is_word_spec =
     tie.close
     (tie.spec
     invariant-loop

@@ -5,20 +5,20 @@ use Rattle.numbers.specs.Decimals.{lowered}
 use Rattle.numbers.proofs.lower.Statement.{statement}
 use Rattle.numbers.proofs.lower.Tie as tie
 
-returns : tie.Need-returns
+returns : tie.Need-returns-then-b-lt65
 unfolding lowered
-returns c = rw (lt-leb _ _ c.if1.true)
+returns c = rw (lt-leb _ _ c.if-b-lt65.true)
 
-returns-2 : tie.Need-returns-2
+returns-2 : tie.Need-returns-then-b-gt90
 unfolding lowered
-returns-2 c = rw (le-leb _ _ c.before.if1.false, lt-leb _ _ c.if2.true)
+returns-2 c = rw (le-leb _ _ c.if-b-lt65.false, lt-leb _ _ c.if-b-gt90.true)
 
-add-result : tie.Need-overflow-add-result
+add-result : tie.Need-overflow_add-result
 add-result c = search rules
 
-returns-3 : tie.Need-returns-3
+returns-3 : tie.Need-returns
 unfolding lowered
-returns-3 c = rw (le-leb _ _ c.before.if1.false, le-leb _ _ c.if2.false)
+returns-3 c = rw (le-leb _ _ c.if-b-lt65.false, le-leb _ _ c.if-b-gt90.false)
 
 pub lower_spec : {M : Type 1} → statement M
 lower_spec = tie.close (tie.spec returns returns-2 add-result returns-3)

@@ -11,36 +11,36 @@ use Rattle.numbers.specs.Numbers.{read_number}
 use Rattle.numbers.proofs.parse_number.Statement.{statement}
 use Rattle.numbers.proofs.parse_number.Tie as tie
 
-at-most-all-requires : tie.Need-at-most-all-requires
+at-most-all-requires : tie.Need-at_most_all-n-requires
 at-most-all-requires c κs = search rules
 
-array-share-prefix-bytes : tie.Need-array-share-prefix-bytes
+array-share-prefix-bytes : tie.Need-slice_bounds-bytes-end
 array-share-prefix-bytes c =
-    let long : length c.before.before.args.t.bytes ≡ size = search rules in omega arith
+    let long : length c.args.t.bytes ≡ size = search rules in omega arith
 
-slice-aggregate-read-number : tie.Need-slice-aggregate-read-number
+slice-aggregate-read-number : tie.Need-slice_bounds-read_number-end
 slice-aggregate-read-number c =
-    let bytes = c.before.before.before.args.t.bytes in
+    let bytes = c.args.t.bytes in
     let long : length bytes ≡ size = search rules in
-    sym (length-take-le c.before.before.at-most-all.result bytes (omega arith))
+    sym (length-take-le c.at_most_all-n.result bytes (omega arith))
 
-read-number-requires : tie.Need-read-number-requires
+read-number-requires : tie.Need-read_number-requires
 read-number-requires c κs =
-    let bytes = c.before.before.before.args.t.bytes in
-    let n = c.before.before.at-most-all.result in
+    let bytes = c.args.t.bytes in
+    let n = c.at_most_all-n.result in
     let long : length bytes ≡ size = search rules in
     omega (arith, length-take-le n bytes (omega arith))
 
 returns : tie.Need-returns
 returns c =
-    let t = c.before.before.before.before.args.t in
+    let t = c.args.t in
     let long : length t.bytes ≡ size = search rules in
     c.read_number.ensures
-    ∙ ap (λ (n : ℕ). read_number (take n t.bytes)) c.before.before.before.at-most-all.ensures
+    ∙ ap (λ (n : ℕ). read_number (take n t.bytes)) c.at_most_all-n.ensures
     ∙ ap read_number (take_min t.len size t.bytes long)
 
-pub parse-number-spec : {M : Type 1} → statement M
-parse-number-spec =
+pub parse_number_spec : {M : Type 1} → statement M
+parse_number_spec =
     tie.close
     (tie.spec
     at-most-all-requires

@@ -9,36 +9,36 @@ use Rattle.numbers.proofs.Signing.{power_minus, power_plus}
 use Rattle.numbers.proofs.power.Statement.{statement}
 use Rattle.numbers.proofs.power.Tie as tie
 
-add-difference : tie.Need-overflow-add-difference
+add-difference : tie.Need-overflow_add-e
 add-difference c = search rules
 
 difference-requires : tie.Need-difference-requires
 difference-requires c κs = search rules
 
-returns : tie.Need-returns
+returns : tie.Need-returns-then-negative
 returns c =
-    let a = c.before.before.args in
+    let a = c.args in
     to_z-of_z (record { sfits = c.difference.type-inv })
     ∙ c.difference.ensures
     ∙ power_minus a.e a.places a.zeros
-    ∙ sym (ap (λ (t : Bool). signed_of t a.e -ℤ pos a.places +ℤ pos a.zeros) c.before.if1.true)
+    ∙ sym (ap (λ (t : Bool). signed_of t a.e -ℤ pos a.places +ℤ pos a.zeros) c.if-negative.true)
 
-add-difference-2 : tie.Need-overflow-add-difference-2
+add-difference-2 : tie.Need-overflow_add-e-2
 add-difference-2 c = search rules
 
 difference-requires-2 : tie.Need-difference-requires-2
 difference-requires-2 c κs = search rules
 
-returns-2 : tie.Need-returns-2
+returns-2 : tie.Need-returns
 returns-2 c =
-    let a = c.before.before.args in
-    to_z-of_z (record { sfits = c.difference2.type-inv })
-    ∙ c.difference2.ensures
+    let a = c.args in
+    to_z-of_z (record { sfits = c.difference-2.type-inv })
+    ∙ c.difference-2.ensures
     ∙ power_plus a.e a.places a.zeros
-    ∙ sym (ap (λ (t : Bool). signed_of t a.e -ℤ pos a.places +ℤ pos a.zeros) c.before.if1.false)
+    ∙ sym (ap (λ (t : Bool). signed_of t a.e -ℤ pos a.places +ℤ pos a.zeros) c.if-negative.false)
 
-pub power-spec : {M : Type 1} → statement M
-power-spec =
+pub power_spec : {M : Type 1} → statement M
+power_spec =
     tie.close
     (tie.spec
     add-difference

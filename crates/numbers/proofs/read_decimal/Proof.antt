@@ -17,117 +17,105 @@ use Rattle.numbers.proofs.Fronts.{sign_shorter}
 use Rattle.numbers.proofs.read_decimal.Statement.{statement}
 use Rattle.numbers.proofs.read_decimal.Tie as tie
 
-abbrev text : tie.After-after-sign → List ℕ
-text c = c.before.before.before.args.s.now
+abbrev text : tie.After-after_sign-t → List ℕ
+text c = c.args.s.now
 
 -- what a word's test says of the text after the sign
-told : (a : tie.After-after-sign) (word : List ℕ) {r t : Bool}
-    → r ≡ is_word word a.after-sign.result.now → r ≡ t → is_word word (unsigned (text a)) ≡ t
-told a word e d = sym (e ∙ ap (is_word word) a.after-sign.ensures) ∙ d
+told : (a : tie.After-after_sign-t) (word : List ℕ) {r t : Bool}
+    → r ≡ is_word word a.after_sign-t.result.now → r ≡ t → is_word word (unsigned (text a)) ≡ t
+told a word e d = sym (e ∙ ap (is_word word) a.after_sign-t.ensures) ∙ d
 
 -- where the sign is off, from the second word's test and from the third's
-abbrev signless : tie.After-is-word2 → tie.After-after-sign
+abbrev signless : tie.After-is_word-2 → tie.After-after_sign-t
 signless y = y.before.before.before.before.before
 
-abbrev second : tie.After-is-word3 → tie.After-is-word2
+abbrev second : tie.After-is_word-3 → tie.After-is_word-2
 second n = n.before.before.before
 
 -- what was left behind on the way to them
-no-inf : (y : tie.After-is-word2) → is_word (ascii "inf") (unsigned (text (signless y))) ≡ false
-no-inf y = told (signless y) (ascii "inf") y.before.before.before.is_word.ensures y.before.before.if1.false
+no-inf : (y : tie.After-is_word-2) → is_word (ascii "inf") (unsigned (text (signless y))) ≡ false
+no-inf y = told (signless y) (ascii "inf") y.is_word.ensures y.if-is_word.false
 
-no-infinity : (n : tie.After-is-word3) → is_word (ascii "infinity") (unsigned (text (signless (second n)))) ≡ false
-no-infinity n = told (signless (second n)) (ascii "infinity") (second n).is-word2.ensures n.before.before.if2.false
+no-infinity : (n : tie.After-is_word-3) → is_word (ascii "infinity") (unsigned (text (signless (second n)))) ≡ false
+no-infinity n = told (signless (second n)) (ascii "infinity") (second n).is_word-2.ensures n.if-is_word-2.false
 
-is-negative-requires : tie.Need-is-negative-requires
+is-negative-requires : tie.Need-is_negative-minus-requires
 is-negative-requires c κs = search rules
 
-after-sign-requires : tie.Need-after-sign-requires
+after-sign-requires : tie.Need-after_sign-t-requires
 after-sign-requires c κs = search rules
 
-slice-aggregate-is-word : tie.Need-slice-aggregate-is-word
-slice-aggregate-is-word c = search rules
-
-is-word-requires : tie.Need-is-word-requires
+is-word-requires : tie.Need-is_word-requires
 is-word-requires c κs = search rules
 
-without-digits-requires : tie.Need-without-digits-requires
+without-digits-requires : tie.Need-without_digits-requires
 without-digits-requires c κs = search rules
 
-returns : tie.Need-returns
+returns : tie.Need-returns-then-is_word
 returns c =
     let i = c.before.before in
     let a = i.before.before in
-    c.without-digits.ensures
-    ∙ ap (λ (t : Bool). decimal_number t Infinite []) a.before.is_negative.ensures
-    ∙ decimal_inf (text a) (told a (ascii "inf") i.is_word.ensures c.before.if1.true)
+    c.without_digits.ensures
+    ∙ ap (λ (t : Bool). decimal_number t Infinite []) a.is_negative-minus.ensures
+    ∙ decimal_inf (text a) (told a (ascii "inf") i.is_word.ensures c.if-is_word.true)
 
-slice-aggregate-is-word-2 : tie.Need-slice-aggregate-is-word-2
-slice-aggregate-is-word-2 c = search rules
-
-is-word-requires-2 : tie.Need-is-word-requires-2
+is-word-requires-2 : tie.Need-is_word-requires-2
 is-word-requires-2 c κs = search rules
 
-without-digits-requires-2 : tie.Need-without-digits-requires-2
+without-digits-requires-2 : tie.Need-without_digits-requires-then-is_word-2
 without-digits-requires-2 c κs = search rules
 
-returns-2 : tie.Need-returns-2
+returns-2 : tie.Need-returns-then-is_word-2
 returns-2 c =
     let y = c.before.before in
     let a = signless y in
-    c.without-digits2.ensures
-    ∙ ap (λ (t : Bool). decimal_number t Infinite []) a.before.is_negative.ensures
-    ∙ decimal_infinity (text a) (no-inf y) (told a (ascii "infinity") y.is-word2.ensures c.before.if2.true)
+    c.without_digits-then-is_word-2.ensures
+    ∙ ap (λ (t : Bool). decimal_number t Infinite []) a.is_negative-minus.ensures
+    ∙ decimal_infinity (text a) (no-inf y) (told a (ascii "infinity") y.is_word-2.ensures c.if-is_word-2.true)
 
-slice-aggregate-is-word-3 : tie.Need-slice-aggregate-is-word-3
-slice-aggregate-is-word-3 c = search rules
-
-is-word-requires-3 : tie.Need-is-word-requires-3
+is-word-requires-3 : tie.Need-is_word-requires-3
 is-word-requires-3 c κs = search rules
 
-without-digits-requires-3 : tie.Need-without-digits-requires-3
+without-digits-requires-3 : tie.Need-without_digits-requires-then-is_word-3
 without-digits-requires-3 c κs = search rules
 
-returns-3 : tie.Need-returns-3
+returns-3 : tie.Need-returns-then-is_word-3
 returns-3 c =
     let n = c.before.before in
     let a = signless (second n) in
-    let nan = told a (ascii "nan") n.is-word3.ensures c.before.if3.true in
-    c.without-digits3.ensures
+    let nan = told a (ascii "nan") n.is_word-3.ensures c.if-is_word-3.true in
+    c.without_digits-then-is_word-3.ensures
     ∙ ap (λ (t : Bool). decimal_number t Nan []) a.before.is_negative.ensures
     ∙ decimal_nan (text a) (no-inf (second n)) (no-infinity n) nan
 
-read-finite-requires : tie.Need-read-finite-requires
+read-finite-requires : tie.Need-read_finite-requires
 read-finite-requires c κs =
     let a = c.before.before.before.before.before.before.before.before.before in
-    let same : length a.after-sign.result.now ≡ length (unsigned (text a)) = ap length a.after-sign.ensures in
-    (omega (arith, sign_shorter (text a), a.before.before.before.requires), a.before.before.before.requires)
+    let same : length a.after_sign-t.result.now ≡ length (unsigned (text a)) = ap length a.after_sign-t.ensures in
+    (omega (arith, sign_shorter (text a), a.requires), a.requires)
 
-returns-4 : tie.Need-returns-4
+returns-4 : tie.Need-returns
 returns-4 c =
     let n = c.before.before in
     let a = signless (second n) in
     let finite : Bool → List ℕ → Number = λ minus t. finite_of minus t (invalid (text a)) in
-    let no_nan = told a (ascii "nan") n.is-word3.ensures c.before.if3.false in
-    c.read-finite.ensures
+    let no_nan = told a (ascii "nan") n.is_word-3.ensures c.if-is_word-3.false in
+    c.read_finite.ensures
     ∙ ap₂ finite a.before.is_negative.ensures a.after-sign.ensures
     ∙ decimal-finite (text a) (no-inf (second n)) (no-infinity n) no_nan
 
-pub read-decimal-spec : {M : Type 1} → statement M
-read-decimal-spec =
+pub read_decimal_spec : {M : Type 1} → statement M
+read_decimal_spec =
     tie.close
     (tie.spec
     is-negative-requires
     after-sign-requires
-    slice-aggregate-is-word
     is-word-requires
     without-digits-requires
     returns
-    slice-aggregate-is-word-2
     is-word-requires-2
     without-digits-requires-2
     returns-2
-    slice-aggregate-is-word-3
     is-word-requires-3
     without-digits-requires-3
     returns-3

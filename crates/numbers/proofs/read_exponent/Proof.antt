@@ -7,44 +7,44 @@ use Rattle.numbers.proofs.Fronts.{none, exponent_at, exponent_none}
 use Rattle.numbers.proofs.read_exponent.Statement.{statement}
 use Rattle.numbers.proofs.read_exponent.Tie as tie
 
-returns : tie.Need-returns
+returns : tie.Need-returns-then-s-eq0
 unfolding exponent_of
-returns c = sym (ap exponent_of (none c.before.before.args.s.now c.if1.true))
+returns c = sym (ap exponent_of (none c.args.s.now c.if-s-eq0.true))
 
-shared-slice-read-is-mark : tie.Need-shared-slice-read-is-mark
+shared-slice-read-is-mark : tie.Need-bounds-s-0
 shared-slice-read-is-mark c = search rules
 
-is-mark-requires : tie.Need-is-mark-requires
+is-mark-requires : tie.Need-is_mark-requires
 is-mark-requires c κs = search rules
 
-sub-written-exponent : tie.Need-overflow-sub-written-exponent
+sub-written-exponent : tie.Need-slice_bounds-written_exponent-count
 sub-written-exponent c = search rules
 
-part-written-exponent-start : tie.Need-slice-bounds-written-exponent-start
+part-written-exponent-start : tie.Need-slice_bounds-written_exponent-start
 part-written-exponent-start c = search rules
 
-part-written-exponent-end : tie.Need-slice-bounds-written-exponent-end
+part-written-exponent-end : tie.Need-slice_bounds-written_exponent-end
 part-written-exponent-end c = search rules
 
-written-exponent-requires : tie.Need-written-exponent-requires
+written-exponent-requires : tie.Need-written_exponent-requires
 written-exponent-requires c κs = search rules
 
-returns-2 : tie.Need-returns-2
+returns-2 : tie.Need-returns-then-is_mark
 returns-2 c =
     let m = c.before.before.before in
-    let s = m.before.before.before.before.args.s.now in
-    c.written-exponent.ensures
+    let s = m.args.s.now in
+    c.written_exponent.ensures
     ∙ ap written_of (take_rest s 1)
-    ∙ exponent_at s m.before.before.if1.false (sym m.is-mark.ensures ∙ c.before.before.if2.true)
+    ∙ exponent_at s m.if-s-eq0.false (sym m.is_mark.ensures ∙ c.if-is_mark.true)
 
-returns-3 : tie.Need-returns-3
+returns-3 : tie.Need-returns
 returns-3 c =
     let m = c.before in
     let tested = m.before.before in
-    exponent_none tested.before.before.args.s.now tested.if1.false (sym m.is-mark.ensures ∙ c.if2.false)
+    exponent_none tested.args.s.now tested.if-s-eq0.false (sym m.is_mark.ensures ∙ c.if-is_mark.false)
 
-pub read-exponent-spec : {M : Type 1} → statement M
-read-exponent-spec =
+pub read_exponent_spec : {M : Type 1} → statement M
+read_exponent_spec =
     tie.close
     (tie.spec
     returns

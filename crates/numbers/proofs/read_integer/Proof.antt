@@ -12,16 +12,16 @@ use Rattle.numbers.proofs.Reading.{beyond, integer-none, integer-fits, integer_b
 use Rattle.numbers.proofs.read_integer.Statement.{statement}
 use Rattle.numbers.proofs.read_integer.Tie as tie
 
-abbrev text : tie.After-is-digits → List ℕ
-text c = c.before.before.before.before.args.s.now
+abbrev text : tie.After-is_digits → List ℕ
+text c = c.args.s.now
 
-digits-told : (c : tie.After-is-digits) → c.is-digits.result ≡ is_digits (unsigned (text c))
-digits-told c = c.is-digits.ensures ∙ ap is_digits c.before.after-sign.ensures
+digits-told : (c : tie.After-is_digits) → c.is_digits.result ≡ is_digits (unsigned (text c))
+digits-told c = c.is_digits.ensures ∙ ap is_digits c.after_sign-digits.ensures
 
-size-told : (c : tie.After-value-up-to) → c.value-up-to.result ≡ min (digits_value (unsigned (text c.before.before))) beyond
+size-told : (c : tie.After-value_up_to-n) → c.value_up_to-n.result ≡ min (digits_value (unsigned (text c.before.before))) beyond
 size-told c =
-    c.value-up-to.ensures
-    ∙ ap (λ (t : List ℕ). min (digits_value t) beyond) c.before.before.before.after-sign.ensures
+    c.value_up_to-n.ensures
+    ∙ ap (λ (t : List ℕ). min (digits_value t) beyond) c.after_sign-digits.ensures
 
 fits_told : (c : tie.After-fits2)
     → let s = text c.before.before.before in
@@ -30,58 +30,58 @@ fits_told c =
     c.fits2.ensures
     ∙ ap₂ fits64 c.before.before.before.before.before.is_negative.ensures (size-told c.before)
 
-is-negative-requires : tie.Need-is-negative-requires
+is-negative-requires : tie.Need-is_negative-negative-requires
 is-negative-requires c κs = search rules
 
-after-sign-requires : tie.Need-after-sign-requires
+after-sign-requires : tie.Need-after_sign-digits-requires
 after-sign-requires c κs = search rules
 
-is-digits-requires : tie.Need-is-digits-requires
+is-digits-requires : tie.Need-is_digits-requires
 is-digits-requires c κs = search rules
 
-invalid-of-requires : tie.Need-invalid-of-requires
+invalid-of-requires : tie.Need-invalid_of-requires
 invalid-of-requires c κs = search rules
 
-returns : tie.Need-returns
+returns : tie.Need-returns-then-not-is_digits
 returns c =
     let d = c.before.before in
-    c.invalid-of.ensures ∙ integer-none (text d) (sym (digits-told d) ∙ not-true _ c.before.if1.true)
+    c.invalid_of.ensures ∙ integer-none (text d) (sym (digits-told d) ∙ not-true _ c.if-not-is_digits.true)
 
-value-up-to-requires : tie.Need-value-up-to-requires
+value-up-to-requires : tie.Need-value_up_to-n-requires
 value-up-to-requires c κs = search rules
 
 fits-requires : tie.Need-fits-requires
 fits-requires c κs = search rules
 
 signed-requires : tie.Need-signed-requires
-signed-requires c κs = sym c.before.fits2.ensures ∙ c.if2.true
+signed-requires c κs = sym c.fits2.ensures ∙ c.if-fits.true
 
 whole-requires : tie.Need-whole-requires
 whole-requires c κs = search rules
 
-returns-2 : tie.Need-returns-2
+returns-2 : tie.Need-returns-then-fits
 returns-2 c =
     let f = c.before.before.before in
     let d = f.before.before.before in
-    let by = ap₂ signed_of d.before.before.is_negative.ensures (size-told f.before) in
-    let digits = sym (digits-told d) ∙ not-false _ f.before.before.if1.false in
+    let by = ap₂ signed_of d.is_negative-negative.ensures (size-told f.before) in
+    let digits = sym (digits-told d) ∙ not-false _ f.if-not-is_digits.false in
     c.whole.ensures
-    ∙ ap whole_of (to_z-of_z (record { sfits = c.before.signed.type-inv }) ∙ c.before.signed.ensures ∙ by)
-    ∙ integer-fits (text d) digits (sym (fits_told f) ∙ c.before.before.if2.true)
+    ∙ ap whole_of (to_z-of_z (record { sfits = c.signed.type-inv }) ∙ c.signed.ensures ∙ by)
+    ∙ integer-fits (text d) digits (sym (fits_told f) ∙ c.if-fits.true)
 
-invalid-of-requires-2 : tie.Need-invalid-of-requires-2
+invalid-of-requires-2 : tie.Need-invalid_of-requires-2
 invalid-of-requires-2 c κs = search rules
 
-returns-3 : tie.Need-returns-3
+returns-3 : tie.Need-returns
 returns-3 c =
     let f = c.before.before in
     let d = f.before.before.before in
-    let digits = sym (digits-told d) ∙ not-false _ f.before.before.if1.false in
-    c.invalid-of2.ensures
-    ∙ integer_beyond (text d) digits (sym (fits_told f) ∙ c.before.if2.false)
+    let digits = sym (digits-told d) ∙ not-false _ f.if-not-is_digits.false in
+    c.invalid_of-2.ensures
+    ∙ integer_beyond (text d) digits (sym (fits_told f) ∙ c.if-fits.false)
 
-pub read-integer-spec : {M : Type 1} → statement M
-read-integer-spec =
+pub read_integer_spec : {M : Type 1} → statement M
+read_integer_spec =
     tie.close
     (tie.spec
     is-negative-requires

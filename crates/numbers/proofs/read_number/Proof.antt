@@ -18,78 +18,78 @@ use Rattle.numbers.proofs.Reading.{first_try, second_try, third_try}
 use Rattle.numbers.proofs.read_number.Statement.{statement}
 use Rattle.numbers.proofs.read_number.Tie as tie
 
-abbrev start : tie.After-read-integer → tie.Start
+abbrev start : tie.After-read_integer-first → tie.Start
 start c = c.before.before
 
-abbrev text : tie.After-read-integer → List ℕ
+abbrev text : tie.After-read_integer-first → List ℕ
 text c = (start c).args.s.now
 
 -- where the first try was made
-abbrev first : tie.After-changed-text → tie.After-read-integer
+abbrev first : tie.After-changed_text-altered → tie.After-read_integer-first
 first c = c.before.before.before.before.before.before
 
-first-told : (c : tie.After-is-read) → c.is_read.result ≡ is_read (integer_of (text c.before)).value
-first-told c = c.is_read.ensures ∙ ap (λ (r : Number). is_read r.value) c.before.read-integer.ensures
+first-told : (c : tie.After-is_read) → c.is_read.result ≡ is_read (integer_of (text c.before)).value
+first-told c = c.is_read.ensures ∙ ap (λ (r : Number). is_read r.value) c.read_integer-first.ensures
 
-second-told : (c : tie.After-is-read2) → c.is-read2.result ≡ is_read (decimal_of (text c.before.before.before.before)).value
-second-told c = c.is-read2.ensures ∙ ap (λ (r : Number). is_read r.value) c.before.read-decimal.ensures
+second-told : (c : tie.After-is_read-2) → c.is_read-2.result ≡ is_read (decimal_of (text c.before.before.before.before)).value
+second-told c = c.is_read-2.ensures ∙ ap (λ (r : Number). is_read r.value) c.read_decimal-second.ensures
 
-altered-told : (c : tie.After-changed-text) → c.changed-text.result ≡ text_of (map d_to_e (text (first c)))
+altered-told : (c : tie.After-changed_text-altered) → c.changed_text-altered.result ≡ text_of (map d_to_e (text (first c)))
 altered-told c =
-    c.changed-text.ensures
+    c.changed_text-altered.ensures
     ∙ ap (λ (t : List ℕ). text_of (map d_to_e t)) (take_all size (text (first c)) (start (first c)).requires)
 
-read-integer-requires : tie.Need-read-integer-requires
+read-integer-requires : tie.Need-read_integer-first-requires
 read-integer-requires c κs = search rules
 
-is-read-requires : tie.Need-is-read-requires
+is-read-requires : tie.Need-is_read-requires
 is-read-requires c κs = search rules
 
-returns : tie.Need-returns
+returns : tie.Need-returns-then-is_read
 returns c =
-    c.before.before.read-integer.ensures
-    ∙ first_try (text c.before.before) (sym (first-told c.before) ∙ c.if1.true)
+    c.read_integer-first.ensures
+    ∙ first_try (text c.before.before) (sym (first-told c.before) ∙ c.if-is_read.true)
 
-read-decimal-requires : tie.Need-read-decimal-requires
+read-decimal-requires : tie.Need-read_decimal-second-requires
 read-decimal-requires c κs = search rules
 
-is-read-requires-2 : tie.Need-is-read-requires-2
+is-read-requires-2 : tie.Need-is_read-requires-2
 is-read-requires-2 c κs = search rules
 
-returns-2 : tie.Need-returns-2
+returns-2 : tie.Need-returns-then-is_read-2
 returns-2 c =
     let d = c.before.before in
-    d.read-decimal.ensures
-    ∙ second_try _ (sym (first-told d.before.before) ∙ d.before.if1.false) (sym (second-told c.before) ∙ c.if2.true)
+    d.read_decimal-second.ensures
+    ∙ second_try _ (sym (first-told d.before.before) ∙ d.if-is_read.false) (sym (second-told c.before) ∙ c.if-is_read-2.true)
 
-changed-text-requires : tie.Need-changed-text-requires
+changed-text-requires : tie.Need-changed_text-altered-requires
 changed-text-requires c κs = search rules
 
-array-share-prefix-bytes : tie.Need-array-share-prefix-bytes
+array-share-prefix-bytes : tie.Need-slice_bounds-bytes-end
 array-share-prefix-bytes c = text-within _ (altered-told c.before)
 
-slice-aggregate-read-decimal : tie.Need-slice-aggregate-read-decimal
+slice-aggregate-read-decimal : tie.Need-slice_bounds-read_decimal-end
 slice-aggregate-read-decimal c = text-length _ (altered-told c.before.before)
 
-read-decimal-requires-2 : tie.Need-read-decimal-requires-2
+read-decimal-requires-2 : tie.Need-read_decimal-requires
 read-decimal-requires-2 c κs =
     let a = c.before.before in
     let s = text (first a) in
-    let same : length (bytes_of a.changed-text.result) ≡ length (map d_to_e s) = ap length (text-bytes _ (altered-told a)) in
+    let same : length (bytes_of a.changed_text-altered.result) ≡ length (map d_to_e s) = ap length (text-bytes _ (altered-told a)) in
     omega (arith, length-map s d_to_e, (start (first a)).requires)
 
-returns-3 : tie.Need-returns-3
+returns-3 : tie.Need-returns
 returns-3 c =
     let a = c.before.before.before in
     let f = a.before.before in
     let d = f.before in
-    c.read-decimal2.ensures
+    c.read_decimal.ensures
     ∙ ap decimal_of (text-bytes _ (altered-told a))
     ∙ third_try
-    (text (first a)) (sym (first-told d.before.before) ∙ d.before.if1.false) (sym (second-told f) ∙ a.before.if2.false)
+    (text (first a)) (sym (first-told d.before.before) ∙ d.if-is_read.false) (sym (second-told f) ∙ a.if-is_read-2.false)
 
-pub read-number-spec : {M : Type 1} → statement M
-read-number-spec =
+pub read_number_spec : {M : Type 1} → statement M
+read_number_spec =
     tie.close
     (tie.spec
     read-integer-requires

@@ -21,59 +21,59 @@ use Rattle.numbers.proofs.Fronts.{none}
 use Rattle.numbers.proofs.scaled_of.Statement.{statement}
 use Rattle.numbers.proofs.scaled_of.Tie as tie
 
-abbrev text : tie.After-trim-end → List ℕ
-text c = c.before.before.before.args.digits.now
+abbrev text : tie.After-trim_end-significant → List ℕ
+text c = c.args.digits.now
 
 -- the significant digits, by the definition
-cut : (c : tie.After-trim-end) → c.trim_end.result.now ≡ trim_end is_zero (trim_start is_zero (text c))
-cut c = c.trim_end.ensures ∙ ap (trim_end is_zero) c.before.trim_start.ensures
+cut : (c : tie.After-trim_end-significant) → c.trim_end-significant.result.now ≡ trim_end is_zero (trim_start is_zero (text c))
+cut c = c.trim_end-significant.ensures ∙ ap (trim_end is_zero) c.trim_start-rest.ensures
 
-rest-shorter : (c : tie.After-trim-end) → length c.before.trim_start.result.now ≤ length (text c)
-rest-shorter c = omega (arith, ap length c.before.trim_start.ensures, start_shorter is_zero (text c))
+rest-shorter : (c : tie.After-trim_end-significant) → length c.trim_start-rest.result.now ≤ length (text c)
+rest-shorter c = omega (arith, ap length c.trim_start-rest.ensures, start_shorter is_zero (text c))
 
-shorter : (c : tie.After-trim-end) → length c.trim_end.result.now ≤ length c.before.trim_start.result.now
-shorter c = omega (arith, ap length c.trim_end.ensures, end_shorter is_zero c.before.trim_start.result.now)
+shorter : (c : tie.After-trim_end-significant) → length c.trim_end-significant.result.now ≤ length c.trim_start-rest.result.now
+shorter c = omega (arith, ap length c.trim_end-significant.ensures, end_shorter is_zero c.trim_start-rest.result.now)
 
-trim-start-requires : tie.Need-trim-start-requires
+trim-start-requires : tie.Need-trim_start-rest-requires
 trim-start-requires c κs = search rules
 
-trim-end-requires : tie.Need-trim-end-requires
+trim-end-requires : tie.Need-trim_end-significant-requires
 trim-end-requires c κs = search rules
 
-without-digits-requires : tie.Need-without-digits-requires
+without-digits-requires : tie.Need-without_digits-requires
 without-digits-requires c κs = search rules
 
-returns : tie.Need-returns
+returns : tie.Need-returns-then-significant-eq0
 returns c =
     let f = c.before.before in
-    let a = f.before.before.before.args in
+    let a = f.args in
     let exponent = signed_of a.negative a.e in
-    c.without-digits.ensures
-    ∙ scaled-zero a.minus (text f) a.places exponent (sym (cut f) ∙ none _ c.before.if1.true)
+    c.without_digits.ensures
+    ∙ scaled-zero a.minus (text f) a.places exponent (sym (cut f) ∙ none _ c.if-significant-eq0.true)
 
-sub-zeros : tie.Need-overflow-sub-zeros
+sub-zeros : tie.Need-overflow_sub-zeros
 sub-zeros c = omega (arith, shorter c.before, rest-shorter c.before)
 
-power-requires : tie.Need-power-requires
+power-requires : tie.Need-power-p-requires
 power-requires c κs = omega (arith, shorter c.before, rest-shorter c.before)
 
-text-of-requires : tie.Need-text-of-requires
+text-of-requires : tie.Need-text_of-requires
 text-of-requires c κs = search rules
 
-returns-2 : tie.Need-returns-2
+returns-2 : tie.Need-returns
 returns-2 c =
     let f = c.before.before.before in
-    let a = f.before.before.before.args in
-    let all = take_all size f.trim_end.result.now (omega (arith, shorter f, rest-shorter f, f.before.before.before.requires)) in
+    let a = f.args in
+    let all = take_all size f.trim_end-significant.result.now (omega (arith, shorter f, rest-shorter f, f.requires)) in
     let exponent = signed_of a.negative a.e in
     let at : List ℕ → List ℕ → ℤ = λ r s. exponent -ℤ pos a.places +ℤ pos (length r - length s) in
     let power =
-    to_z-of_z (record { sfits = c.before.power.type-inv }) ∙ c.before.power.ensures ∙ ap₂ at f.before.trim_start.ensures (cut f) in
-    (λ j. record { value = Float a.minus (Finite (power j)); text = (c.text-of.ensures ∙ ap text_of (all ∙ cut f)) j })
-    ∙ scaled-some a.minus (text f) a.places exponent (λ e. c.before.before.if1.false (ap length (cut f) ∙ e))
+    to_z-of_z (record { sfits = c.power-p.type-inv }) ∙ c.power-p.ensures ∙ ap₂ at f.trim_start-rest.ensures (cut f) in
+    (λ j. record { value = Float a.minus (Finite (power j)); text = (c.text_of.ensures ∙ ap text_of (all ∙ cut f)) j })
+    ∙ scaled-some a.minus (text f) a.places exponent (λ e. c.if-significant-eq0.false (ap length (cut f) ∙ e))
 
-pub scaled-of-spec : {M : Type 1} → statement M
-scaled-of-spec =
+pub scaled_of_spec : {M : Type 1} → statement M
+scaled_of_spec =
     tie.close
     (tie.spec
     trim-start-requires

@@ -4,11 +4,11 @@ use Rattle.numbers.specs.declared.Value.TheVariants.{Float}
 use Rattle.numbers.proofs.without_digits.Statement.{statement}
 use Rattle.numbers.proofs.without_digits.Tie as tie
 
-empty-text-requires : tie.Need-empty-text-requires
+empty-text-requires : tie.Need-empty_text-requires
 empty-text-requires c κs = search rules
 
 returns : tie.Need-returns
-returns c = λ j. record { value = Float c.before.args.negative c.before.args.size; text = c.empty-text.ensures j }
+returns c = λ j. record { value = Float c.args.negative c.args.size; text = c.empty_text.ensures j }
 
-pub without-digits-spec : {M : Type 1} → statement M
-without-digits-spec = tie.close (tie.spec empty-text-requires returns)
+pub without_digits_spec : {M : Type 1} → statement M
+without_digits_spec = tie.close (tie.spec empty-text-requires returns)

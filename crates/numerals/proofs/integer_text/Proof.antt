@@ -16,56 +16,52 @@ use Rattle.numerals.proofs.Decimals.{few_signed, text-before}
 use Rattle.numerals.proofs.integer_text.Statement.{statement}
 use Rattle.numerals.proofs.integer_text.Tie as tie
 
-abbrev start : tie.After-natural-text → tie.Start
+abbrev start : tie.After-natural_text-digits → tie.Start
 start c = c.before.before
 
-digits-told : (c : tie.After-natural-text) (n : ℕ) → nat_abs (start c).args.z ≡ n → c.natural-text.result ≡ text_of (decimal_digits n)
+digits-told : (c : tie.After-natural_text-digits) (n : ℕ) → nat_abs (start c).args.z ≡ n → c.natural_text-digits.result ≡ text_of (decimal_digits n)
 digits-told c n e =
-    c.natural-text.ensures
-    ∙ ap (λ (k : ℕ). text_of (decimal_digits k)) (c.before.type_size.ensures ∙ ap nat_abs (to_z-of_z (start c).ranges.z) ∙ e)
+    c.natural_text-digits.ensures
+    ∙ ap (λ (k : ℕ). text_of (decimal_digits k)) (c.type_size.ensures ∙ ap nat_abs (to_z-of_z (start c).ranges.z) ∙ e)
 
-size-of-requires : tie.Need-size-of-requires
+size-of-requires : tie.Need-size_of-requires
 size-of-requires c κs = search rules
 
-natural-text-requires : tie.Need-natural-text-requires
+natural-text-requires : tie.Need-natural_text-digits-requires
 natural-text-requires c κs = search rules
 
-slice-aggregate-joined-text : tie.Need-slice-aggregate-joined-text
-slice-aggregate-joined-text c = search rules
-
-slice-aggregate-first-of : tie.Need-slice-aggregate-first-of
+slice-aggregate-first-of : tie.Need-slice_bounds-first_of-end
 slice-aggregate-first-of c = search rules
 
-first-of-requires : tie.Need-first-of-requires
+first-of-requires : tie.Need-first_of-requires
 first-of-requires c κs = search rules
 
-joined-text-requires : tie.Need-joined-text-requires
+joined-text-requires : tie.Need-joined_text-requires
 joined-text-requires c κs = search rules
 
-returns : tie.Need-returns
+returns : tie.Need-returns-then-z-lt0
 returns c =
     let d = c.before.before.before.before.before.before in
-    let n = is_negative w64 _ (start d).ranges.z c.before.before.before.before.if1.true in
+    let n = is_negative w64 _ (start d).ranges.z c.if-z-lt0.true in
     let v = decimal_digits (suc n.k) in
     let fits : length (minus_of true ++ v) ≤ 21 = rw n.is at (few_signed (start d).args.z (start d).ranges.z) in
-    c.joined-text.ensures
-    ∙ ap (λ (l : List ℕ). text_of (take size (minus_of true ++ l))) c.before.first_of.ensures
+    c.joined_text.ensures
+    ∙ ap (λ (l : List ℕ). text_of (take size (minus_of true ++ l))) c.first_of.ensures
     ∙ text-before (minus_of true) v (digits-told d (suc n.k) (ap nat_abs n.is)) (omega arith)
     ∙ sym (ap (λ (z : ℤ). text_of (signed_digits z)) n.is)
 
-returns-2 : tie.Need-returns-2
+returns-2 : tie.Need-returns
 returns-2 c =
     let d = c.before.before in
-    let n = is_positive w64 _ (start d).ranges.z c.if1.false in
+    let n = is_positive w64 _ (start d).ranges.z c.if-z-lt0.false in
     digits-told d n.k (ap nat_abs n.is) ∙ sym (ap (λ (z : ℤ). text_of (signed_digits z)) n.is)
 
-pub integer-text-spec : {M : Type 1} → statement M
-integer-text-spec =
+pub integer_text_spec : {M : Type 1} → statement M
+integer_text_spec =
     tie.close
     (tie.spec
     size-of-requires
     natural-text-requires
-    slice-aggregate-joined-text
     slice-aggregate-first-of
     first-of-requires
     joined-text-requires

@@ -11,63 +11,63 @@ use Rattle.numerals.proofs.Decimals.{Going, begins, goes_on, ends, whole-end}
 use Rattle.numerals.proofs.natural_text.Statement.{statement}
 use Rattle.numerals.proofs.natural_text.Tie as tie
 
-abbrev invariant-loop : tie.invariant-loop
+abbrev invariant-loop : tie.invariant-loop-left
 invariant-loop n bytes₀ at₀ left₀ bytes at left = Going n bytes at left
 
-abbrev decreases-loop : tie.decreases-loop
+abbrev decreases-loop : tie.decreases-loop-left
 decreases-loop n bytes₀ at₀ left₀ bytes at left = left
 
-loop-holds : tie.Need-loop-init invariant-loop decreases-loop
+loop-holds : tie.Need-loop-left-init invariant-loop decreases-loop
 loop-holds c = begins c.args.n _ (omega arith) refl refl
 
-sub_at : tie.Need-overflow-sub-at invariant-loop decreases-loop
+sub_at : tie.Need-overflow_sub-at invariant-loop decreases-loop
 sub_at c = search rules
 
 digit-requires : tie.Need-digit-requires invariant-loop decreases-loop
 digit-requires c κs = search rules
 
-array-write-bytes : tie.Need-array-write-bytes invariant-loop decreases-loop
+array-write-bytes : tie.Need-bounds-bytes-at invariant-loop decreases-loop
 array-write-bytes c = search rules
 
-loop-less : tie.Need-loop-smaller invariant-loop decreases-loop
+loop-less : tie.Need-loop-left-smaller invariant-loop decreases-loop
 loop-less c = search rules
 
-loop-again : tie.Need-loop-preserved invariant-loop decreases-loop
+loop-again : tie.Need-loop-left-preserved invariant-loop decreases-loop
 loop-again c =
-    let l = c.before.before.loop in
+    let l = c.loop-left in
     rw c.digit.ensures (goes_on l.invariant (omega arith))
 
-sub-at-2 : tie.Need-overflow-sub-at-2 invariant-loop decreases-loop
+sub-at-2 : tie.Need-overflow_sub-at-2 invariant-loop decreases-loop
 sub-at-2 c = search rules
 
 digit-requires-2 : tie.Need-digit-requires-2 invariant-loop decreases-loop
 digit-requires-2 c κs = search rules
 
-array-write-bytes-2 : tie.Need-array-write-bytes-2 invariant-loop decreases-loop
+array-write-bytes-2 : tie.Need-bounds-bytes-at-2 invariant-loop decreases-loop
 array-write-bytes-2 c = search rules
 
-slice-aggregate-rest-of : tie.Need-slice-aggregate-rest-of invariant-loop decreases-loop
+slice-aggregate-rest-of : tie.Need-slice_bounds-rest_of-end invariant-loop decreases-loop
 slice-aggregate-rest-of c = search rules
 
-rest-of-requires : tie.Need-rest-of-requires invariant-loop decreases-loop
+rest-of-requires : tie.Need-rest_of-requires invariant-loop decreases-loop
 rest-of-requires c κs = search rules
 
-text-of-requires : tie.Need-text-of-requires invariant-loop decreases-loop
+text-of-requires : tie.Need-text_of-requires invariant-loop decreases-loop
 text-of-requires c κs = search rules
 
 returns : tie.Need-returns invariant-loop decreases-loop
 returns c =
     let last = c.before.before.before in
-    let l = last.before.before.loop in
+    let l = last.loop-left in
     let s = set l.bytes (l.at - 1) (digit_byte l.left) in
     let long : length s ≡ 20 = simp length-set l.invariant.long in
-    c.text-of.ensures
-    ∙ ap (λ (r : List ℕ). text_of (take size r)) c.before.rest_of.ensures
-    ∙ ap (λ (d : ℕ). text_of (take size (drop (l.at - 1) (set l.bytes (l.at - 1) d)))) last.digit2.ensures
+    c.text_of.ensures
+    ∙ ap (λ (r : List ℕ). text_of (take size r)) c.rest_of.ensures
+    ∙ ap (λ (d : ℕ). text_of (take size (drop (l.at - 1) (set l.bytes (l.at - 1) d)))) last.digit-2.ensures
     ∙ whole-end s _ (l.at - 1) long (ends l.invariant (omega arith))
 
-pub natural-text-spec : {M : Type 1} → statement M
-natural-text-spec =
+pub natural_text_spec : {M : Type 1} → statement M
+natural_text_spec =
     tie.close
     (tie.spec
     invariant-loop

@@ -13,33 +13,33 @@ use Rattle.numerals.proofs.Decimals.{few_signed, text-before}
 use Rattle.numerals.proofs.power_text.Statement.{statement}
 use Rattle.numerals.proofs.power_text.Tie as tie
 
-integer-text-requires : tie.Need-integer-text-requires
+integer-text-requires : tie.Need-integer_text-own-requires
 integer-text-requires c κs = search rules
 
-slice-aggregate-joined-text : tie.Need-slice-aggregate-joined-text
+slice-aggregate-joined-text : tie.Need-slice_bounds-joined_text-end
 slice-aggregate-joined-text c = search rules
 
-slice-aggregate-first-of : tie.Need-slice-aggregate-first-of
+slice-aggregate-first-of : tie.Need-slice_bounds-first_of-end
 slice-aggregate-first-of c = search rules
 
-first-of-requires : tie.Need-first-of-requires
+first-of-requires : tie.Need-first_of-requires
 first-of-requires c κs = search rules
 
-joined-text-requires : tie.Need-joined-text-requires
+joined-text-requires : tie.Need-joined_text-requires
 joined-text-requires c κs = search rules
 
 returns : tie.Need-returns
 returns c =
     let d = c.before.before.before.before.before in
-    let front = d.before.args.letter ∷ [] in
-    let z = d.before.args.power in
-    let own = d.integer-text.ensures ∙ ap (λ (y : ℤ). text_of (signed_digits y)) (to_z-of_z d.before.ranges.power) in
-    c.joined-text.ensures
-    ∙ ap (λ (l : List ℕ). text_of (take size (front ++ l))) c.before.first_of.ensures
-    ∙ text-before front (signed_digits z) own (omega (arith, few_signed z d.before.ranges.power))
+    let front = d.args.letter ∷ [] in
+    let z = d.args.power in
+    let own = d.integer_text-own.ensures ∙ ap (λ (y : ℤ). text_of (signed_digits y)) (to_z-of_z d.ranges.power) in
+    c.joined_text.ensures
+    ∙ ap (λ (l : List ℕ). text_of (take size (front ++ l))) c.first_of.ensures
+    ∙ text-before front (signed_digits z) own (omega (arith, few_signed z d.ranges.power))
 
-pub power-text-spec : {M : Type 1} → statement M
-power-text-spec =
+pub power_text_spec : {M : Type 1} → statement M
+power_text_spec =
     tie.close
     (tie.spec
     integer-text-requires

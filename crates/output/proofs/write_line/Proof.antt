@@ -17,87 +17,84 @@ use Rattle.output.proofs.write_line.Tie as tie
 write-requires : tie.Need-write-requires
 write-requires c κs = search rules
 
-returns : tie.Need-returns
+returns : tie.Need-returns-then-not-escaped
 returns c =
-    let a = c.before.before.before.args in
-    let plain = plain_line_lem a.escaped a.line.now (not-true a.escaped c.before.if1.true) in
+    let a = c.args in
+    let plain = plain_line_lem a.escaped a.line.now (not-true a.escaped c.if-not-escaped.true) in
     subst (λ (s : List ℕ). IsWhole c.write.result s) (sym plain) c.write.ensures
 
-returns-2 : tie.Need-returns-2
+returns-2 : tie.Need-returns-then-line-gt-MOST_VISIBLE
 returns-2 c = search rules
 
-one-less-requires : tie.Need-one-less-requires
+one-less-requires : tie.Need-one_less-requires
 one-less-requires c κs = search rules
 
-first-of-requires : tie.Need-first-of-requires
+first-of-requires : tie.Need-first_of-requires
 first-of-requires c κs = search rules
 
-write-visibly-requires : tie.Need-write-visibly-requires
+write-visibly-requires : tie.Need-write_visibly-requires
 write-visibly-requires c κs = search rules
 
-enum-known-n : tie.Need-enum-known-n
+enum-known-n : tie.Need-enum_known-n
 enum-known-n c = search rules
 
-enum_told : tie.Need-enum-told
+enum_told : tie.Need-enum_told-1
 enum_told c = search rules
 
-returns-3 : tie.Need-returns-3
+returns-3 : tie.Need-returns-in_default
 returns-3 c = search rules
-
-slice-aggregate-write : tie.Need-slice-aggregate-write
-slice-aggregate-write c = search rules
 
 write-requires-2 : tie.Need-write-requires-2
 write-requires-2 c κs = search rules
 
-enum-known-end : tie.Need-enum-known-end
+enum-known-end : tie.Need-enum_known-end
 enum-known-end c = search rules
 
-enum-told-2 : tie.Need-enum-told-2
+enum-told-2 : tie.Need-enum_told-in_default-write
 enum-told-2 c = search rules
 
-returns-4 : tie.Need-returns-4
+returns-4 : tie.Need-returns-in_default-write
 returns-4 c = search rules
 
-abbrev else1 : tie.After-n → tie.Else1
-else1 c = c.before.before.before.before.before.before
+abbrev else1 : tie.In-Whole-2 → tie.Else-not-escaped
+else1 c = c.before.before.before.before.before
 
 -- how many bytes stand before the line feed
-before : (c : tie.After-n)
-    → c.n.given.0.0
-    ≡ length (escaped (take (length (else1 c).before.before.args.line.now - 1) (else1 c).before.before.args.line.now))
+before : (c : tie.In-Whole-2)
+    → c.in-Whole.n
+    ≡ length (escaped (take (length (else1 c).args.line.now - 1) (else1 c).args.line.now))
 before c =
-    let wrote = c.before.before in
+    let wrote = c.before in
     let part = wrote.before in
-    let line = (else1 c).before.before.args.line.now in
-    counted (escaped part.first_of.result.now) c.n.given.1 wrote.write-visibly.ensures
+    let line = (else1 c).args.line.now in
+    counted (escaped part.first_of.result.now) c.in-Whole.is wrote.write_visibly.ensures
     ∙ ap (λ (s : List ℕ). length (escaped s)) part.first_of.ensures
-    ∙ ap (λ (k : ℕ). length (escaped (take k line))) part.before.one_less.ensures
+    ∙ ap (λ (k : ℕ). length (escaped (take k line))) part.one_less.ensures
 
 -- where the bytes before the line feed were written
-abbrev visibly : tie.After-known-told2 → tie.After-n
-visibly c = c.before.before.before.before.before.before
+abbrev visibly : tie.In-Whole-write → tie.In-Whole-2
+visibly c = c.before.before.before.before
 
 -- the line feed is one byte
-fed : (c : tie.After-known-told2) → c.before.end.given.0.0 ≡ 1
-fed c = counted (line_feed ∷ []) c.before.end.given.1 c.before.before.before.write2.ensures
+fed : (c : tie.In-Whole-write) → c.in-Whole-write.end ≡ 1
+fed c = counted (line_feed ∷ []) c.in-Whole-write.is c.write-2.ensures
 
-add-written : tie.Need-overflow-add-written
+add-written : tie.Need-overflow_add-written
 add-written c =
     let at = visibly c in
-    let line = (else1 at).before.before.args.line.now in
-    let short = at.before.before.before.before.before.if2.left in
+    let line = (else1 at).args.line.now in
+    let short = at.if-line-gt-MOST_VISIBLE.false in
     record { fits = omega (arith, before at, fed c, escaped-few (take (length line - 1) line), length-take (length line - 1) line, short) }
 
-returns-5 : tie.Need-returns-5
+returns-5 : tie.Need-returns
 returns-5 c =
     let at = visibly c in
-    let a = (else1 at).before.before.args in
-    ap (λ (k : ℕ). at.n.given.0.0 + k) (fed c)
-    ∙ visible_line a.escaped a.line.now (not-false a.escaped (else1 at).if1.left) (before at)
+    let a = (else1 at).args in
+    ap (λ (k : ℕ). at.in-Whole.n + k) (fed c)
+    ∙ visible_line a.escaped a.line.now (not-false a.escaped (else1 at).if-not-escaped.false) (before at)
 
-pub write-line-spec : {M : Type 1} → statement M
-write-line-spec =
+pub write_line_spec : {M : Type 1} → statement M
+write_line_spec =
     tie.close
     (tie.spec
     write-requires
@@ -109,7 +106,6 @@ write-line-spec =
     enum-known-n
     enum_told
     returns-3
-    slice-aggregate-write
     write-requires-2
     enum-known-end
     enum-told-2

@@ -30,7 +30,7 @@ use borrow.Author.Rules.{rules}
 use Rattle.printing.proofs.name_part.Statement.{statement}
 use Rattle.printing.proofs.name_part.Tie as tie
 
-abbrev start : tie.After-card-at → tie.Start
+abbrev start : tie.After-card_at-card → tie.Start
 start c = c.before.before.before.before.before.before.before.before
 
 -- the value of the name at the place
@@ -58,89 +58,89 @@ times-within : (s : tie.Start) → s.args.k < length s.args.times.now
 times-within s = let l = s.requires.0 in within s l.how-often (naming.times_long s.args.header.now l.end l.accepted)
 
 -- what was read of it
-abbrev card : tie.After-value-at → tie.After-card-at
+abbrev card : tie.After-value_at-looked → tie.After-card_at-card
 card c = c.before.before.before
 
-abbrev known : tie.After-first-of → tie.After-answer
-known c = c.before.before.before.before.before
+abbrev known : tie.After-first_of-shown → tie.In-Found-2
+known c = c.before.before.before
 
-abbrev read : tie.After-first-of → tie.After-value-at
-read c = (known c).before.before.before.before
+abbrev read : tie.After-first_of-shown → tie.After-value_at-looked
+read c = (known c).before.before.before
 
-read_is : (c : tie.After-value-at) → let s = start (card c) in
-    value_left c.value-at.result c.value-at.new.1.1.0
+read_is : (c : tie.After-value_at-looked) → let s = start (card c) in
+    value_left c.value_at-looked.result c.value_at-looked.new.1.1.0
     ≡ value_left (half_of (value s)) (sets s.args.text.now 0 (value s).words.text)
 read_is c =
     let s = start (card c) in
     let a = s.args in
     let l = s.pre.0 in
-    c.value-at.ensures
+    c.value_at-looked.ensures
     ∙ ap (λ (i : ℕ). value_numbered a.header.now i a.text.now)
     (at_within a.last.now a.k 0 free (last_within s) ∙ ap (λ (x : List ℕ). get_or x a.k free) l.last-entries)
     ∙ naming.read_whole a.header.now l.end l.accepted a.k s.pre.1 a.text.now s.pre.2.for-text
 
-looked-is : (c : tie.After-value-at) → c.value-at.result ≡ half_of (value (start (card c)))
+looked-is : (c : tie.After-value_at-looked) → c.value_at-looked.result ≡ half_of (value (start (card c)))
 looked-is c = ap (λ (o : ValueOutcome). o.answer) (read_is c)
 
-mul-card-at : tie.Need-overflow-mul-card-at
+mul-card-at : tie.Need-offset_bounds-first-k
 mul-card-at c = search (rules, first-within c.before.before.before.before.before.before)
 
-shared-slice-read-card-at : tie.Need-shared-slice-read-card-at
+shared-slice-read-card-at : tie.Need-bounds-first-k
 shared-slice-read-card-at c = first-within c.before.before.before.before.before.before.before
 
-card-at-requires : tie.Need-card-at-requires
+card-at-requires : tie.Need-card_at-card-requires
 card-at-requires c κs = search rules
 
-mul-value-at : tie.Need-overflow-mul-value-at
+mul-value-at : tie.Need-offset_bounds-last-k
 mul-value-at c = search (rules, last_within (start c))
 
-shared-slice-read-value-at : tie.Need-shared-slice-read-value-at
+shared-slice-read-value-at : tie.Need-bounds-last-k
 shared-slice-read-value-at c = last_within (start c.before)
 
-value-at-requires : tie.Need-value-at-requires
+value-at-requires : tie.Need-value_at-looked-requires
 value-at-requires c κs = search rules
 
-enum-known-answer : tie.Need-enum-known-answer
+enum-known-answer : tie.Need-enum_known-answer
 enum-known-answer c = search rules
 
-same_length : tie.Need-same-length
+same_length : tie.Need-shape_of-text-in_default
 same_length c = search rules
 
 -- so the answer is a value
 not_found : (v : Held) (r : ValueHalf) → r ≡ half_of v → OneOf (1 ∷ 2 ∷ []) (tag_of answering.the_type r.answer) → ⊥
 not_found v r e o = miss (1 ∷ 2 ∷ []) 0 tt (subst (λ (x : ValueHalf). OneOf (1 ∷ 2 ∷ []) (tag_of answering.the_type x.answer)) e o)
 
-returns : tie.Need-returns
+returns : tie.Need-returns-in_default
 returns c =
     let read = c.before.before.before in
-    absurd (not_found (value (start (card read))) read.value-at.result (looked-is read) c.match.keys2)
+    absurd (not_found (value (start (card read))) read.value_at-looked.result (looked-is read) c.in_default.keys2)
 
-first-of-requires : tie.Need-first-of-requires
+first-of-requires : tie.Need-first_of-shown-requires
 first-of-requires c κs = search rules
 
-mul-entry-line : tie.Need-overflow-mul-entry-line
+mul-entry-line : tie.Need-offset_bounds-times-k
 mul-entry-line c = record { fits = omega (arith, place-small (start (card (read c)))) }
 
-shared-slice-read-entry-line : tie.Need-shared-slice-read-entry-line
+shared-slice-read-entry-line : tie.Need-bounds-times-k
 shared-slice-read-entry-line c = times-within (start (card (read c.before)))
 
-entry-line-requires : tie.Need-entry-line-requires
+entry-line-requires : tie.Need-entry_line-requires
 entry-line-requires c κs = search rules
 
-length-of-requires : tie.Need-length-of-requires
+length-of-requires : tie.Need-length_of-requires
 length-of-requires c κs = search rules
 
-same-length-2 : tie.Need-same-length-2
+same-length-2 : tie.Need-shape_of-text
 same-length-2 c = search rules
 
-same-length-3 : tie.Need-same-length-3
+same-length-3 : tie.Need-shape_of-line
 same-length-3 c = search rules
 
 -- the value that was found
 value-is : (v : Held) (r : ValueHalf) (x : Value) → r ≡ half_of v → r.answer ≡ L.Found x → x ≡ v.value
 value-is v r x e d = let same : L.Found x ≡ L.Found v.value = sym d ∙ ap (λ (l : ValueHalf). l.answer) e in cc
 
-returns-2 : tie.Need-returns-2
+returns-2 : tie.Need-returns
 returns-2 c =
     let put = c.before.before.before in
     let shown = put.before.before.before in
@@ -150,39 +150,39 @@ returns-2 c =
     let l = s.pre.0 in
     let v = value s in
     let t = v.words.text in
-    let named : bytes_of (card looked).card-at.result.name ≡ name s =
-    ap (λ (r : CardRead). bytes_of r.name) (card looked).card-at.ensures
+    let named : bytes_of (card looked).card_at-card.result.name ≡ name s =
+    ap (λ (r : CardRead). bytes_of r.name) (card looked).card_at-card.ensures
     ∙ ap (λ (i : ℕ). bytes_of (card_at a.header.now i).name)
     (at_within a.first.now a.k 0 free (first-within s) ∙ ap (λ (x : List ℕ). get_or x a.k free) l.first-cards)
     ∙ naming.first-named a.header.now l.end l.accepted a.k s.pre.1 in
-    let valued = value-is v looked.value-at.result _ (looked-is looked) (known shown).answer.given.1 in
-    let digits : bytes_of looked.value-at.result.digits ≡ v.digits =
+    let valued = value-is v looked.value_at-looked.result _ (looked-is looked) (known shown).in-Found.is in
+    let digits : bytes_of looked.value_at-looked.result.digits ≡ v.digits =
     ap (λ (r : ValueHalf). bytes_of r.digits) (looked-is looked) ∙ bytes-text v.digits in
     let fits : length t ≤ length a.text.now =
     omega (arith, naming.text-fits a.header.now l.end l.accepted a.k s.pre.1, s.pre.2.for-text) in
-    let words : shown.first_of.result.now ≡ t =
-    shown.first_of.ensures
+    let words : shown.first_of-shown.result.now ≡ t =
+    shown.first_of-shown.ensures
     ∙ ap (λ (o : ValueOutcome). take o.answer.text o.text) (read_is looked)
     ∙ front t a.text.now fits in
     let times = ap (λ (x : List ℕ). get_or x a.k 0) l.how-often
     ∙ naming.number_is a.header.now l.end l.accepted a.k s.pre.1 in
-    let line : entry_line (bytes_of (card looked).card-at.result.name) _ (bytes_of looked.value-at.result.digits)
-    shown.first_of.result.now (get_or a.times.now a.k 0)
+    let line : entry_line (bytes_of (card looked).card_at-card.result.name) _ (bytes_of looked.value_at-looked.result.digits)
+    shown.first_of-shown.result.now (get_or a.times.now a.k 0)
     ≡ entry_line (name s) v.value v.digits t (times_borne (name s) (roles_of a.header.now)) =
     λ j. entry_line (named j) (valued j) (digits j) (words j) (times j) in
-    subst (Front c.length-of.result _) (line ∙ sym (naming.line-is a.header.now l.end l.accepted a.k s.pre.1))
-    (written-line put.entry-line.result c.length-of.result _ a.line.now _ c.length-of.ensures put.entry-line.ensures.0
+    subst (Front c.length_of.result _) (line ∙ sym (naming.line-is a.header.now l.end l.accepted a.k s.pre.1))
+    (written-line put.entry_line.result c.length_of.result _ a.line.now _ c.length_of.ensures put.entry_line.ensures.0
     (omega (
       arith,
-      put.entry-line.ensures.1,
+      put.entry_line.ensures.1,
       ap length words,
       naming.text-fits a.header.now l.end l.accepted a.k
           s.pre.1,
       s.pre.2.for-line,
     )))
 
-pub name-part-spec : {M : Type 1} → statement M
-name-part-spec =
+pub name_part_spec : {M : Type 1} → statement M
+name_part_spec =
     tie.close
     (tie.spec
     mul-card-at

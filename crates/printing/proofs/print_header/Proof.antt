@@ -22,40 +22,40 @@ known-header : (h : List ℕ) {r : Listing} {x : Header} → r ≡ list_of h →
 known-header h is e = sym (same-header h) ∙ sym (ap (λ (x : Listing). x.header) is) ∙ e
 
 -- the header, once its names are listed
-abbrev start : tie.After-list-over → tie.Start
+abbrev start : tie.After-list_over-listed → tie.Start
 start c = c.before.before.before.before.before
 
-abbrev header : tie.After-list-over → List ℕ
+abbrev header : tie.After-list_over-listed → List ℕ
 header c = (start c).args.header.now
 
-list-over-requires : tie.Need-list-over-requires
+list-over-requires : tie.Need-list_over-listed-requires
 list-over-requires c κs = search rules
 
-enum_told : tie.Need-enum-told
+enum_told : tie.Need-enum_told-1
 enum_told c = search rules
 
-slice-aggregate-print-names : tie.Need-slice-aggregate-print-names
+slice-aggregate-print-names : tie.Need-slice_bounds-print_names-end
 slice-aggregate-print-names c =
-    let made = c.before.before.before in sym (all_listed (header made) made.list_over.ensures).first
+    let made = c.before.before in sym (all_listed (header made) made.list_over-listed.ensures).first
 
-slice-aggregate-print-names-2 : tie.Need-slice-aggregate-print-names-2
+slice-aggregate-print-names-2 : tie.Need-slice_bounds-print_names-end-in-Accepted
 slice-aggregate-print-names-2 c =
-    let made = c.before.before.before.before in sym (all_listed (header made) made.list_over.ensures).last
+    let made = c.before.before.before in sym (all_listed (header made) made.list_over-listed.ensures).last
 
-slice-aggregate-print-names-3 : tie.Need-slice-aggregate-print-names-3
+slice-aggregate-print-names-3 : tie.Need-slice_bounds-print_names-end-in-Accepted-2
 slice-aggregate-print-names-3 c =
-    let made = c.before.before.before.before.before in sym (all_listed (header made) made.list_over.ensures).times
+    let made = c.before.before.before.before in sym (all_listed (header made) made.list_over-listed.ensures).times
 
-print-names-requires : tie.Need-print-names-requires
+print-names-requires : tie.Need-print_names-requires
 print-names-requires c κs =
     let told = c.before.before.before in
-    let made = told.before.before in
+    let made = told.before in
     let h = header made in
-    let is = made.list_over.ensures in
-    let end = told.enum_told.given.0.0 in (
+    let is = made.list_over-listed.ensures in
+    let end = told.in-Accepted.field-0 in (
       record {
         end = end;
-        accepted = known-header h is told.enum_told.given.1;
+        accepted = known-header h is told.in-Accepted.is;
         first-cards = ap (λ (x : Listing). x.first) is;
         last_entries = ap (λ (x : Listing). x.last) is;
         how_often = ap (λ (x : Listing). x.times) is;
@@ -63,10 +63,10 @@ print-names-requires c κs =
       ap (λ (x : Listing). x.count) is,
     )
 
-enum-known-answer : tie.Need-enum-known-answer
+enum-known-answer : tie.Need-enum_known-answer
 enum-known-answer c = search rules
 
-print-refusal-requires : tie.Need-print-refusal-requires
+print-refusal-requires : tie.Need-print_refusal-requires
 print-refusal-requires c κs = search rules
 
 -- by what the header is
@@ -74,36 +74,36 @@ by_header_lem : (t : Bool) (h : List ℕ) (x : Header) → header_of h ≡ x →
 unfolding printed_of
 by_header_lem t h x e = sym (ap (λ (y : Header). printed_by t y h) e)
 
-returns : tie.Need-returns
+returns : tie.Need-returns-in-Accepted
 returns c =
     let told = c.before.before.before.before in
-    let made = told.before.before in
+    let made = told.before in
     let h = header made in
-    let is = made.list_over.ensures in
+    let is = made.list_over-listed.ensures in
     let t = (start made).args.escaped in
-    let end = told.enum_told.given.0.0 in (
+    let end = told.in-Accepted.field-0 in (
       sym (known-header h is refl),
-      subst (IsWhole c.print-names.result)
+      subst (IsWhole c.print_names.result)
           (ap (λ (x : Listing). in_order (map (printed_line t) (name_lines h)) ++ printed_line t (count_line x.count)) is
-          ∙ by_header_lem t h (Accepted end) (known-header h is told.enum_told.given.1))
-          c.print-names.ensures,
+          ∙ by_header_lem t h (Accepted end) (known-header h is told.in-Accepted.is))
+          c.print_names.ensures,
     )
 
-returns-2 : tie.Need-returns-2
+returns-2 : tie.Need-returns-in-Refused
 returns-2 c =
-    let known = c.before.before in
-    let made = known.before.before in
+    let known = c.before in
+    let made = known.before in
     let h = header made in
-    let is = made.list_over.ensures in
+    let is = made.list_over-listed.ensures in
     let t = (start made).args.escaped in
-    let s = known.answer.given.0.0 in (
-      sym (known-header h is known.answer.given.1),
-      subst (IsWhole c.print-refusal.result) (by_header_lem t h (Refused s) (known-header h is known.answer.given.1))
-          c.print-refusal.ensures,
+    let s = known.in-Refused.stop in (
+      sym (known-header h is known.in-Refused.is),
+      subst (IsWhole c.print_refusal.result) (by_header_lem t h (Refused s) (known-header h is known.in-Refused.is))
+          c.print_refusal.ensures,
     )
 
-pub print-header-spec : {M : Type 1} → statement M
-print-header-spec =
+pub print_header_spec : {M : Type 1} → statement M
+print_header_spec =
     tie.close
     (tie.spec
     list-over-requires

@@ -5,22 +5,22 @@ use Rattle.printing.proofs.Fitting.{written-line}
 use Rattle.printing.proofs.refused_part.Statement.{statement}
 use Rattle.printing.proofs.refused_part.Tie as tie
 
-refused-line-requires : tie.Need-refused-line-requires
+refused-line-requires : tie.Need-refused_line-requires
 refused-line-requires c κs = search rules
 
-length-of-requires : tie.Need-length-of-requires
+length-of-requires : tie.Need-length_of-requires
 length-of-requires c κs = search rules
 
-same_length : tie.Need-same-length
+same_length : tie.Need-shape_of-line
 same_length c = search rules
 
 returns : tie.Need-returns
 returns c =
     let put = c.before.before.before in
     let s = put.before.before.before.before in
-    written-line put.refused-line.result c.length-of.result _ s.args.line.now _ c.length-of.ensures
-    put.refused-line.ensures.0
-    (omega (arith, put.refused-line.ensures.1, s.requires))
+    written-line put.refused_line.result c.length_of.result _ s.args.line.now _ c.length_of.ensures
+    put.refused_line.ensures.0
+    (omega (arith, put.refused_line.ensures.1, s.requires))
 
-pub refused-part-spec : {M : Type 1} → statement M
-refused-part-spec = tie.close (tie.spec refused-line-requires length-of-requires same_length returns)
+pub refused_part_spec : {M : Type 1} → statement M
+refused_part_spec = tie.close (tie.spec refused-line-requires length-of-requires same_length returns)

@@ -10,35 +10,35 @@ use Rattle.reader.proofs.bits_at.Tie as tie
 at-requires : tie.Need-at-requires
 at-requires c κs = search rules
 
-take-bits-requires : tie.Need-take-bits-requires
+take-bits-requires : tie.Need-take_bits-requires
 take-bits-requires c κs = search rules
 
-enum-known-u : tie.Need-enum-known-u
+enum-known-u : tie.Need-enum_known-u
 enum-known-u c = search rules
 
-enum_told : tie.Need-enum-told
+enum_told : tie.Need-enum_told-1
 enum_told c = search rules
 
-abbrev start : tie.After-take-bits → tie.Start
+abbrev start : tie.After-take_bits → tie.Start
 start t = t.before.before.before
 
 -- what a cursor at the place takes
-took : (t : tie.After-take-bits)
-    → t.take-bits.result ≡ take_of (start t).args.tile.now (at_place (start t).args.bit) (start t).args.n
+took : (t : tie.After-take_bits)
+    → t.take_bits.result ≡ take_of (start t).args.tile.now (at_place (start t).args.bit) (start t).args.n
 took t =
     let a = (start t).args in
-    t.take-bits.ensures ∙ ap (λ (x : Cursor). take_of a.tile.now x a.n) t.before.at.ensures
+    t.take_bits.ensures ∙ ap (λ (x : Cursor). take_of a.tile.now x a.n) t.at.ensures
 
-returns : tie.Need-returns
+returns : tie.Need-returns-in-Bits
 returns c =
-    let t = c.before.before.before in
-    ap seen (sym c.before.u.given.1 ∙ took t)
+    let t = c.before in
+    ap seen (sym c.in-Bits.is ∙ took t)
 
-returns-2 : tie.Need-returns-2
+returns-2 : tie.Need-returns-in-Short
 returns-2 c =
-    let t = c.before.before in
-    ap seen (sym c.enum_told.given.1 ∙ took t)
+    let t = c.before in
+    ap seen (sym c.in-Short.is ∙ took t)
 
-pub bits-at-spec : {M : Type 1} → statement M
-bits-at-spec =
+pub bits_at_spec : {M : Type 1} → statement M
+bits_at_spec =
     tie.close (tie.spec at-requires take-bits-requires enum-known-u enum_told returns returns-2)

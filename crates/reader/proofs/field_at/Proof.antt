@@ -309,7 +309,7 @@ module _ {M : Type 1} {𝓤 : Ura M} (𝓛 : Logic 𝓤) (mem : Memory → SProp
         (WpFn 𝓤 H 𝓣.C 𝓣.Λ code.function) (WpFn-mono 𝓤 H 𝓛.laws 𝓣 code.function)
         (field-walks 𝓣.C 𝓣.Λ (fm_of 𝓤 H 𝓛.laws 𝓣) known-new known-place known-take)
 
-pub field-at-spec : {M : Type 1} → stated.statement M
+pub field_at_spec : {M : Type 1} → stated.statement M
 unfolding code.routine tables_of
 field-at-spec 𝓤 𝓛 𝓜 𝓡 =
     entered 𝓤 𝓛.H (triple_of 𝓛 field.signature (field.spec 𝓛 𝓜.mem 𝓡.run))

@@ -110,7 +110,7 @@ module _ {M : Type 1} {𝓤 : Ura M} (𝓛 : Logic 𝓤) (mem : Memory → SProp
         (Goes-none 𝓛 1 B yes (λ κs x f. refl), (Goes-none 𝓛 1 (λ _. usize) yes (λ κs x f. refl), tt)) place-says
         (WpFn 𝓤 H 𝓣.C 𝓣.Λ code.function) (WpFn-mono 𝓤 H 𝓛.laws 𝓣 code.function) (place-walks 𝓣.C 𝓣.Λ)
 
-pub place-spec : {M : Type 1} → stated.statement M
+pub place_spec : {M : Type 1} → stated.statement M
 unfolding code.routine tables_of
 place-spec 𝓤 𝓛 𝓜 𝓡 =
     entered 𝓤 𝓛.H (triple_of 𝓛 place.signature (place.spec 𝓛 𝓜.mem 𝓡.run))

@@ -244,7 +244,7 @@ module _ {M : Type 1} {𝓤 : Ura M} (𝓛 : Logic 𝓤) (at_mem : Memory → SP
         (WpFn 𝓤 H 𝓣.C 𝓣.Λ code.function) (WpFn-mono 𝓤 H 𝓛.laws 𝓣 code.function)
         (skip_walks 𝓣.C 𝓣.Λ (fm_of 𝓤 H 𝓛.laws 𝓣) known known_past)
 
-pub skip-zeros-spec : {M : Type 1} → stated.statement M
+pub skip_zeros_spec : {M : Type 1} → stated.statement M
 unfolding code.routine tables_of
 skip-zeros-spec 𝓤 𝓛 𝓜 𝓡 =
     entered 𝓤 𝓛.H (triple_of 𝓛 skip.signature (skip.spec 𝓛 𝓜.mem 𝓡.run))

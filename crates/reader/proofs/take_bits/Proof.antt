@@ -251,7 +251,7 @@ module _ {M : Type 1} {𝓤 : Ura M} (𝓛 : Logic 𝓤) (at_mem : Memory → SP
         (WpFn 𝓤 H 𝓣.C 𝓣.Λ code.function) (WpFn-mono 𝓤 H 𝓛.laws 𝓣 code.function)
         (take_walks 𝓣.C 𝓣.Λ (fm_of 𝓤 H 𝓛.laws 𝓣) known known_past)
 
-pub take-bits-spec : {M : Type 1} → stated.statement M
+pub take_bits_spec : {M : Type 1} → stated.statement M
 unfolding code.routine tables_of
 take-bits-spec 𝓤 𝓛 𝓜 𝓡 =
     entered 𝓤 𝓛.H (triple_of 𝓛 take.signature (take.spec 𝓛 𝓜.mem 𝓡.run))

@@ -15,28 +15,28 @@ decreases-headers buffer₀ left₀ buffer left = left
 headers-holds : tie.Need-headers-init invariant-headers decreases-headers
 headers-holds c = search rules
 
-sub-left : tie.Need-overflow-sub-left invariant-headers decreases-headers
+sub-left : tie.Need-overflow_sub-left invariant-headers decreases-headers
 sub-left c = search rules
 
-slice-aggregate-next-header : tie.Need-slice-aggregate-next-header invariant-headers decreases-headers
+slice-aggregate-next-header : tie.Need-slice_bounds-next_header-end invariant-headers decreases-headers
 slice-aggregate-next-header c = search rules
 
-next-header-requires : tie.Need-next-header-requires invariant-headers decreases-headers
+next-header-requires : tie.Need-next_header-requires invariant-headers decreases-headers
 next-header-requires c κs = search rules
 
-enum-known-n : tie.Need-enum-known-n invariant-headers decreases-headers
+enum-known-n : tie.Need-enum_known-n invariant-headers decreases-headers
 enum-known-n c = search rules
 
-enum_told : tie.Need-enum-told invariant-headers decreases-headers
+enum_told : tie.Need-enum_told-1 invariant-headers decreases-headers
 enum_told c = search rules
 
-slice-aggregate-text-of-cards : tie.Need-slice-aggregate-text-of-cards invariant-headers decreases-headers
+slice-aggregate-text-of-cards : tie.Need-slice_bounds-text_of_cards-end invariant-headers decreases-headers
 slice-aggregate-text-of-cards c = search rules
 
-text-of-cards-requires : tie.Need-text-of-cards-requires invariant-headers decreases-headers
+text-of-cards-requires : tie.Need-text_of_cards-requires invariant-headers decreases-headers
 text-of-cards-requires c κs = search rules
 
-put-header-requires : tie.Need-put-header-requires invariant-headers decreases-headers
+put-header-requires : tie.Need-put_header-requires invariant-headers decreases-headers
 put-header-requires c κs = search rules
 
 headers-less : tie.Need-headers-smaller invariant-headers decreases-headers
@@ -45,10 +45,10 @@ headers-less c = search rules
 headers-again : tie.Need-headers-preserved invariant-headers decreases-headers
 headers-again c = search rules
 
-returns : tie.Need-returns invariant-headers decreases-headers
+returns : tie.Need-returns-after-headers invariant-headers decreases-headers
 returns c = search rules
 
-returns-2 : tie.Need-returns-2 invariant-headers decreases-headers
+returns-2 : tie.Need-returns-in_default invariant-headers decreases-headers
 returns-2 c = search rules
 
 pub main_spec : {M : Type 1} → statement M

@@ -8,113 +8,95 @@ use borrow.Author.Rules.{rules}
 use Rattle.replay_tiles.proofs.put_tile.Statement.{statement}
 use Rattle.replay_tiles.proofs.put_tile.Tie as tie
 
-slice-aggregate-put : tie.Need-slice-aggregate-put
-slice-aggregate-put c = search rules
-
 put-requires : tie.Need-put-requires
 put-requires c κs = search rules
 
-returns : tie.Need-returns
+returns : tie.Need-returns-then-bytes-len
 returns c = search rules
 
-slice-aggregate-put-2 : tie.Need-slice-aggregate-put-2
-slice-aggregate-put-2 c = search rules
-
-put-requires-2 : tie.Need-put-requires-2
+put-requires-2 : tie.Need-put-requires-then-whole-nx
 put-requires-2 c κs = search rules
 
-returns-2 : tie.Need-returns-2
+returns-2 : tie.Need-returns-then-whole-nx
 returns-2 c = search rules
 
-slice-aggregate-put-3 : tie.Need-slice-aggregate-put-3
-slice-aggregate-put-3 c = search rules
-
-put-requires-3 : tie.Need-put-requires-3
+put-requires-3 : tie.Need-put-requires-then-parts-nx
 put-requires-3 c κs = search rules
 
-returns-3 : tie.Need-returns-3
+returns-3 : tie.Need-returns-then-parts-nx
 returns-3 c = search rules
 
-slice-relend-prefix-read-full : tie.Need-slice-relend-prefix-read-full
+slice-relend-prefix-read-full : tie.Need-slice_bounds-read_full-end
 slice-relend-prefix-read-full c = search rules
 
-slice-aggregate-read-full : tie.Need-slice-aggregate-read-full
+slice-aggregate-read-full : tie.Need-slice_bounds-read_full-end-2
 slice-aggregate-read-full c =
-    let a = c.before.before.before.before.before.args in
+    let a = c.args in
     sym (length-take-le a.t.len a.bytes.now (omega arith))
 
-read-full-requires : tie.Need-read-full-requires
+read-full-requires : tie.Need-read_full-requires
 read-full-requires c κs = search rules
 
-slice-reshare-prefix-tile : tie.Need-slice-reshare-prefix-tile
+slice-reshare-prefix-tile : tie.Need-slice_bounds-tile-end
 slice-reshare-prefix-tile c = search rules
 
-slice-aggregate-tile : tie.Need-slice-aggregate-tile
+slice-aggregate-tile : tie.Need-slice_bounds-tile-end-2
 slice-aggregate-tile c =
-    let a = c.before.before.before.before.before.before.before.before.before.args in
-    let read = c.before.before.before.read-full.new.1.0 in
+    let a = c.args in
+    let read = c.read_full.new.1.0 in
     sym (length-take-le a.t.len (read ++ drop a.t.len a.bytes.now) (search rules))
 
-slice-relend-prefix-put-whole : tie.Need-slice-relend-prefix-put-whole
+slice-relend-prefix-put-whole : tie.Need-slice_bounds-put_whole-end
 slice-relend-prefix-put-whole c = search rules
 
-slice-aggregate-put-whole : tie.Need-slice-aggregate-put-whole
+slice-aggregate-put-whole : tie.Need-slice_bounds-put_whole-end-2
 slice-aggregate-put-whole c =
-    let a = c.before.before.before.before.before.before.before.before.before.before.args in
+    let a = c.args in
     sym (length-take-le a.t.nx a.whole.now (omega arith))
 
-put-whole-requires : tie.Need-put-whole-requires
+put-whole-requires : tie.Need-put_whole-requires
 put-whole-requires c κs = search rules
 
-slice-relend-prefix-put-blocks : tie.Need-slice-relend-prefix-put-blocks
+slice-relend-prefix-put-blocks : tie.Need-slice_bounds-put_blocks-end
 slice-relend-prefix-put-blocks c = search rules
 
-slice-aggregate-put-blocks : tie.Need-slice-aggregate-put-blocks
+slice-aggregate-put-blocks : tie.Need-slice_bounds-put_blocks-end-2
 slice-aggregate-put-blocks c =
-    let a = c.before.before.before.before.before.before.before.before.before.before.before.before.before.args in
+    let a = c.args in
     sym (length-take-le a.t.nx a.parts.now (omega arith))
 
-put-blocks-requires : tie.Need-put-blocks-requires
+put-blocks-requires : tie.Need-put_blocks-requires
 put-blocks-requires c κs = search rules
 
 same-requires : tie.Need-same-requires
 same-requires c κs = search rules
 
-slice-aggregate-put-4 : tie.Need-slice-aggregate-put-4
-slice-aggregate-put-4 c = search rules
-
-put-requires-4 : tie.Need-put-requires-4
+put-requires-4 : tie.Need-put-requires-then-not-same
 put-requires-4 c κs = search rules
 
-slice-aggregate-put-5 : tie.Need-slice-aggregate-put-5
-slice-aggregate-put-5 c = search rules
-
-put-requires-5 : tie.Need-put-requires-5
+put-requires-5 : tie.Need-put-requires-2
 put-requires-5 c κs = search rules
 
-same_length : tie.Need-same-length
+same_length : tie.Need-shape_of-bytes
 same_length c = search rules
 
-same-length-2 : tie.Need-same-length-2
+same-length-2 : tie.Need-shape_of-whole
 same-length-2 c = search rules
 
-same-length-3 : tie.Need-same-length-3
+same-length-3 : tie.Need-shape_of-parts
 same-length-3 c = search rules
 
-returns-4 : tie.Need-returns-4
+returns-4 : tie.Need-returns
 returns-4 c = search rules
 
-pub put-tile-spec : {M : Type 1} → statement M
-put-tile-spec =
+pub put_tile_spec : {M : Type 1} → statement M
+put_tile_spec =
     tie.close
     (tie.spec
-    slice-aggregate-put
     put-requires
     returns
-    slice-aggregate-put-2
     put-requires-2
     returns-2
-    slice-aggregate-put-3
     put-requires-3
     returns-3
     slice-relend-prefix-read-full
@@ -129,9 +111,7 @@ put-tile-spec =
     slice-aggregate-put-blocks
     put-blocks-requires
     same-requires
-    slice-aggregate-put-4
     put-requires-4
-    slice-aggregate-put-5
     put-requires-5
     same_length
     same-length-2

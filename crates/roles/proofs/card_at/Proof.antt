@@ -16,17 +16,17 @@ past : (h : List ℕ) (i : ℕ) → length h / 80 ≤ i → card_of (replicate 8
 unfolding card_at
 past h i p = rw (le-ltb i (length h / 80) p)
 
-card-within-requires : tie.Need-card-within-requires
+card-within-requires : tie.Need-card_within-requires
 card-within-requires c κs = search rules
 
-returns : tie.Need-returns
-returns c = c.card-within.ensures ∙ sym (card-here _ _ c.before.if1.true)
+returns : tie.Need-returns-then-i-header
+returns c = c.card_within.ensures ∙ sym (card-here _ _ c.if-i-header.true)
 
-read-card-requires : tie.Need-read-card-requires
+read-card-requires : tie.Need-read_card-requires
 read-card-requires c κs = search rules
 
-returns-2 : tie.Need-returns-2
-returns-2 c = c.read-card.ensures ∙ past _ _ c.before.before.if1.false
+returns-2 : tie.Need-returns
+returns-2 c = c.read_card.ensures ∙ past _ _ c.if-i-header.false
 
-pub card-at-spec : {M : Type 1} → statement M
-card-at-spec = tie.close (tie.spec card-within-requires returns read-card-requires returns-2)
+pub card_at_spec : {M : Type 1} → statement M
+card_at_spec = tie.close (tie.spec card-within-requires returns read-card-requires returns-2)

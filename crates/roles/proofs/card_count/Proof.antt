@@ -15,14 +15,14 @@ good : (n : ℕ) → is_bad_length n ≡ false → n / 80 ≡ card_count n
 unfolding card_count
 good n e = rw e
 
-is-bad-length-requires : tie.Need-is-bad-length-requires
+is-bad-length-requires : tie.Need-is_bad_length-requires
 is-bad-length-requires c κs = search rules
 
-returns : tie.Need-returns
-returns c = bad _ (sym c.before.is-bad-length.ensures ∙ c.if1.true)
+returns : tie.Need-returns-then-is_bad_length
+returns c = bad _ (sym c.is_bad_length.ensures ∙ c.if-is_bad_length.true)
 
-returns-2 : tie.Need-returns-2
-returns-2 c = good _ (sym c.before.is-bad-length.ensures ∙ c.if1.false)
+returns-2 : tie.Need-returns
+returns-2 c = good _ (sym c.is_bad_length.ensures ∙ c.if-is_bad_length.false)
 
-pub card-count-spec : {M : Type 1} → statement M
-card-count-spec = tie.close (tie.spec is-bad-length-requires returns returns-2)
+pub card_count_spec : {M : Type 1} → statement M
+card_count_spec = tie.close (tie.spec is-bad-length-requires returns returns-2)

@@ -18,25 +18,25 @@ filled s long =
     let zeros = length-replicate {A = ℕ} 80 0 in
     sym (sets-room s (replicate 80 0) 0 80 (omega (arith, zeros))) ∙ sets_all (take 80 s) (replicate 80 0) (long ∙ sym zeros)
 
-mul_at : tie.Need-overflow-mul-at
+mul_at : tie.Need-overflow_mul-at
 mul_at c = search rules
 
-sub-put-at : tie.Need-overflow-sub-put-at
+sub-put-at : tie.Need-slice_bounds-put_at-count
 sub-put-at c = search rules
 
-part-put-at-start : tie.Need-slice-bounds-put-at-start
+part-put-at-start : tie.Need-slice_bounds-put_at-start
 part-put-at-start c = search rules
 
-part-put-at-end : tie.Need-slice-bounds-put-at-end
+part-put-at-end : tie.Need-slice_bounds-put_at-end
 part-put-at-end c = search rules
 
-slice-aggregate-put-at : tie.Need-slice-aggregate-put-at
+slice-aggregate-put-at : tie.Need-slice_bounds-put_at-end-2
 slice-aggregate-put-at c = search rules
 
-put-at-requires : tie.Need-put-at-requires
+put-at-requires : tie.Need-put_at-requires
 put-at-requires c κs = search rules
 
-read-card-requires : tie.Need-read-card-requires
+read-card-requires : tie.Need-read_card-requires
 read-card-requires c κs = search rules
 
 returns : tie.Need-returns
@@ -46,11 +46,11 @@ returns c =
     let h = start.args.header.now in
     let at = start.args.i * 80 in
     let part : length (take 80 (drop at h)) ≡ 80 = omega (arith, length-take 80 (drop at h), length-drop at h, start.requires) in
-    c.read-card.ensures
-    ∙ ap card_of (put.put-at.ensures ∙ ap (sets (replicate 80 0) 0) (take_rest h at) ∙ filled (drop at h) part)
+    c.read_card.ensures
+    ∙ ap card_of (put.put_at.ensures ∙ ap (sets (replicate 80 0) 0) (take_rest h at) ∙ filled (drop at h) part)
 
-pub card-within-spec : {M : Type 1} → statement M
-card-within-spec =
+pub card_within_spec : {M : Type 1} → statement M
+card_within_spec =
     tie.close
     (tie.spec
     mul_at

@@ -20,14 +20,14 @@ even : (n : ℕ) → (n ≡ 0 → ⊥) → n % 80 ≡ 0 → ltb 57600 n ≡ is_b
 unfolding is_bad_length
 even n some e = rw (ne_eqb n 0 some, eq-eqb (n % 80) 0 e)
 
-returns : tie.Need-returns
-returns c = empty c.before.args.n c.if1.true
+returns : tie.Need-returns-then-n-eq0
+returns c = empty c.args.n c.if-n-eq0.true
 
-returns-2 : tie.Need-returns-2
-returns-2 c = uneven c.before.before.args.n c.before.if1.false c.if2.true
+returns-2 : tie.Need-returns-then-n-ne0
+returns-2 c = uneven c.args.n c.if-n-eq0.false c.if-n-ne0.true
 
-returns-3 : tie.Need-returns-3
-returns-3 c = even c.before.before.args.n c.before.if1.false c.if2.false
+returns-3 : tie.Need-returns
+returns-3 c = even c.args.n c.if-n-eq0.false c.if-n-ne0.false
 
-pub is-bad-length-spec : {M : Type 1} → statement M
-is-bad-length-spec = tie.close (tie.spec returns returns-2 returns-3)
+pub is_bad_length_spec : {M : Type 1} → statement M
+is_bad_length_spec = tie.close (tie.spec returns returns-2 returns-3)

@@ -12,59 +12,59 @@ use Rattle.splitting.proofs.Stretching.{passed}
 use Rattle.splitting.proofs.behind_string.Statement.{statement}
 use Rattle.splitting.proofs.behind_string.Tie as tie
 
-abbrev invariant-loop : tie.invariant-loop
+abbrev invariant-loop : tie.invariant-loop-i
 invariant-loop s from i₀ i = Passed s Inside i × (from ≤ i)
 
-abbrev decreases-loop : tie.decreases-loop
+abbrev decreases-loop : tie.decreases-loop-i
 decreases-loop s from i₀ i = length s - i
 
-loop-holds : tie.Need-loop-init invariant-loop decreases-loop
+loop-holds : tie.Need-loop-i-init invariant-loop decreases-loop
 loop-holds c = (c.requires.0, omega arith)
 
-shared-slice-read-if1 : tie.Need-shared-slice-read-if1 invariant-loop decreases-loop
+shared-slice-read-if1 : tie.Need-bounds-s-i invariant-loop decreases-loop
 shared-slice-read-if1 c = search rules
 
-add-result : tie.Need-overflow-add-result invariant-loop decreases-loop
+add-result : tie.Need-overflow_add-result invariant-loop decreases-loop
 add-result c = search rules
 
-returns : tie.Need-returns invariant-loop decreases-loop
+returns : tie.Need-returns-then-s-i-eq-QUOTE invariant-loop decreases-loop
 returns c =
     let test = c.before.before in
     let at = test.before in
     record {
       q = Closed;
       passed =
-          passed at.loop.invariant.0 test.loop-test.true at.before.requires.1 Closed (ap (move Inside) (class_quote c.if1.true));
-      further = omega (arith, at.loop.invariant.1);
+          passed at.loop-i.invariant.0 test.loop-i-test.true at.requires.1 Closed (ap (move Inside) (class_quote c.if-s-i-eq-QUOTE.true));
+      further = omega (arith, at.loop-i.invariant.1);
       closed = λ _. refl;
     }
 
-add-i : tie.Need-overflow-add-i invariant-loop decreases-loop
+add-i : tie.Need-overflow_add-i invariant-loop decreases-loop
 add-i c = search rules
 
-loop-less : tie.Need-loop-smaller invariant-loop decreases-loop
+loop-less : tie.Need-loop-i-smaller invariant-loop decreases-loop
 loop-less c = search rules
 
-loop-again : tie.Need-loop-preserved invariant-loop decreases-loop
+loop-again : tie.Need-loop-i-preserved invariant-loop decreases-loop
 loop-again c =
     let test = c.before.before in
     let at = test.before in (
-      passed at.loop.invariant.0 test.loop-test.true at.before.requires.1 Inside (inside-other c.if1.false Inside refl),
-      omega (arith, at.loop.invariant.1),
+      passed at.loop-i.invariant.0 test.loop-i-test.true at.requires.1 Inside (inside-other c.if-s-i-eq-QUOTE.false Inside refl),
+      omega (arith, at.loop-i.invariant.1),
     )
 
-returns-2 : tie.Need-returns-2 invariant-loop decreases-loop
+returns-2 : tie.Need-returns invariant-loop decreases-loop
 returns-2 c =
     let at = c.before in
     record {
       q = Inside;
-      passed = at.loop.invariant.0;
-      further = at.loop.invariant.1;
-      closed = λ more. absurd (omega (arith, c.loop-test.false, more));
+      passed = at.loop-i.invariant.0;
+      further = at.loop-i.invariant.1;
+      closed = λ more. absurd (omega (arith, c.loop-i-test.false, more));
     }
 
-pub behind-string-spec : {M : Type 1} → statement M
-behind-string-spec =
+pub behind_string_spec : {M : Type 1} → statement M
+behind_string_spec =
     tie.close
     (tie.spec
     invariant-loop

@@ -12,20 +12,20 @@ use borrow.Author.Rules.{rules}
 use Rattle.splitting.proofs.comment_of.Statement.{statement}
 use Rattle.splitting.proofs.comment_of.Tie as tie
 
-trim-end-requires : tie.Need-trim-end-requires
+trim-end-requires : tie.Need-trim_end-requires
 trim-end-requires c κs = search rules
 
-changed-text-requires : tie.Need-changed-text-requires
+changed-text-requires : tie.Need-changed_text-requires
 changed-text-requires c κs = search rules
 
 returns : tie.Need-returns
 returns c =
-    let s = c.before.before.before.args.s.now in
-    let left = c.before.trim_end.result.now in
-    let short : length left ≤ size = rw c.before.trim_end.ensures (omega (arith, end_shorter is_space s)) in
-    c.changed-text.ensures
+    let s = c.args.s.now in
+    let left = c.trim_end.result.now in
+    let short : length left ≤ size = rw c.trim_end.ensures (omega (arith, end_shorter is_space s)) in
+    c.changed_text.ensures
     ∙ whole_changed shown left short
-    ∙ ap text_of (ap (map shown) c.before.trim_end.ensures ∙ sym (end_mapped is_space is_space shown space_shown s))
+    ∙ ap text_of (ap (map shown) c.trim_end.ensures ∙ sym (end_mapped is_space is_space shown space_shown s))
 
-pub comment-of-spec : {M : Type 1} → statement M
-comment-of-spec = tie.close (tie.spec trim-end-requires changed-text-requires returns)
+pub comment_of_spec : {M : Type 1} → statement M
+comment_of_spec = tie.close (tie.spec trim-end-requires changed-text-requires returns)

@@ -20,79 +20,79 @@ use borrow.Author.Rules.{rules}
 use Rattle.splitting.proofs.halves_of.Statement.{statement}
 use Rattle.splitting.proofs.halves_of.Tie as tie
 
-abbrev start : tie.After-stretch-of → tie.Start
+abbrev start : tie.After-stretch_of → tie.Start
 start c = c.before.before
 
-abbrev text : tie.After-stretch-of → List ℕ
+abbrev text : tie.After-stretch_of → List ℕ
 text c = (start c).args.s.now
 
 -- what is known of the stretch that an arm knows
-known : (c : tie.After-stretch-of) (x : Stretch) → c.stretch-of.result ≡ x → Stretches x (text c)
-known c x e = subst (λ (y : Stretch). Stretches y (text c)) e c.stretch-of.ensures
+known : (c : tie.After-stretch_of) (x : Stretch) → c.stretch_of.result ≡ x → Stretches x (text c)
+known c x e = subst (λ (y : Stretch). Stretches y (text c)) e c.stretch_of.ensures
 
-abbrev place : tie.After-i → ℕ
-place c = c.i.given.0.0
+abbrev place : tie.In-UpTo-2 → ℕ
+place c = c.in-UpTo.i
 
-abbrev at : tie.After-i → tie.After-stretch-of
-at c = c.before.before
+abbrev at : tie.In-UpTo-2 → tie.After-stretch_of
+at c = c.before
 
-up_to : (c : tie.After-i) → Stretches (UpTo (place c)) (text (at c))
-up_to c = known (at c) (UpTo (place c)) c.i.given.1
+up_to : (c : tie.In-UpTo-2) → Stretches (UpTo (place c)) (text (at c))
+up_to c = known (at c) (UpTo (place c)) c.in-UpTo.is
 
-stretch-of-requires : tie.Need-stretch-of-requires
+stretch-of-requires : tie.Need-stretch_of-requires
 stretch-of-requires c κs = search rules
 
-enum-known-i : tie.Need-enum-known-i
+enum-known-i : tie.Need-enum_known-i
 enum-known-i c = search rules
 
-slice-aggregate-trimmed : tie.Need-slice-aggregate-trimmed
+slice-aggregate-trimmed : tie.Need-slice_bounds-trimmed-end
 slice-aggregate-trimmed c =
-    let i = c.before.before in
+    let i = c in
     sym (length-take-le (place i) (text (at i)) (omega (arith, (up_to i).0)))
 
 trimmed-requires : tie.Need-trimmed-requires
 trimmed-requires c κs = search rules
 
-text-of-requires : tie.Need-text-of-requires
+text-of-requires : tie.Need-text_of-requires
 text-of-requires c κs = search rules
 
-abbrev from-text : tie.After-text-of → tie.After-i
-from-text c = c.before.before.before.before
+abbrev from-text : tie.After-text_of → tie.In-UpTo-2
+from-text c = c.before.before
 
-add-comment-of : tie.Need-overflow-add-comment-of
+add-comment-of : tie.Need-overflow_add-i
 add-comment-of c = omega (arith, (up_to (from-text c)).0, (start (at (from-text c))).requires.0)
 
-sub-comment-of : tie.Need-overflow-sub-comment-of
+sub-comment-of : tie.Need-slice_bounds-comment_of-count
 sub-comment-of c = omega (arith, (up_to (from-text c)).0)
 
-part-comment-of-start : tie.Need-slice-bounds-comment-of-start
+part-comment-of-start : tie.Need-slice_bounds-comment_of-start
 part-comment-of-start c = omega (arith, (up_to (from-text c)).0)
 
-part-comment-of-end : tie.Need-slice-bounds-comment-of-end
+part-comment-of-end : tie.Need-slice_bounds-comment_of-end
 part-comment-of-end c = search rules
 
-comment-of-requires : tie.Need-comment-of-requires
+comment-of-requires : tie.Need-comment_of-requires
 comment-of-requires c κs =
     let i = from-text c.before in
     let s = text (at i) in
     rw (take_rest s (place i + 1)) (omega (arith, length-drop (place i + 1) s, (start (at i)).requires.0))
 
-enum_told : tie.Need-enum-told
+enum_told : tie.Need-enum_told-1
 enum_told c = search rules
 
-trimmed-requires-2 : tie.Need-trimmed-requires-2
+trimmed-requires-2 : tie.Need-trimmed-requires-in-All
 trimmed-requires-2 c κs = search rules
 
-text-of-requires-2 : tie.Need-text-of-requires-2
+text-of-requires-2 : tie.Need-text_of-requires-in-All
 text-of-requires-2 c κs = search rules
 
-empty-text-requires : tie.Need-empty-text-requires
+empty-text-requires : tie.Need-empty_text-requires
 empty-text-requires c κs = search rules
 
-enum-told-2 : tie.Need-enum-told-2
+enum-told-2 : tie.Need-enum_told-in-Unknown
 enum-told-2 c = search rules
 
-halves-scanned-requires : tie.Need-halves-scanned-requires
+halves-scanned-requires : tie.Need-halves_scanned-requires
 halves-scanned-requires c κs = search rules
 
 -- a part without its spaces, as a text
@@ -101,35 +101,35 @@ cut s t few e =
     ap (λ (l : List ℕ). text_of (take size l)) e
     ∙ ap text_of (take_all size (trim is_space s) (omega (arith, shorter is_space s)))
 
-returns : tie.Need-returns
+returns : tie.Need-returns-in-UpTo
 returns c =
     let stored = c.before.before in
     let i = from-text stored in
     let s = text (at i) in
     let front = take (place i) s in
     let few : length front ≤ size = omega (arith, length-take (place i) s, (start (at i)).requires.0) in
-    let value = stored.text-of.ensures ∙ cut front _ few stored.before.trimmed.ensures in
+    let value = stored.text_of.ensures ∙ cut front _ few stored.trimmed.ensures in
     let behind = take_rest s (place i + 1) ∙ ap (λ (k : ℕ). drop k s) (add-one (place i)) in
-    let comment = c.comment-of.ensures ∙ ap (λ (l : List ℕ). text_of (trim_end is_space (map shown l))) behind in
+    let comment = c.comment_of.ensures ∙ ap (λ (l : List ℕ). text_of (trim_end is_space (map shown l))) behind in
     (λ j. record { answer = Commented; value = value j; comment = comment j })
     ∙ parts_plain (start (at i)).args.first s front (At (place i)) (up_to i).1
 
-returns-2 : tie.Need-returns-2
+returns-2 : tie.Need-returns-in-All
 returns-2 c =
     let stored = c.before in
     let cutting = stored.before in
     let told = cutting.before in
-    let made = told.before.before in
+    let made = told.before in
     let s = text made in
-    let value = stored.text-of2.ensures ∙ cut s _ (start made).requires.0 cutting.trimmed2.ensures in
-    (λ j. record { answer = Bare; value = value j; comment = c.empty-text.ensures j })
-    ∙ parts_plain (start made).args.first s s Nowhere (known made All told.enum_told.given.1)
+    let value = stored.text_of-in-All.ensures ∙ cut s _ (start made).requires.0 cutting.trimmed-in-All.ensures in
+    (λ j. record { answer = Bare; value = value j; comment = c.empty_text.ensures j })
+    ∙ parts_plain (start made).args.first s s Nowhere (known made All told.in-All.is)
 
-returns-3 : tie.Need-returns-3
+returns-3 : tie.Need-returns-in-Unknown
 returns-3 c = search rules
 
-pub halves-of-spec : {M : Type 1} → statement M
-halves-of-spec =
+pub halves_of_spec : {M : Type 1} → statement M
+halves_of_spec =
     tie.close
     (tie.spec
     stretch-of-requires

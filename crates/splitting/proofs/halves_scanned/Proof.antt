@@ -20,106 +20,106 @@ use Rattle.splitting.proofs.halves_scanned.Statement.{statement}
 use Rattle.splitting.proofs.halves_scanned.Tie as tie
 
 -- the arguments, the text, and what its scan gave
-abbrev began : tie.After-scan → tie.Start
+abbrev began : tie.After-scan-found → tie.Start
 began c = c.before.before
 
-abbrev text : tie.After-scan → List ℕ
+abbrev text : tie.After-scan-found → List ℕ
 text c = (began c).args.s.now
 
-abbrev scanned : tie.After-scan → Scanned
-scanned c = c.scan.result
+abbrev scanned : tie.After-scan-found → Scanned
+scanned c = c.scan-found.result
 
 -- what was found lies within it
-found : (c : tie.After-scan) → ((scanned c).value.len ≤ length (text c)) × Below (length (text c)) (scanned c).slash
-found c = scanned_within (text c) (scanned c) c.scan.ensures
+found : (c : tie.After-scan-found) → ((scanned c).value.len ≤ length (text c)) × Below (length (text c)) (scanned c).slash
+found c = scanned_within (text c) (scanned c) c.scan-found.ensures
 
 -- the place after the scan that led to an arm
-abbrev scan-at : tie.After-place → tie.After-scan
-scan-at c = c.before.before.before.before.before
+abbrev scan-at : tie.In-At-2 → tie.After-scan-found
+scan-at c = c.before.before.before.before
 
-below : (c : tie.After-place) → c.place.given.0.0 < length (text (scan-at c))
-below c = subst (Below _) c.place.given.1 (found (scan-at c)).1
+below : (c : tie.In-At-2) → c.in-At.i < length (text (scan-at c))
+below c = subst (Below _) c.in-At.is (found (scan-at c)).1
 
 -- the parts at the place that an arm knows are those of the text
-by : (c : tie.After-scan) (p : Slash) → (scanned c).slash ≡ p
+by : (c : tie.After-scan-found) (p : Slash) → (scanned c).slash ≡ p
     → parts_from (began c).args.first p (text c) (bytes_of (scanned c).value) ≡ halves_at (began c).args.first (text c)
 by c p e =
     let first = (began c).args.first in
     ap (λ (x : Slash). parts_from first x (text c) (bytes_of (scanned c).value)) (sym e)
-    ∙ parts_found first (text c) (scanned c) c.scan.ensures
+    ∙ parts_found first (text c) (scanned c) c.scan-found.ensures
 
-scan-requires : tie.Need-scan-requires
+scan-requires : tie.Need-scan-found-requires
 scan-requires c κs = search rules
 
-spaces-off-requires : tie.Need-spaces-off-requires
+spaces-off-requires : tie.Need-spaces_off-value-requires
 spaces-off-requires c κs = search rules
 
-empty-text-requires : tie.Need-empty-text-requires
+empty-text-requires : tie.Need-empty_text-none-requires
 empty-text-requires c κs = search rules
 
-enum-known-place : tie.Need-enum-known-place
+enum-known-place : tie.Need-enum_known-place
 enum-known-place c = search rules
 
-add-comment-of : tie.Need-overflow-add-comment-of
-add-comment-of c = omega (arith, below c.before, (began (scan-at c.before)).requires.0)
+add-comment-of : tie.Need-overflow_add-i
+add-comment-of c = omega (arith, below c, (began (scan-at c)).requires.0)
 
-sub-comment-of : tie.Need-overflow-sub-comment-of
-sub-comment-of c = omega (arith, below c.before)
+sub-comment-of : tie.Need-slice_bounds-comment_of-count
+sub-comment-of c = omega (arith, below c)
 
-part-comment-of-start : tie.Need-slice-bounds-comment-of-start
-part-comment-of-start c = omega (arith, below c.before)
+part-comment-of-start : tie.Need-slice_bounds-comment_of-start
+part-comment-of-start c = omega (arith, below c)
 
-part-comment-of-end : tie.Need-slice-bounds-comment-of-end
+part-comment-of-end : tie.Need-slice_bounds-comment_of-end
 part-comment-of-end c = search rules
 
-comment-of-requires : tie.Need-comment-of-requires
+comment-of-requires : tie.Need-comment_of-requires
 comment-of-requires c κs =
-    let s = text (scan-at c.before.before) in
-    let i = c.before.before.place.given.0.0 in
-    rw (take_rest s (i + 1)) (omega (arith, length-drop (i + 1) s, (began (scan-at c.before.before)).requires.0))
+    let s = text (scan-at c.before) in
+    let i = c.in-At.i in
+    rw (take_rest s (i + 1)) (omega (arith, length-drop (i + 1) s, (began (scan-at c.before)).requires.0))
 
-enum_told : tie.Need-enum-told
+enum_told : tie.Need-enum_told-1
 enum_told c = search rules
 
-enum-known-place-2 : tie.Need-enum-known-place-2
+enum-known-place-2 : tie.Need-enum_known-place-in-Bad-1
 enum-known-place-2 c = search rules
 
-add-fault-at : tie.Need-overflow-add-fault-at
+add-fault-at : tie.Need-overflow_add-first
 add-fault-at c =
-    let scan = c.before.before.before.before.before.before in
-    let i = c.before.place2.given.0.0 in
-    let under : i < length (text scan) = subst (Below _) c.before.place2.given.1 (found scan).1 in
+    let scan = c.before.before.before.before in
+    let i = c.in-Bad.i in
+    let under : i < length (text scan) = subst (Below _) c.in-Bad.is (found scan).1 in
     omega (arith, under, (began scan).requires.0, (began scan).requires.1 (omega (arith, under)))
 
-fault-at-requires : tie.Need-fault-at-requires
+fault-at-requires : tie.Need-fault_at-requires
 fault-at-requires c κs = search rules
 
-returns : tie.Need-returns
+returns : tie.Need-returns-in-At
 returns c =
-    let place = c.before.before.before in
-    let s = text (scan-at place) in
-    let i = place.place.given.0.0 in
-    let behind = take_rest s (i + 1) ∙ ap (λ (k : ℕ). drop k s) (add-one i) in
-    let comment = c.comment-of.ensures ∙ ap (λ (l : List ℕ). text_of (trim_end is_space (map shown l))) behind in
-    (λ j. record { answer = Commented; value = place.before.before.before.spaces-off.ensures j; comment = comment j })
-    ∙ by (scan-at place) (At i) place.place.given.1
-
-returns-2 : tie.Need-returns-2
-returns-2 c =
-    let empty = c.before.before in
-    (λ j. record { answer = Bare; value = empty.before.spaces-off.ensures j; comment = empty.empty-text.ensures j })
-    ∙ by empty.before.before.before Nowhere c.enum_told.given.1
-
-returns-3 : tie.Need-returns-3
-returns-3 c =
     let place = c.before.before in
-    let empty = place.before.before in
-    let none = empty.empty-text.ensures in
-    (λ j. record { answer = Refused (c.fault-at.ensures j); value = none j; comment = none j })
-    ∙ by empty.before.before.before (Bad place.place2.given.0.0) place.place2.given.1
+    let s = text (scan-at place) in
+    let i = place.in-At.i in
+    let behind = take_rest s (i + 1) ∙ ap (λ (k : ℕ). drop k s) (add-one i) in
+    let comment = c.comment_of.ensures ∙ ap (λ (l : List ℕ). text_of (trim_end is_space (map shown l))) behind in
+    (λ j. record { answer = Commented; value = place.spaces_off-value.ensures j; comment = comment j })
+    ∙ by (scan-at place) (At i) place.in-At.is
 
-pub halves-scanned-spec : {M : Type 1} → statement M
-halves-scanned-spec =
+returns-2 : tie.Need-returns-in-Nowhere
+returns-2 c =
+    let empty = c.before in
+    (λ j. record { answer = Bare; value = empty.spaces_off-value.ensures j; comment = empty.empty_text-none.ensures j })
+    ∙ by empty.before.before.before Nowhere c.in-Nowhere.is
+
+returns-3 : tie.Need-returns-in-Bad
+returns-3 c =
+    let place = c.before in
+    let empty = place.before in
+    let none = empty.empty_text-none.ensures in
+    (λ j. record { answer = Refused (c.fault_at.ensures j); value = none j; comment = none j })
+    ∙ by empty.before.before.before (Bad place.in-Bad.i) place.in-Bad.is
+
+pub halves_scanned_spec : {M : Type 1} → statement M
+halves_scanned_spec =
     tie.close
     (tie.spec
     scan-requires

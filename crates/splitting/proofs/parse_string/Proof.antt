@@ -8,23 +8,23 @@ use borrow.Author.Rules.{rules}
 use Rattle.splitting.proofs.parse_string.Statement.{statement}
 use Rattle.splitting.proofs.parse_string.Tie as tie
 
-slice-aggregate-first-of : tie.Need-slice-aggregate-first-of
+slice-aggregate-first-of : tie.Need-slice_bounds-first_of-end
 slice-aggregate-first-of c = search rules
 
-first-of-requires : tie.Need-first-of-requires
+first-of-requires : tie.Need-first_of-requires
 first-of-requires c κs = search rules
 
 unquoted-requires : tie.Need-unquoted-requires
 unquoted-requires c κs =
-    let t = c.before.before.before.args.t in
+    let t = c.args.t in
     let long : length t.bytes ≡ size = search rules in
     rw c.first_of.ensures (bytes_fit t long)
 
 returns : tie.Need-returns
 returns c =
-    let first = c.before.before.before.before.args.first in
-    c.unquoted.ensures ∙ ap (string_from first) c.before.first_of.ensures
+    let first = c.args.first in
+    c.unquoted.ensures ∙ ap (string_from first) c.first_of.ensures
 
-pub parse-string-spec : {M : Type 1} → statement M
-parse-string-spec =
+pub parse_string_spec : {M : Type 1} → statement M
+parse_string_spec =
     tie.close (tie.spec slice-aggregate-first-of first-of-requires unquoted-requires returns)

@@ -4,11 +4,11 @@ use borrow.Author.Rules.{rules}
 use Rattle.splitting.proofs.refused.Statement.{statement}
 use Rattle.splitting.proofs.refused.Tie as tie
 
-empty-text-requires : tie.Need-empty-text-requires
+empty-text-requires : tie.Need-empty_text-requires
 empty-text-requires c κs = search rules
 
 returns : tie.Need-returns
-returns c = λ j. record { answer = Refused c.before.args.fault; text = c.empty-text.ensures j }
+returns c = λ j. record { answer = Refused c.args.fault; text = c.empty_text.ensures j }
 
-pub refused-spec : {M : Type 1} → statement M
-refused-spec = tie.close (tie.spec empty-text-requires returns)
+pub refused_spec : {M : Type 1} → statement M
+refused_spec = tie.close (tie.spec empty-text-requires returns)

@@ -20,57 +20,57 @@ abbrev decreases-scan : tie.decreases-scan
 decreases-scan s slash₀ state₀ bytes₀ n₀ i₀ slash state bytes n i = length s - i
 
 scan-holds : tie.Need-scan-init invariant-scan decreases-scan
-scan-holds c = rw (← padded-none size) at (start c.before.args.s.now)
+scan-holds c = rw (← padded-none size) at (start c.args.s.now)
 
-shared-slice-read-b : tie.Need-shared-slice-read-b invariant-scan decreases-scan
+shared-slice-read-b : tie.Need-bounds-s-i invariant-scan decreases-scan
 shared-slice-read-b c = search rules
 
-enum_told : tie.Need-enum-told invariant-scan decreases-scan
+enum_told : tie.Need-enum_told-1 invariant-scan decreases-scan
 enum_told c = search rules
 
-is-printable-requires : tie.Need-is-printable-requires invariant-scan decreases-scan
+is-printable-requires : tie.Need-is_printable-requires invariant-scan decreases-scan
 is-printable-requires c κs = search rules
 
-enum-told-2 : tie.Need-enum-told-2 invariant-scan decreases-scan
+enum-told-2 : tie.Need-enum_told-in-Inside invariant-scan decreases-scan
 enum-told-2 c = search rules
 
-enum-told-3 : tie.Need-enum-told-3 invariant-scan decreases-scan
+enum-told-3 : tie.Need-enum_told-in-Closed invariant-scan decreases-scan
 enum-told-3 c = search rules
 
-add-i : tie.Need-overflow-add-i invariant-scan decreases-scan
+add-i : tie.Need-overflow_add-i invariant-scan decreases-scan
 add-i c = search rules
 
-scan-less : tie.Need-scan-smaller invariant-scan decreases-scan
+scan-less : tie.Need-scan-smaller-then-b-eq-QUOTE-3 invariant-scan decreases-scan
 scan-less c = search rules
 
-scan-again : tie.Need-scan-preserved invariant-scan decreases-scan
+scan-again : tie.Need-scan-preserved-then-b-eq-QUOTE-3 invariant-scan decreases-scan
 scan-again c =
-    let test = c.before.before.before.before in
-    let moves = ap₂ move c.before.enum-told3.given.1 (class_quote c.if5.true) in
-    on_passes test.before.scan.invariant test.scan-test.true Inside moves
+    let test = c.before.before.before in
+    let moves = ap₂ move c.in-Closed.is (class_quote c.if-b-eq-QUOTE-3.true) in
+    on_passes test.scan.invariant test.scan-test.true Inside moves
 
-is-printable-requires-2 : tie.Need-is-printable-requires-2 invariant-scan decreases-scan
+is-printable-requires-2 : tie.Need-is_printable-requires-in-Closed invariant-scan decreases-scan
 is-printable-requires-2 c κs = search rules
 
 replaced-requires : tie.Need-replaced-requires invariant-scan decreases-scan
 replaced-requires c κs = search rules
 
-array-write-bytes : tie.Need-array-write-bytes invariant-scan decreases-scan
+array-write-bytes : tie.Need-bounds-bytes-n invariant-scan decreases-scan
 array-write-bytes c = search rules
 
-add-n : tie.Need-overflow-add-n invariant-scan decreases-scan
+add-n : tie.Need-overflow_add-n invariant-scan decreases-scan
 add-n c = search rules
 
-add-i-2 : tie.Need-overflow-add-i-2 invariant-scan decreases-scan
+add-i-2 : tie.Need-overflow_add-i-in-scan invariant-scan decreases-scan
 add-i-2 c = search rules
 
-scan-less-2 : tie.Need-scan-smaller-2 invariant-scan decreases-scan
+scan-less-2 : tie.Need-scan-smaller invariant-scan decreases-scan
 scan-less-2 c = search rules
 
 -- each arm that goes on to the store makes the move of its state and class
-put-so : (c : tie.At-match-branch invariant-scan decreases-scan)
+put-so : (c : tie.Joined-state invariant-scan decreases-scan)
     → let loop = c.before.before.before in
-    move loop.scan.state (byte_class (get_or loop.before.before.args.s.now loop.scan.i 0)) ≡ puts c.match.state
+    move loop.scan.state (byte_class (get_or loop.args.s.now loop.scan.i 0)) ≡ puts c.match-state.state
 put-so c =
     ⊎_elim (λ w. ap₂ move w.1.given.1 (class_quote w.2.taken) ∙ ap puts (sym w.3))
     (⊎_elim (λ w. ap₂ move w.1.given.1 (class_plain w.2.left w.3.left (sym w.4.ensures ∙ not-false _ w.5.left))
@@ -81,43 +81,43 @@ put-so c =
     ∙ ap puts (sym w.6))
     (λ w. ap₂ move w.1.given.1 (class_odd w.2.left w.3.left (sym w.4.ensures ∙ w.5.left))
     ∙ ap puts (sym (w.6 ∙ w.1.given.1)))))))
-    c.match.branch
+    c.match-state.branch
 
-scan-again-2 : tie.Need-scan-preserved-2 invariant-scan decreases-scan
+scan-again-2 : tie.Need-scan-preserved invariant-scan decreases-scan
 scan-again-2 c =
     let test = c.before.before.before in
     let loop = test.before in
-    on_puts loop.scan.invariant test.scan-test.true c.before.match.state c.replaced.result loop.before.before.requires
+    on_puts loop.scan.invariant test.scan-test.true c.match-state.state c.replaced.result loop.requires
     (put-so c.before) c.replaced.ensures
 
-returns : tie.Need-returns invariant-scan decreases-scan
-returns c = at_end c.before.scan.invariant c.scan-test.false
+returns : tie.Need-returns-after-scan invariant-scan decreases-scan
+returns c = at_end c.scan.invariant c.scan-test.false
 
-returns-2 : tie.Need-returns-2 invariant-scan decreases-scan
+returns-2 : tie.Need-returns-then-b-eq-SLASH invariant-scan decreases-scan
 returns-2 c =
     let told = c.before.before in
-    let test = told.before.before.before in
-    let moves = ap₂ move told.enum_told.given.1 (class_slash c.before.if1.false c.if2.true) in
-    on_ends test.before.scan.invariant test.scan-test.true moves
+    let test = told.before.before in
+    let moves = ap₂ move told.in-Outside.is (class_slash c.if-b-eq-QUOTE.false c.if-b-eq-SLASH.true) in
+    on_ends test.scan.invariant test.scan-test.true moves
 
-returns-3 : tie.Need-returns-3 invariant-scan decreases-scan
+returns-3 : tie.Need-returns-then-not-is_printable invariant-scan decreases-scan
 returns-3 c =
     let slash = c.before.before in
     let told = slash.before.before in
-    let test = told.before.before.before in
-    let refuses = sym c.before.is-printable.ensures ∙ not-true _ c.if3.true in
-    let odd = class_odd slash.before.if1.false slash.if2.false refuses in
-    on_refused test.before.scan.invariant test.scan-test.true (ap₂ move told.enum_told.given.1 odd)
+    let test = told.before.before in
+    let refuses = sym c.is_printable.ensures ∙ not-true _ c.if-not-is_printable.true in
+    let odd = class_odd slash.if-b-eq-QUOTE.false slash.if-b-eq-SLASH.false refuses in
+    on_refused test.scan.invariant test.scan-test.true (ap₂ move told.in-Outside.is odd)
 
-returns-4 : tie.Need-returns-4 invariant-scan decreases-scan
+returns-4 : tie.Need-returns-then-b-eq-SLASH-2 invariant-scan decreases-scan
 returns-4 c =
     let told = c.before.before in
-    let test = told.before.before.before in
-    let moves = ap₂ move told.enum-told3.given.1 (class_slash c.before.if5.false c.if6.true) in
-    on_ends test.before.scan.invariant test.scan-test.true moves
+    let test = told.before.before in
+    let moves = ap₂ move told.in-Closed.is (class_slash c.if-b-eq-QUOTE-3.false c.if-b-eq-SLASH-2.true) in
+    on_ends test.scan.invariant test.scan-test.true moves
 
-pub scan-spec : {M : Type 1} → statement M
-scan-spec =
+pub scan_spec : {M : Type 1} → statement M
+scan_spec =
     tie.close
     (tie.spec
     invariant-scan

@@ -16,59 +16,59 @@ use Rattle.splitting.proofs.split.Statement.{statement}
 use Rattle.splitting.proofs.split.Tie as tie
 
 -- the byte that the text stands from, and the text
-abbrev from : tie.After-trim-start → ℕ
-from c = c.before.before.before.args.from
+abbrev from : tie.After-trim_start-rest → ℕ
+from c = c.args.from
 
-abbrev given : tie.After-trim-start → List ℕ
-given c = drop (from c) c.before.before.before.args.card.now
+abbrev given : tie.After-trim_start-rest → List ℕ
+given c = drop (from c) c.args.card.now
 
-few : (c : tie.After-trim-start) → length (given c) ≤ size - from c
+few : (c : tie.After-trim_start-rest) → length (given c) ≤ size - from c
 few c =
-    let card = c.before.before.before.args.card.now in
+    let card = c.args.card.now in
     let long : length card ≡ size = search rules in
     omega (arith, length-drop (from c) card)
 
 -- the blanks at its front cut, then those at its end
-started : (c : tie.After-trim-start) → c.trim_start.result.now ≡ trim_start is_blank (given c)
-started c = c.trim_start.ensures ∙ ap (trim_start is_blank) c.before.rest_of.ensures
+started : (c : tie.After-trim_start-rest) → c.trim_start-rest.result.now ≡ trim_start is_blank (given c)
+started c = c.trim_start-rest.ensures ∙ ap (trim_start is_blank) c.rest_of-raw.ensures
 
-trims : (c : tie.After-trim-end2) → c.trim-end2.result.now ≡ trim is_blank (given c.before.before.before)
+trims : (c : tie.After-trim_end-2) → c.trim_end-2.result.now ≡ trim is_blank (given c.before.before.before)
 unfolding trim
 trims c =
     let at = c.before.before.before in
-    c.trim-end2.ensures
-    ∙ ap (trim_end is_blank) (c.before.trim_end.ensures ∙ ap (trim_end is_space) (started at))
+    c.trim_end-2.ensures
+    ∙ ap (trim_end is_blank) (c.trim_end.ensures ∙ ap (trim_end is_space) (started at))
     ∙ end_twice is_blank is_space space_blank (trim_start is_blank (given at))
 
 -- where it begins
-begins : (c : tie.After-first-byte) → c.first_byte.result ≡ first_byte (from c.before) (given c.before)
+begins : (c : tie.After-first_byte-first) → c.first_byte-first.result ≡ first_byte (from c.before) (given c.before)
 begins c =
     let at = c.before in
-    let all = ap (length {A = ℕ}) at.before.rest_of.ensures in
+    let all = ap (length {A = ℕ}) at.rest_of-raw.ensures in
     let left = ap (length {A = ℕ}) (started at) in
-    c.first_byte.ensures
+    c.first_byte-first.ensures
     ∙ ap₂ (first_of (from at)) all left
     ∙ first_by_lengths (from at) (given at)
 
-rest-of-requires : tie.Need-rest-of-requires
+rest-of-requires : tie.Need-rest_of-raw-requires
 rest-of-requires c κs = search rules
 
-trim-start-requires : tie.Need-trim-start-requires
+trim-start-requires : tie.Need-trim_start-rest-requires
 trim-start-requires c κs = search rules
 
-first-byte-requires : tie.Need-first-byte-requires
+first-byte-requires : tie.Need-first_byte-first-requires
 first-byte-requires c κs =
-    let all = ap (length {A = ℕ}) c.before.rest_of.ensures in
+    let all = ap (length {A = ℕ}) c.rest_of-raw.ensures in
     let left = ap (length {A = ℕ}) (started c) in
     (omega (arith, all, left, start_shorter is_blank (given c)), omega (arith, all, few c))
 
-trim-end-requires : tie.Need-trim-end-requires
+trim-end-requires : tie.Need-trim_end-requires
 trim-end-requires c κs = search rules
 
-trim-end-requires-2 : tie.Need-trim-end-requires-2
+trim-end-requires-2 : tie.Need-trim_end-requires-2
 trim-end-requires-2 c κs = search rules
 
-halves-of-requires : tie.Need-halves-of-requires
+halves-of-requires : tie.Need-halves_of-halves-requires
 halves-of-requires c κs =
     let at = c.before.before.before in
     let short = ap (length {A = ℕ}) (trims c) in
@@ -81,11 +81,11 @@ returns : tie.Need-returns
 returns c =
     let first = c.before.before.before in
     let at = first.before in
-    let halves = c.halves_of.ensures ∙ ap₂ halves_at (begins first) (trims c.before) ∙ halves_placed_lem (from at) (given at) in
+    let halves = c.halves_of-halves.ensures ∙ ap₂ halves_at (begins first) (trims c.before) ∙ halves_placed_lem (from at) (given at) in
     λ j. record { first = begins first j; halves = halves j }
 
-pub split-spec : {M : Type 1} → statement M
-split-spec =
+pub split_spec : {M : Type 1} → statement M
+split_spec =
     tie.close
     (tie.spec
     rest-of-requires

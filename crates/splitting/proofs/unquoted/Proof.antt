@@ -19,111 +19,111 @@ a-string t = record { answer = Str; text = t }
 placed : (first : ℕ) (s : List ℕ) {r : StringRead} → string_of s ≡ r → string_placed (at_byte first) r ≡ string_from first s
 placed first s e = ap (string_placed (at_byte first)) (sym e)
 
-empty-text-requires : tie.Need-empty-text-requires
+empty-text-requires : tie.Need-empty_text-requires
 empty-text-requires c κs = search rules
 
-returns : tie.Need-returns
+returns : tie.Need-returns-then-n-eq0
 unfolding string_of settled_of
 returns c =
-    let a = c.before.before.before.args in
-    ap a-string c.empty-text.ensures ∙ ap (string_from a.first) (sym (empty a.s.now c.before.if1.true))
+    let a = c.args in
+    ap a-string c.empty_text.ensures ∙ ap (string_from a.first) (sym (empty a.s.now c.if-n-eq0.true))
 
-shared-slice-read-if2 : tie.Need-shared-slice-read-if2
+shared-slice-read-if2 : tie.Need-bounds-s-0
 shared-slice-read-if2 c = search rules
 
-fault-at-requires : tie.Need-fault-at-requires
+fault-at-requires : tie.Need-fault_at-requires
 fault-at-requires c κs = search rules
 
 refused-requires : tie.Need-refused-requires
 refused-requires c κs = search rules
 
-returns-2 : tie.Need-returns-2
+returns-2 : tie.Need-returns-then-n-eq1
 returns-2 c =
     let quote = c.before.before.before in
-    let a = quote.before.before.before.before.args in
+    let a = quote.args in
     c.refused.ensures
-    ∙ ap string_refused c.before.fault-at.ensures
-    ∙ placed a.first a.s.now (lone a.s.now c.before.before.if3.true quote.if2.true)
+    ∙ ap string_refused c.fault_at.ensures
+    ∙ placed a.first a.s.now (lone a.s.now c.if-n-eq1.true quote.if-s-eq-QUOTE.true)
 
-sub-if4 : tie.Need-overflow-sub-if4
+sub-if4 : tie.Need-overflow_sub-n
 sub-if4 c = search rules
 
-shared-slice-read-if4 : tie.Need-shared-slice-read-if4
+shared-slice-read-if4 : tie.Need-bounds-s-n
 shared-slice-read-if4 c = search rules
 
-sub-settled : tie.Need-overflow-sub-settled
+sub-settled : tie.Need-overflow_sub-n-then-s-n-eq-QUOTE
 sub-settled c = search rules
 
-sub-settled-2 : tie.Need-overflow-sub-settled-2
+sub-settled-2 : tie.Need-slice_bounds-settled-count
 sub-settled-2 c = search rules
 
-part-settled-start : tie.Need-slice-bounds-settled-start
+part-settled-start : tie.Need-slice_bounds-settled-start
 part-settled-start c = search rules
 
-part-settled-end : tie.Need-slice-bounds-settled-end
+part-settled-end : tie.Need-slice_bounds-settled-end
 part-settled-end c = search rules
 
 settled-requires : tie.Need-settled-requires
 settled-requires c κs = search rules
 
-returns-3 : tie.Need-returns-3
+returns-3 : tie.Need-returns-then-s-n-eq-QUOTE
 returns-3 c =
     let last = c.before.before in
     let quote = last.before.before.before in
-    let a = quote.before.before.before.before.args in
+    let a = quote.args in
     ap a-string c.settled.ensures
     ∙ placed a.first a.s.now
-    (quoted a.s.now quote.before.before.if1.false last.before.before.if3.false quote.if2.true last.if4.true)
+    (quoted a.s.now quote.if-n-eq0.false last.if-n-eq1.false quote.if-s-eq-QUOTE.true last.if-s-n-eq-QUOTE.true)
 
-fault-at-requires-2 : tie.Need-fault-at-requires-2
+fault-at-requires-2 : tie.Need-fault_at-requires-then-s-eq-QUOTE
 fault-at-requires-2 c κs = search rules
 
-refused-requires-2 : tie.Need-refused-requires-2
+refused-requires-2 : tie.Need-refused-requires-then-s-eq-QUOTE
 refused-requires-2 c κs = search rules
 
-returns-4 : tie.Need-returns-4
+returns-4 : tie.Need-returns-then-s-eq-QUOTE
 returns-4 c =
     let last = c.before.before in
     let quote = last.before.before.before in
-    let a = quote.before.before.before.before.args in
-    c.refused2.ensures
-    ∙ ap string_refused c.before.fault-at2.ensures
+    let a = quote.args in
+    c.refused-then-s-eq-QUOTE.ensures
+    ∙ ap string_refused c.fault_at-then-s-eq-QUOTE.ensures
     ∙ placed a.first a.s.now
-    (unclosed a.s.now quote.before.before.if1.false last.before.before.if3.false quote.if2.true last.if4.false)
+    (unclosed a.s.now quote.if-n-eq0.false last.if-n-eq1.false quote.if-s-eq-QUOTE.true last.if-s-n-eq-QUOTE.false)
 
-sub-if5 : tie.Need-overflow-sub-if5
+sub-if5 : tie.Need-overflow_sub-n-2
 sub-if5 c = search rules
 
-shared-slice-read-if5 : tie.Need-shared-slice-read-if5
+shared-slice-read-if5 : tie.Need-bounds-s-n-2
 shared-slice-read-if5 c = search rules
 
-fault-at-requires-3 : tie.Need-fault-at-requires-3
+fault-at-requires-3 : tie.Need-fault_at-requires-then-s-n-eq-QUOTE-2
 fault-at-requires-3 c κs = search rules
 
-refused-requires-3 : tie.Need-refused-requires-3
+refused-requires-3 : tie.Need-refused-requires-then-s-n-eq-QUOTE-2
 refused-requires-3 c κs = search rules
 
-returns-5 : tie.Need-returns-5
+returns-5 : tie.Need-returns-then-s-n-eq-QUOTE-2
 returns-5 c =
     let bare = c.before.before.before.before in
-    let a = bare.before.before.before.before.args in
-    c.refused3.ensures
-    ∙ ap string_refused c.before.fault-at3.ensures
+    let a = bare.args in
+    c.refused-then-s-n-eq-QUOTE-2.ensures
+    ∙ ap string_refused c.fault_at-then-s-n-eq-QUOTE-2.ensures
     ∙ placed a.first a.s.now
-    (unopened_quote a.s.now bare.before.before.if1.false bare.if2.false c.before.before.if5.true)
+    (unopened_quote a.s.now bare.if-n-eq0.false bare.if-s-eq-QUOTE.false c.if-s-n-eq-QUOTE-2.true)
 
 settled-requires-2 : tie.Need-settled-requires-2
 settled-requires-2 c κs = search rules
 
-returns-6 : tie.Need-returns-6
+returns-6 : tie.Need-returns
 returns-6 c =
     let bare = c.before.before.before in
-    let a = bare.before.before.before.before.args in
-    ap a-string c.settled2.ensures
-    ∙ placed a.first a.s.now (plain_text_lem a.s.now bare.before.before.if1.false bare.if2.false c.before.if5.false)
+    let a = bare.args in
+    ap a-string c.settled-2.ensures
+    ∙ placed a.first a.s.now (plain_text_lem a.s.now bare.if-n-eq0.false bare.if-s-eq-QUOTE.false c.if-s-n-eq-QUOTE-2.false)
 
-pub unquoted-spec : {M : Type 1} → statement M
-unquoted-spec =
+pub unquoted_spec : {M : Type 1} → statement M
+unquoted_spec =
     tie.close
     (tie.spec
     empty-text-requires

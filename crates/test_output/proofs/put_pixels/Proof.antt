@@ -5,44 +5,44 @@ use borrow.Author.Rules.{rules}
 use Rattle.test_output.proofs.put_pixels.Statement.{statement}
 use Rattle.test_output.proofs.put_pixels.Tie as tie
 
-abbrev invariant-loop : tie.invariant-loop
+abbrev invariant-loop : tie.invariant-loop-i
 invariant-loop pixels i₀ i = i ≤ length pixels
 
-abbrev decreases-loop : tie.decreases-loop
+abbrev decreases-loop : tie.decreases-loop-i
 decreases-loop pixels i₀ i = length pixels - i
 
-loop-holds : tie.Need-loop-init invariant-loop decreases-loop
+loop-holds : tie.Need-loop-i-init invariant-loop decreases-loop
 loop-holds c = search rules
 
-put-space-requires : tie.Need-put-space-requires invariant-loop decreases-loop
+put-space-requires : tie.Need-put_space-requires invariant-loop decreases-loop
 put-space-requires c κs = search rules
 
-mul_wide : tie.Need-overflow-mul-wide invariant-loop decreases-loop
+mul_wide : tie.Need-offset_bounds-pixels-i invariant-loop decreases-loop
 mul_wide c = search rules
 
-shared-slice-copy-out-wide : tie.Need-shared-slice-copy-out-wide invariant-loop decreases-loop
+shared-slice-copy-out-wide : tie.Need-bounds-pixels-i invariant-loop decreases-loop
 shared-slice-copy-out-wide c = search rules
 
 wide-requires : tie.Need-wide-requires invariant-loop decreases-loop
 wide-requires c κs = search rules
 
-put-integer-requires : tie.Need-put-integer-requires invariant-loop decreases-loop
+put-integer-requires : tie.Need-put_integer-requires invariant-loop decreases-loop
 put-integer-requires c κs = search rules
 
-add-i : tie.Need-overflow-add-i invariant-loop decreases-loop
+add-i : tie.Need-overflow_add-i invariant-loop decreases-loop
 add-i c = search rules
 
-loop-less : tie.Need-loop-smaller invariant-loop decreases-loop
+loop-less : tie.Need-loop-i-smaller invariant-loop decreases-loop
 loop-less c = search rules
 
-loop-again : tie.Need-loop-preserved invariant-loop decreases-loop
+loop-again : tie.Need-loop-i-preserved invariant-loop decreases-loop
 loop-again c = search rules
 
 returns : tie.Need-returns invariant-loop decreases-loop
 returns c = search rules
 
-pub put-pixels-spec : {M : Type 1} → statement M
-put-pixels-spec =
+pub put_pixels_spec : {M : Type 1} → statement M
+put_pixels_spec =
     tie.close
     (tie.spec
     invariant-loop

@@ -8,7 +8,7 @@ use mir.Facts.{to_z-of_z}
 use Rattle.test_output.proofs.wide.Statement.{statement}
 use Rattle.test_output.proofs.wide.Tie as tie
 
-cast-result : tie.Need-overflow-cast-result
+cast-result : tie.Need-overflow_cast-result
 cast-result c = subst (SFits w64) (sym (to_z-of_z c.ranges.z)) (record { sfits = omega (arith, c.ranges.z.sfits) })
 
 returns : tie.Need-returns

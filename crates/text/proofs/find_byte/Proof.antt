@@ -9,48 +9,48 @@ use Rattle.text.proofs.Finding.{found_here, found_later, found_nowhere}
 use Rattle.text.proofs.find_byte.Statement.{statement}
 use Rattle.text.proofs.find_byte.Tie as tie
 
-abbrev invariant-loop : tie.invariant-loop
+abbrev invariant-loop : tie.invariant-loop-i
 invariant-loop s b i₀ i = (i ≤ length s) × (place_from b (drop i s) i ≡ place_of b s)
 
-abbrev decreases-loop : tie.decreases-loop
+abbrev decreases-loop : tie.decreases-loop-i
 decreases-loop s b i₀ i = length s - i
 
-loop-holds : tie.Need-loop-init invariant-loop decreases-loop
+loop-holds : tie.Need-loop-i-init invariant-loop decreases-loop
 loop-holds c = search rules
 
-shared-slice-read-if1 : tie.Need-shared-slice-read-if1 invariant-loop decreases-loop
+shared-slice-read-if1 : tie.Need-bounds-s-i invariant-loop decreases-loop
 shared-slice-read-if1 c = search rules
 
-returns : tie.Need-returns invariant-loop decreases-loop
+returns : tie.Need-returns-then-s-i invariant-loop decreases-loop
 returns c =
     let at-loop = c.before.before.before in
-    let s = at-loop.before.args.s.now in
-    let b = at-loop.before.args.b in
-    let more = c.before.before.loop-test.true in
-    sym (found_here b s at-loop.loop.i more c.if1.true) ∙ at-loop.loop.invariant.1
+    let s = at-loop.args.s.now in
+    let b = at-loop.args.b in
+    let more = c.loop-i-test.true in
+    sym (found_here b s at-loop.loop-i.i more c.if-s-i.true) ∙ at-loop.loop-i.invariant.1
 
-add-i : tie.Need-overflow-add-i invariant-loop decreases-loop
+add-i : tie.Need-overflow_add-i invariant-loop decreases-loop
 add-i c = search rules
 
-loop-less : tie.Need-loop-smaller invariant-loop decreases-loop
+loop-less : tie.Need-loop-i-smaller invariant-loop decreases-loop
 loop-less c = search rules
 
-loop-again : tie.Need-loop-preserved invariant-loop decreases-loop
+loop-again : tie.Need-loop-i-preserved invariant-loop decreases-loop
 loop-again c =
     let at-loop = c.before.before.before in
-    let s = at-loop.before.args.s.now in
-    let b = at-loop.before.args.b in
-    let more = c.before.before.loop-test.true in
-    (omega arith, found_later b s at-loop.loop.i more c.if1.false ∙ at-loop.loop.invariant.1)
+    let s = at-loop.args.s.now in
+    let b = at-loop.args.b in
+    let more = c.loop-i-test.true in
+    (omega arith, found_later b s at-loop.loop-i.i more c.if-s-i.false ∙ at-loop.loop-i.invariant.1)
 
-returns-2 : tie.Need-returns-2 invariant-loop decreases-loop
+returns-2 : tie.Need-returns invariant-loop decreases-loop
 returns-2 c =
     let at-loop = c.before in
-    let a = at-loop.before.args in
-    sym (found_nowhere a.b a.s.now at-loop.loop.i c.loop-test.false) ∙ at-loop.loop.invariant.1
+    let a = at-loop.args in
+    sym (found_nowhere a.b a.s.now at-loop.loop-i.i c.loop-i-test.false) ∙ at-loop.loop-i.invariant.1
 
-pub find-byte-spec : {M : Type 1} → statement M
-find-byte-spec =
+pub find_byte_spec : {M : Type 1} → statement M
+find_byte_spec =
     tie.close
     (tie.spec
     invariant-loop

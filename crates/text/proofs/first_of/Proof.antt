@@ -6,14 +6,14 @@ use borrow.Author.Rules.{rules}
 use Rattle.text.proofs.first_of.Statement.{statement}
 use Rattle.text.proofs.first_of.Tie as tie
 
-slice-aggregate-result : tie.Need-slice-aggregate-result
-slice-aggregate-result c = sym (length-take-le c.before.before.args.n c.before.before.args.s.now (omega arith))
+slice-aggregate-result : tie.Need-slice_bounds-result-end
+slice-aggregate-result c = sym (length-take-le c.args.n c.args.s.now (omega arith))
 
-returns : tie.Need-returns
+returns : tie.Need-returns-then-n-s
 returns c = search rules
 
-returns-2 : tie.Need-returns-2
-returns-2 c = sym (take_all c.before.args.n c.before.args.s.now c.if1.false)
+returns-2 : tie.Need-returns
+returns-2 c = sym (take_all c.args.n c.args.s.now c.if-n-s.false)
 
-pub first-of-spec : {M : Type 1} → statement M
-first-of-spec = tie.close (tie.spec slice-aggregate-result returns returns-2)
+pub first_of_spec : {M : Type 1} → statement M
+first_of_spec = tie.close (tie.spec slice-aggregate-result returns returns-2)

@@ -6,26 +6,26 @@ use borrow.Author.Rules.{rules}
 use Rattle.text.proofs.rest_of.Statement.{statement}
 use Rattle.text.proofs.rest_of.Tie as tie
 
-sub-result : tie.Need-overflow-sub-result
+sub-result : tie.Need-slice_bounds-result-count
 sub-result c = search rules
 
-part-result-start : tie.Need-slice-bounds-result-start
+part-result-start : tie.Need-slice_bounds-result-start
 part-result-start c = search rules
 
-part-result-end : tie.Need-slice-bounds-result-end
+part-result-end : tie.Need-slice_bounds-result-end
 part-result-end c = search rules
 
-returns : tie.Need-returns
-returns c = take_rest c.before.before.args.s.now c.before.before.args.n
+returns : tie.Need-returns-then-n-s
+returns c = take_rest c.args.s.now c.args.n
 
-slice-aggregate-result : tie.Need-slice-aggregate-result
+slice-aggregate-result : tie.Need-slice_bounds-result-end-2
 slice-aggregate-result c = search rules
 
-returns-2 : tie.Need-returns-2
-returns-2 c = sym (drop_of_length-le c.before.before.args.s.now c.before.if1.false)
+returns-2 : tie.Need-returns
+returns-2 c = sym (drop_of_length-le c.args.s.now c.if-n-s.false)
 
-pub rest-of-spec : {M : Type 1} → statement M
-rest-of-spec =
+pub rest_of_spec : {M : Type 1} → statement M
+rest_of_spec =
     tie.close
     (tie.spec
     sub-result

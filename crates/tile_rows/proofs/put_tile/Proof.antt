@@ -6,41 +6,41 @@ use borrow.Author.Rules.{rules}
 use Rattle.tile_rows.proofs.put_tile.Statement.{statement}
 use Rattle.tile_rows.proofs.put_tile.Tie as tie
 
-abbrev invariant-loop : tie.invariant-loop
+abbrev invariant-loop : tie.invariant-loop-i
 invariant-loop tile i₀ i = i ≤ length tile
 
-abbrev decreases-loop : tie.decreases-loop
+abbrev decreases-loop : tie.decreases-loop-i
 decreases-loop tile i₀ i = length tile - i
 
-loop-holds : tie.Need-loop-init invariant-loop decreases-loop
+loop-holds : tie.Need-loop-i-init invariant-loop decreases-loop
 loop-holds c = search rules
 
-shared-slice-read-print-hex : tie.Need-shared-slice-read-print-hex invariant-loop decreases-loop
+shared-slice-read-print-hex : tie.Need-bounds-tile-i invariant-loop decreases-loop
 shared-slice-read-print-hex c = search rules
 
-cast-print-hex : tie.Need-overflow-cast-print-hex invariant-loop decreases-loop
-cast-print-hex c = omega (arith, c.shared-slice-known2.given c.before.before.loop.i)
+cast-print-hex : tie.Need-overflow_cast-tile invariant-loop decreases-loop
+cast-print-hex c = omega (arith, c.shared_slice_known-in-loop-i-1.given c.loop-i.i)
 
-print-hex-requires : tie.Need-print-hex-requires invariant-loop decreases-loop
+print-hex-requires : tie.Need-print_hex-requires invariant-loop decreases-loop
 print-hex-requires c κs = search rules
 
-put-space-requires : tie.Need-put-space-requires invariant-loop decreases-loop
+put-space-requires : tie.Need-put_space-requires invariant-loop decreases-loop
 put-space-requires c κs = search rules
 
-add-i : tie.Need-overflow-add-i invariant-loop decreases-loop
+add-i : tie.Need-overflow_add-i invariant-loop decreases-loop
 add-i c = search rules
 
-loop-less : tie.Need-loop-smaller invariant-loop decreases-loop
+loop-less : tie.Need-loop-i-smaller invariant-loop decreases-loop
 loop-less c = search rules
 
-loop-again : tie.Need-loop-preserved invariant-loop decreases-loop
+loop-again : tie.Need-loop-i-preserved invariant-loop decreases-loop
 loop-again c = search rules
 
 returns : tie.Need-returns invariant-loop decreases-loop
 returns c = search rules
 
-pub put-tile-spec : {M : Type 1} → statement M
-put-tile-spec =
+pub put_tile_spec : {M : Type 1} → statement M
+put_tile_spec =
     tie.close
     (tie.spec
     invariant-loop

@@ -6,19 +6,19 @@ use borrow.Author.Rules.{rules}
 use Rattle.value.proofs.number_value.Statement.{statement}
 use Rattle.value.proofs.number_value.Tie as tie
 
-parse-number-requires : tie.Need-parse-number-requires
+parse-number-requires : tie.Need-parse_number-number-requires
 parse-number-requires c κs = search rules
 
-read-as-requires : tie.Need-read-as-requires
+read-as-requires : tie.Need-read_as-requires
 read-as-requires c κs = search rules
 
 returns : tie.Need-returns
 unfolding of_number
 returns c =
     let at-number = c.before.before in
-    let a = at-number.before.args in
+    let a = at-number.args in
     c.read_as.ensures
-    ∙ ap (λ (r : Number). value_as r.value r.text a.commented a.comment) at-number.parse-number.ensures
+    ∙ ap (λ (r : Number). value_as r.value r.text a.commented a.comment) at-number.parse_number-number.ensures
 
-pub number-value-spec : {M : Type 1} → statement M
-number-value-spec = tie.close (tie.spec parse-number-requires read-as-requires returns)
+pub number_value_spec : {M : Type 1} → statement M
+number_value_spec = tie.close (tie.spec parse-number-requires read-as-requires returns)

@@ -5,20 +5,20 @@ use borrow.Author.Rules.{rules}
 use Rattle.value.proofs.refused.Statement.{statement}
 use Rattle.value.proofs.refused.Tie as tie
 
-empty-text-requires : tie.Need-empty-text-requires
+empty-text-requires : tie.Need-empty_text-requires
 empty-text-requires c κs = search rules
 
-empty-text-requires-2 : tie.Need-empty-text-requires-2
+empty-text-requires-2 : tie.Need-empty_text-requires-2
 empty-text-requires-2 c κs = search rules
 
 returns : tie.Need-returns
 returns c =
     λ j. record {
-      answer = Refused c.before.before.args.fault;
-      text = c.before.empty-text.ensures j;
+      answer = Refused c.args.fault;
+      text = c.empty_text.ensures j;
       commented = false;
-      comment = c.empty-text2.ensures j;
+      comment = c.empty_text-2.ensures j;
     }
 
-pub refused-spec : {M : Type 1} → statement M
-refused-spec = tie.close (tie.spec empty-text-requires empty-text-requires-2 returns)
+pub refused_spec : {M : Type 1} → statement M
+refused_spec = tie.close (tie.spec empty-text-requires empty-text-requires-2 returns)

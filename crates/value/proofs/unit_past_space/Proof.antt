@@ -13,75 +13,75 @@ use borrow.Author.Rules.{rules}
 use Rattle.value.proofs.unit_past_space.Statement.{statement}
 use Rattle.value.proofs.unit_past_space.Tie as tie
 
-abbrev comment : tie.After-unit2 → List ℕ
-comment c = c.before.before.before.before.before.before.args.comment.now
+abbrev comment : tie.After-unit-2 → List ℕ
+comment c = c.args.comment.now
 
-behind : (c : tie.After-unit2) → c.unit2.result ≡ unit_of (drop 1 (comment c))
-behind c = c.unit2.ensures ∙ ap unit_of (take_rest (comment c) 1)
+behind : (c : tie.After-unit-2) → c.unit-2.result ≡ unit_of (drop 1 (comment c))
+behind c = c.unit-2.ensures ∙ ap unit_of (take_rest (comment c) 1)
 
 -- the unit behind the space, as an arm knows it, gives the comment's
-by : (c : tie.After-unit2) (p : UnitPlace) → c.unit2.result ≡ p → behind_one p ≡ unit_past_space (comment c)
+by : (c : tie.After-unit-2) (p : UnitPlace) → c.unit-2.result ≡ p → behind_one p ≡ unit_past_space (comment c)
 by c p e =
     let space = c.before.before in
-    ap behind_one (sym e ∙ behind c) ∙ sym (past_some (comment c) space.before.before.if1.false space.if2.false)
+    ap behind_one (sym e ∙ behind c) ∙ sym (past_some (comment c) space.if-comment-eq0.false space.if-comment-ne32.false)
 
 -- the unit that an arm knows starts and ends within the comment
-within : (c : tie.After-known-told) → let place = c.before.from.given.0 in
-    (place.0 ≤ place.1.0) × (place.1.0 < length (comment c.before.before.before))
+within : (c : tie.In-Between) → let place = c.in-Between.from.given.0 in
+    (place.0 ≤ place.1.0) × (place.1.0 < length (comment c.before))
 within c =
-    let s = comment c.before.before.before in
-    let told = unit_within (drop 1 s) _ _ (sym (behind c.before.before.before) ∙ c.before.from.given.1) in
+    let s = comment c.before in
+    let told = unit_within (drop 1 s) _ _ (sym (behind c.before) ∙ c.in-Between.is) in
     (told.0, omega (arith, told.1, length-drop 1 s))
 
-returns : tie.Need-returns
-returns c = sym (past_empty c.before.before.args.comment.now c.if1.true)
+returns : tie.Need-returns-then-comment-eq0
+returns c = sym (past_empty c.args.comment.now c.if-comment-eq0.true)
 
-shared-slice-read-if2 : tie.Need-shared-slice-read-if2
+shared-slice-read-if2 : tie.Need-bounds-comment-0
 shared-slice-read-if2 c = search rules
 
 unit-requires : tie.Need-unit-requires
 unit-requires c κs = search rules
 
-returns-2 : tie.Need-returns-2
+returns-2 : tie.Need-returns-then-comment-ne32
 returns-2 c =
     let first = c.before.before in
-    let s = first.before.before.before.args.comment.now in
-    c.unit.ensures ∙ sym (past_none s first.before.if1.false c.before.if2.true)
+    let s = first.args.comment.now in
+    c.unit.ensures ∙ sym (past_none s first.if-comment-eq0.false c.if-comment-ne32.true)
 
-sub-unit : tie.Need-overflow-sub-unit
+sub-unit : tie.Need-slice_bounds-unit-count
 sub-unit c = search rules
 
-part-unit-start : tie.Need-slice-bounds-unit-start
+part-unit-start : tie.Need-slice_bounds-unit-start
 part-unit-start c = search rules
 
-part-unit-end : tie.Need-slice-bounds-unit-end
+part-unit-end : tie.Need-slice_bounds-unit-end
 part-unit-end c = search rules
 
 unit-requires-2 : tie.Need-unit-requires-2
 unit-requires-2 c κs = search rules
 
-enum-known-from : tie.Need-enum-known-from
+enum-known-from : tie.Need-enum_known-from
 enum-known-from c = search rules
 
-enum_told : tie.Need-enum-told
+enum_told : tie.Need-enum_told-1
 enum_told c = search rules
 
-returns-3 : tie.Need-returns-3
-returns-3 c = by c.before.before Nowhere c.enum_told.given.1
+returns-3 : tie.Need-returns-in_default
+returns-3 c = by c.before Nowhere c.in_default.is
 
-add-t4 : tie.Need-overflow-add-t4
+add-t4 : tie.Need-overflow_add-result
 add-t4 c = omega (arith, within c)
 
-add-t12 : tie.Need-overflow-add-t12
+add-t12 : tie.Need-overflow_add-result-2
 add-t12 c = omega (arith, within c)
 
-returns-4 : tie.Need-returns-4
+returns-4 : tie.Need-returns
 returns-4 c =
-    let place = c.before.from.given in
-    by c.before.before.before (Between place.0.0 place.0.1.0) place.1
+    let place = c.in-Between.from.given in
+    by c.before (Between place.0.0 place.0.1.0) place.1
 
-pub unit-past-space-spec : {M : Type 1} → statement M
-unit-past-space-spec =
+pub unit_past_space_spec : {M : Type 1} → statement M
+unit_past_space_spec =
     tie.close
     (tie.spec
     returns

@@ -10,19 +10,19 @@ use borrow.Author.Rules.{rules}
 use Rattle.widrekas.proofs.widrekas_write.Statement.{statement}
 use Rattle.widrekas.proofs.widrekas_write.Tie as tie
 
-write-into-requires : tie.Need-write-into-requires
+write-into-requires : tie.Need-write_into-requires
 write-into-requires c κs = search rules
 
-same_length : tie.Need-same-length
+same_length : tie.Need-shape_of-block
 same_length c = search rules
 
 returns : tie.Need-returns
 returns c =
     let start = c.before.before.before.before.before.before.before.before.before in
     let a = start.args in
-    c.before.before.write-into.ensures
+    c.write_into.ensures
     ∙ number-asked (λ (v : Value). write_of a.name.now v a.text.now (comment_of (is_set a.commented) a.comment.now))
     a.kind (is_set a.flag) a.block.now a.count.now (to_z-of_z start.ranges.number)
 
-pub widrekas-write-spec : {M : Type 1} → statement M
-widrekas-write-spec = tie.close (tie.spec write-into-requires same_length returns)
+pub widrekas_write_spec : {M : Type 1} → statement M
+widrekas_write_spec = tie.close (tie.spec write-into-requires same_length returns)

@@ -11,18 +11,18 @@ use borrow.Author.Rules.{rules}
 use Rattle.writing.proofs.exceeds.Statement.{statement}
 use Rattle.writing.proofs.exceeds.Tie as tie
 
-returns : tie.Need-returns
+returns : tie.Need-returns-then-room-s
 returns c =
-    let a = c.before.before.args in
-    sym (lt-ltb a.room (length (doubled a.s.now)) (omega (arith, c.if1.true, doubled_longer a.s.now)))
+    let a = c.args in
+    sym (lt-ltb a.room (length (doubled a.s.now)) (omega (arith, c.if-room-s.true, doubled_longer a.s.now)))
 
-fitting-length-requires : tie.Need-fitting-length-requires
+fitting-length-requires : tie.Need-fitting_length-requires
 fitting-length-requires c κs = search rules
 
-returns-2 : tie.Need-returns-2
+returns-2 : tie.Need-returns
 returns-2 c =
-    let a = c.before.before.before.args in
-    ap (λ (n : ℕ). ltb n (length a.s.now)) c.fitting-length.ensures ∙ exceeds_is a.room a.s.now
+    let a = c.args in
+    ap (λ (n : ℕ). ltb n (length a.s.now)) c.fitting_length.ensures ∙ exceeds_is a.room a.s.now
 
-pub exceeds-spec : {M : Type 1} → statement M
-exceeds-spec = tie.close (tie.spec returns fitting-length-requires returns-2)
+pub exceeds_spec : {M : Type 1} → statement M
+exceeds_spec = tie.close (tie.spec returns fitting-length-requires returns-2)

@@ -30,38 +30,38 @@ module _ (b : ℕ) where
     unfolding is_capital is_name_byte
     underscore f h = rw (e, f, ne_eqb b _ h)
 
-is-capital-requires : tie.Need-is-capital-requires
+is-capital-requires : tie.Need-is_capital-requires
 is-capital-requires c κs = search rules
 
-returns : tie.Need-returns
+returns : tie.Need-returns-then-is_capital
 returns c =
     let asked = c.before in
-    capital asked.before.args.b (sym asked.is-capital.ensures ∙ c.if1.true)
+    capital asked.args.b (sym asked.is_capital.ensures ∙ c.if-is_capital.true)
 
-is-digit-requires : tie.Need-is-digit-requires
+is-digit-requires : tie.Need-is_digit-requires
 is-digit-requires c κs = search rules
 
 -- what is known where the digits are asked for
-abbrev byte : tie.After-is-digit → ℕ
-byte c = c.before.before.before.args.b
+abbrev byte : tie.After-is_digit → ℕ
+byte c = c.args.b
 
-not-capital : (c : tie.After-is-digit) → is_capital (byte c) ≡ false
-not-capital c = sym c.before.before.is-capital.ensures ∙ c.before.if1.false
+not-capital : (c : tie.After-is_digit) → is_capital (byte c) ≡ false
+not-capital c = sym c.is_capital.ensures ∙ c.if-is_capital.false
 
-returns-2 : tie.Need-returns-2
+returns-2 : tie.Need-returns-then-is_digit
 returns-2 c =
     let d = c.before in
-    digit (byte d) (not-capital d) (sym d.is_digit.ensures ∙ c.if2.true)
+    digit (byte d) (not-capital d) (sym d.is_digit.ensures ∙ c.if-is_digit.true)
 
-returns-3 : tie.Need-returns-3
+returns-3 : tie.Need-returns-then-b-eq45
 returns-3 c =
     let d = c.before.before in
-    hyphen (byte d) (not-capital d) (sym d.is_digit.ensures ∙ c.before.if2.false) c.if3.true
+    hyphen (byte d) (not-capital d) (sym d.is_digit.ensures ∙ c.if-is_digit.false) c.if-b-eq45.true
 
-returns-4 : tie.Need-returns-4
+returns-4 : tie.Need-returns
 returns-4 c =
     let d = c.before.before in
-    underscore (byte d) (not-capital d) (sym d.is_digit.ensures ∙ c.before.if2.false) c.if3.false
+    underscore (byte d) (not-capital d) (sym d.is_digit.ensures ∙ c.if-is_digit.false) c.if-b-eq45.false
 
-pub is-name-byte-spec : {M : Type 1} → statement M
-is-name-byte-spec = tie.close (tie.spec is-capital-requires returns is-digit-requires returns-2 returns-3 returns-4)
+pub is_name_byte_spec : {M : Type 1} → statement M
+is_name_byte_spec = tie.close (tie.spec is-capital-requires returns is-digit-requires returns-2 returns-3 returns-4)

@@ -10,24 +10,24 @@ use borrow.Author.Rules.{rules}
 use Rattle.writing.proofs.is_remark.Statement.{statement}
 use Rattle.writing.proofs.is_remark.Tie as tie
 
-every-byte-requires : tie.Need-every-byte-requires
+every-byte-requires : tie.Need-every_byte-requires
 every-byte-requires c κs = search rules
 
-returns : tie.Need-returns
+returns : tie.Need-returns-then-not-every_byte
 returns c =
     let asked = c.before in
-    sym (remark_odd asked.before.before.args.comment.now (sym asked.every_byte.ensures ∙ not-true _ c.if1.true))
+    sym (remark_odd asked.args.comment.now (sym asked.every_byte.ensures ∙ not-true _ c.if-not-every_byte.true))
 
-last-of-requires : tie.Need-last-of-requires
+last-of-requires : tie.Need-last_of-requires
 last-of-requires c κs = search rules
 
-returns-2 : tie.Need-returns-2
+returns-2 : tie.Need-returns
 unfolding ends_with
 returns-2 c =
     let asked = c.before.before in
-    let s = asked.before.before.args.comment.now in
-    let good = sym asked.every_byte.ensures ∙ not-false _ c.before.if1.false in
+    let s = asked.args.comment.now in
+    let good = sym asked.every_byte.ensures ∙ not-false _ c.if-not-every_byte.false in
     ap (λ (b : ℕ). not (eqb b 32)) c.last_of.ensures ∙ sym (remark_end s good)
 
-pub is-remark-spec : {M : Type 1} → statement M
-is-remark-spec = tie.close (tie.spec every-byte-requires returns last-of-requires returns-2)
+pub is_remark_spec : {M : Type 1} → statement M
+is_remark_spec = tie.close (tie.spec every-byte-requires returns last-of-requires returns-2)

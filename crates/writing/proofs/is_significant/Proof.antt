@@ -9,29 +9,29 @@ use borrow.Author.Rules.{rules}
 use Rattle.writing.proofs.is_significant.Statement.{statement}
 use Rattle.writing.proofs.is_significant.Tie as tie
 
-every-byte-requires : tie.Need-every-byte-requires
+every-byte-requires : tie.Need-every_byte-requires
 every-byte-requires c κs = search rules
 
-returns : tie.Need-returns
+returns : tie.Need-returns-then-not-every_byte
 returns c =
     let asked = c.before in
-    sym (digits_odd asked.before.before.args.digits.now (sym asked.every_byte.ensures ∙ not-true _ c.if1.true))
+    sym (digits_odd asked.args.digits.now (sym asked.every_byte.ensures ∙ not-true _ c.if-not-every_byte.true))
 
 trimmed-requires : tie.Need-trimmed-requires
 trimmed-requires c κs = search rules
 
-same-bytes-requires : tie.Need-same-bytes-requires
+same-bytes-requires : tie.Need-same_bytes-requires
 same-bytes-requires c κs = search rules
 
-returns-2 : tie.Need-returns-2
+returns-2 : tie.Need-returns
 returns-2 c =
     let cut = c.before in
     let asked = cut.before.before in
-    let d = asked.before.before.args.digits.now in
+    let d = asked.args.digits.now in
     c.same_bytes.ensures
     ∙ ap (λ (l : List ℕ). same l d) cut.trimmed.ensures
-    ∙ sym (digits_ends d (sym asked.every_byte.ensures ∙ not-false _ cut.before.if1.false))
+    ∙ sym (digits_ends d (sym asked.every_byte.ensures ∙ not-false _ cut.if-not-every_byte.false))
 
-pub is-significant-spec : {M : Type 1} → statement M
-is-significant-spec =
+pub is_significant_spec : {M : Type 1} → statement M
+is_significant_spec =
     tie.close (tie.spec every-byte-requires returns trimmed-requires same-bytes-requires returns-2)

@@ -11,17 +11,17 @@ none : (s : List ℕ) → length s ≡ 0 → 0 ≡ get_or s (length s - 1) 0
 none [] e = refl
 none (b ∷ s) e = absurd (omega arith)
 
-returns : tie.Need-returns
-returns c = none c.before.args.s.now c.if1.true
+returns : tie.Need-returns-then-s-eq0
+returns c = none c.args.s.now c.if-s-eq0.true
 
-sub-result : tie.Need-overflow-sub-result
+sub-result : tie.Need-overflow_sub-result
 sub-result c = search rules
 
-shared-slice-read-result : tie.Need-shared-slice-read-result
+shared-slice-read-result : tie.Need-bounds-s-s
 shared-slice-read-result c = search rules
 
-returns-2 : tie.Need-returns-2
+returns-2 : tie.Need-returns
 returns-2 c = search rules
 
-pub last-of-spec : {M : Type 1} → statement M
-last-of-spec = tie.close (tie.spec returns sub-result shared-slice-read-result returns-2)
+pub last_of_spec : {M : Type 1} → statement M
+last_of_spec = tie.close (tie.spec returns sub-result shared-slice-read-result returns-2)

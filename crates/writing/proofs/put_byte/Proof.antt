@@ -10,47 +10,47 @@ use borrow.Author.Rules.{rules}
 use Rattle.writing.proofs.put_byte.Statement.{statement}
 use Rattle.writing.proofs.put_byte.Tie as tie
 
-slice-write-block : tie.Need-slice-write-block
+slice-write-block : tie.Need-bounds-block-at
 slice-write-block c = omega (arith, bytes-some c.args.b, c.requires)
 
-add-block : tie.Need-overflow-add-block
+add-block : tie.Need-overflow_add-block
 add-block c = search rules
 
-slice-write-block-2 : tie.Need-slice-write-block-2
+slice-write-block-2 : tie.Need-bounds-block-at-then-b-eq-QUOTE
 slice-write-block-2 c =
-    let a = c.before.args in
-    simp length-set (omega (arith, quote_bytes a.b c.if1.true, c.before.requires))
+    let a = c.args in
+    simp length-set (omega (arith, quote_bytes a.b c.if-b-eq-QUOTE.true, c.requires))
 
-add-result : tie.Need-overflow-add-result
+add-result : tie.Need-overflow_add-result
 add-result c = search rules
 
-same_length : tie.Need-same-length
+same_length : tie.Need-shape_of-block-then-b-eq-QUOTE
 same_length c = search rules
 
-returns : tie.Need-returns
+returns : tie.Need-returns-then-b-eq-QUOTE
 returns c =
-    let a = c.before.args in
-    let is = quote_twice a.b c.if1.true in (
-      ap (λ (n : ℕ). a.at + n) (sym (quote_bytes a.b c.if1.true)),
+    let a = c.args in
+    let is = quote_twice a.b c.if-b-eq-QUOTE.true in (
+      ap (λ (n : ℕ). a.at + n) (sym (quote_bytes a.b c.if-b-eq-QUOTE.true)),
       ap (λ (k : ℕ). set (set a.block.now a.at a.b) k 39) (add-one a.at) ∙ sym (ap (sets a.block.now a.at) is),
     )
 
-add-result-2 : tie.Need-overflow-add-result-2
+add-result-2 : tie.Need-overflow_add-result-2
 add-result-2 c = search rules
 
-same-length-2 : tie.Need-same-length-2
+same-length-2 : tie.Need-shape_of-block
 same-length-2 c = search rules
 
-returns-2 : tie.Need-returns-2
+returns-2 : tie.Need-returns
 returns-2 c =
-    let a = c.before.args in
-    let is = other-once a.b c.if1.false in (
-      ap (λ (n : ℕ). a.at + n) (sym (other-bytes a.b c.if1.false)),
+    let a = c.args in
+    let is = other-once a.b c.if-b-eq-QUOTE.false in (
+      ap (λ (n : ℕ). a.at + n) (sym (other-bytes a.b c.if-b-eq-QUOTE.false)),
       sym (ap (sets a.block.now a.at) is),
     )
 
-pub put-byte-spec : {M : Type 1} → statement M
-put-byte-spec =
+pub put_byte_spec : {M : Type 1} → statement M
+put_byte_spec =
     tie.close
     (tie.spec
     slice-write-block

@@ -9,91 +9,91 @@ use borrow.Author.Rules.{rules}
 use Rattle.writing.proofs.put_each.Statement.{statement}
 use Rattle.writing.proofs.put_each.Tie as tie
 
-abbrev invariant-loop : tie.invariant-loop
+abbrev invariant-loop : tie.invariant-loop-i
 invariant-loop s room block₀ at end j₀ i₀ block j i = Filling s block₀ room at end block j i
 
-abbrev decreases-loop : tie.decreases-loop
+abbrev decreases-loop : tie.decreases-loop-i
 decreases-loop s room block₀ at end j₀ i₀ block j i = length s - i
 
 -- where the room ends
-abbrev end_of : tie.At-loop invariant-loop decreases-loop → ℕ
-end_of l = l.before.before.before.args.at + l.before.before.before.args.room
+abbrev end_of : tie.At-loop-i invariant-loop decreases-loop → ℕ
+end_of l = l.args.at + l.args.room
 
-add-end : tie.Need-overflow-add-end invariant-loop decreases-loop
+add-end : tie.Need-overflow_add-end invariant-loop decreases-loop
 add-end c = search rules
 
-loop-holds : tie.Need-loop-init invariant-loop decreases-loop
+loop-holds : tie.Need-loop-i-init invariant-loop decreases-loop
 loop-holds c = fills _ _ _ _
 
-shared-slice-read-bytes-for : tie.Need-shared-slice-read-bytes-for invariant-loop decreases-loop
+shared-slice-read-bytes-for : tie.Need-bounds-s-i invariant-loop decreases-loop
 shared-slice-read-bytes-for c = search rules
 
-bytes-for-requires : tie.Need-bytes-for-requires invariant-loop decreases-loop
+bytes-for-requires : tie.Need-bytes_for-requires invariant-loop decreases-loop
 bytes-for-requires c κs = search rules
 
-sub-if1 : tie.Need-overflow-sub-if1 invariant-loop decreases-loop
-sub-if1 c = c.before.before.before.loop.invariant.below
+sub-if1 : tie.Need-overflow_sub-end invariant-loop decreases-loop
+sub-if1 c = c.loop-i.invariant.below
 
-shared-slice-read-put-byte : tie.Need-shared-slice-read-put-byte invariant-loop decreases-loop
+shared-slice-read-put-byte : tie.Need-bounds-s-i-in-loop-i invariant-loop decreases-loop
 shared-slice-read-put-byte c = search rules
 
-put-byte-requires : tie.Need-put-byte-requires invariant-loop decreases-loop
+put-byte-requires : tie.Need-put_byte-j-requires invariant-loop decreases-loop
 put-byte-requires c κs =
     let test = c.before.before in
     let f = test.before in
     let l = f.before.before.before in
-    let s = l.before.before.before.args.s.now in
-    let b = get_or s l.loop.i 0 in
-    let fit : bytes_for b ≤ end_of l - l.loop.j =
-    rw f.bytes-for.ensures at (leb-true f.bytes-for.result (end_of l - l.loop.j) test.if1.true) in
-    omega (arith, fit, l.loop.invariant.below, l.loop.invariant.long, l.before.before.before.requires)
+    let s = l.args.s.now in
+    let b = get_or s l.loop-i.i 0 in
+    let fit : bytes_for b ≤ end_of l - l.loop-i.j =
+    rw f.bytes_for.ensures at (leb-true f.bytes_for.result (end_of l - l.loop-i.j) test.if-bytes_for-end.true) in
+    omega (arith, fit, l.loop-i.invariant.below, l.loop-i.invariant.long, l.requires)
 
-add-i : tie.Need-overflow-add-i invariant-loop decreases-loop
+add-i : tie.Need-overflow_add-i invariant-loop decreases-loop
 add-i c = search rules
 
-loop-less : tie.Need-loop-smaller invariant-loop decreases-loop
+loop-less : tie.Need-loop-i-smaller invariant-loop decreases-loop
 loop-less c = search rules
 
-loop-again : tie.Need-loop-preserved invariant-loop decreases-loop
+loop-again : tie.Need-loop-i-preserved invariant-loop decreases-loop
 loop-again c =
     let put = c.before.before in
     let test = put.before.before.before in
     let f = test.before in
     let l = f.before.before.before in
-    let s = l.before.before.before.args.s.now in
-    let b = get_or s l.loop.i 0 in
-    let fit : bytes_for b ≤ end_of l - l.loop.j =
-    rw f.bytes-for.ensures at (leb-true f.bytes-for.result (end_of l - l.loop.j) test.if1.true) in
-    let more = f.before.before.loop-test.true in
-    fills_on l.loop.invariant more fit put.put_byte.ensures.0 (search rules) put.put_byte.ensures.1
+    let s = l.args.s.now in
+    let b = get_or s l.loop-i.i 0 in
+    let fit : bytes_for b ≤ end_of l - l.loop-i.j =
+    rw f.bytes_for.ensures at (leb-true f.bytes_for.result (end_of l - l.loop-i.j) test.if-bytes_for-end.true) in
+    let more = f.loop-i-test.true in
+    fills_on l.loop-i.invariant more fit put.put_byte-j.ensures.0 (search rules) put.put_byte-j.ensures.1
 
-same_length : tie.Need-same-length invariant-loop decreases-loop
+same_length : tie.Need-shape_of-block-else-bytes_for-end invariant-loop decreases-loop
 same_length c = search rules
 
-returns : tie.Need-returns invariant-loop decreases-loop
+returns : tie.Need-returns-else-bytes_for-end invariant-loop decreases-loop
 returns c =
     let f = c.before in
     let l = f.before.before.before in
-    let s = l.before.before.before.args.s.now in
-    let b = get_or s l.loop.i 0 in
-    let over : end_of l - l.loop.j < bytes_for b =
-    rw f.bytes-for.ensures at (leb-false f.bytes-for.result (end_of l - l.loop.j) c.if1.false) in
-    let none = fit_stop s (end_of l - l.loop.j) l.loop.i f.before.before.loop-test.true over in
-    let v = l.loop.invariant in
+    let s = l.args.s.now in
+    let b = get_or s l.loop-i.i 0 in
+    let over : end_of l - l.loop-i.j < bytes_for b =
+    rw f.bytes_for.ensures at (leb-false f.bytes_for.result (end_of l - l.loop-i.j) c.if-bytes_for-end.false) in
+    let none = fit_stop s (end_of l - l.loop-i.j) l.loop-i.i f.loop-i-test.true over in
+    let v = l.loop-i.invariant in
     (filled-count v none, (filled-place v none, filled-bytes v none))
 
-same-length-2 : tie.Need-same-length-2 invariant-loop decreases-loop
+same-length-2 : tie.Need-shape_of-block-after-loop-i invariant-loop decreases-loop
 same-length-2 c = search rules
 
-returns-2 : tie.Need-returns-2 invariant-loop decreases-loop
+returns-2 : tie.Need-returns-after-loop-i invariant-loop decreases-loop
 returns-2 c =
     let l = c.before in
-    let none = fit_end l.before.before.before.args.s.now (end_of l - l.loop.j) l.loop.i c.loop-test.false in
-    let v = l.loop.invariant in
+    let none = fit_end l.args.s.now (end_of l - l.loop-i.j) l.loop-i.i c.loop-i-test.false in
+    let v = l.loop-i.invariant in
     (filled-count v none, (filled-place v none, filled-bytes v none))
 
-pub put-each-spec : {M : Type 1} → statement M
-put-each-spec =
+pub put_each_spec : {M : Type 1} → statement M
+put_each_spec =
     tie.close
     (tie.spec
     invariant-loop

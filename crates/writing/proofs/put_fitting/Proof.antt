@@ -14,49 +14,49 @@ use borrow.Author.Rules.{rules}
 use Rattle.writing.proofs.put_fitting.Statement.{statement}
 use Rattle.writing.proofs.put_fitting.Tie as tie
 
-first-of-requires : tie.Need-first-of-requires
+first-of-requires : tie.Need-first_of-part-requires
 first-of-requires c κs = search rules
 
-every-byte-requires : tie.Need-every-byte-requires
+every-byte-requires : tie.Need-every_byte-requires
 every-byte-requires c κs = search rules
 
-put-each-requires : tie.Need-put-each-requires
+put-each-requires : tie.Need-put_each-requires
 put-each-requires c κs = search rules
 
-same_length : tie.Need-same-length
+same_length : tie.Need-shape_of-block-then-not-every_byte
 same_length c = search rules
 
-returns : tie.Need-returns
+returns : tie.Need-returns-then-not-every_byte
 returns c = search rules
 
-put-at-requires : tie.Need-put-at-requires
+put-at-requires : tie.Need-put_at-requires
 put-at-requires c κs = search rules
 
-add-end : tie.Need-overflow-add-end
+add-end : tie.Need-overflow_add-end
 add-end c = search rules
 
-same-length-2 : tie.Need-same-length-2
+same-length-2 : tie.Need-shape_of-block
 same-length-2 c = search rules
 
-returns-2 : tie.Need-returns-2
+returns-2 : tie.Need-returns
 returns-2 c =
     let put = c.before.before in
     let known = put.before.before in
     let asked = known.before in
     let f = asked.before in
-    let a = f.before.before.before.args in
+    let a = f.args in
     let t = take a.room a.s.now in
-    let bare = sym asked.every_byte.ensures ∙ not-false _ known.if1.false in
-    let part : every is_bare t ≡ true = sym (ap (every is_bare) f.first_of.ensures) ∙ bare in
+    let bare = sym asked.every_byte.ensures ∙ not-false _ known.if-not-every_byte.false in
+    let part : every is_bare t ≡ true = sym (ap (every is_bare) f.first_of-part.ensures) ∙ bare in
     let fit : fitting a.room a.s.now ≡ t = bare_fitting a.room a.s.now part in
-    let is : f.first_of.result.now ≡ doubled (fitting a.room a.s.now) =
-    f.first_of.ensures ∙ sym (ap doubled fit ∙ bare_doubled t part) in (
-      ap length (f.first_of.ensures ∙ sym fit),
-      (ap (λ (l : List ℕ). a.at + length l) is, put.put-at.ensures ∙ ap (sets a.block.now a.at) is),
+    let is : f.first_of-part.result.now ≡ doubled (fitting a.room a.s.now) =
+    f.first_of-part.ensures ∙ sym (ap doubled fit ∙ bare_doubled t part) in (
+      ap length (f.first_of-part.ensures ∙ sym fit),
+      (ap (λ (l : List ℕ). a.at + length l) is, put.put_at.ensures ∙ ap (sets a.block.now a.at) is),
     )
 
-pub put-fitting-spec : {M : Type 1} → statement M
-put-fitting-spec =
+pub put_fitting_spec : {M : Type 1} → statement M
+put_fitting_spec =
     tie.close
     (tie.spec
     first-of-requires

@@ -16,7 +16,7 @@ use borrow.Author.Rules.{rules}
 use Rattle.writing.proofs.put_last.Statement.{statement}
 use Rattle.writing.proofs.put_last.Tie as tie
 
-abbrev start : tie.After-tail-length → tie.Start
+abbrev start : tie.After-tail_length-room → tie.Start
 start c = c.before.before.before.before
 
 -- what the characters and the comment take
@@ -28,21 +28,18 @@ room c =
     let own = comment_of a.commented a.comment.now in
     omega (arith, last-length a.s.now own, leb-true (length (piece_text (last_piece a.s.now own))) 70 c.requires.0)
 
-tail-length-requires : tie.Need-tail-length-requires
+tail-length-requires : tie.Need-tail_length-room-requires
 tail-length-requires c κs = omega (arith, room c.before.before.before)
 
-sub-room : tie.Need-overflow-sub-room
-sub-room c = omega (arith, c.tail-length.ensures, room (start c))
+sub-room : tie.Need-overflow_sub-room
+sub-room c = omega (arith, c.tail_length-room.ensures, room (start c))
 
-slice-aggregate-put-piece : tie.Need-slice-aggregate-put-piece
-slice-aggregate-put-piece c = search rules
-
-put-piece-requires : tie.Need-put-piece-requires
+put-piece-requires : tie.Need-put_piece-requires
 put-piece-requires c κs =
     let t = c.before.before in
-    (omega (arith, t.tail-length.ensures, room (start t)), (start t).requires.1)
+    (omega (arith, t.tail_length-room.ensures, room (start t)), (start t).requires.1)
 
-same_length : tie.Need-same-length
+same_length : tie.Need-shape_of-block
 same_length c = search rules
 
 returns : tie.Need-returns
@@ -52,18 +49,17 @@ returns c =
     let a = (start t).args in
     let s = a.s.now in
     let own = comment_of a.commented a.comment.now in
-    let whole = fits_whole (68 - t.tail-length.result) s (omega (arith, t.tail-length.ensures, room (start t))) in
-    piece.put-piece.ensures.1
+    let whole = fits_whole (68 - t.tail_length-room.result) s (omega (arith, t.tail_length-room.ensures, room (start t))) in
+    piece.put_piece.ensures.1
     ∙ ap (λ (l : List ℕ). sets a.block.now a.at (body_of (closed_by (ascii "'") l own))) whole
     ∙ ap (λ (l : List ℕ). sets a.block.now a.at (body_of l)) (sym (last-text s own))
 
-pub put-last-spec : {M : Type 1} → statement M
-put-last-spec =
+pub put_last_spec : {M : Type 1} → statement M
+put_last_spec =
     tie.close
     (tie.spec
     tail-length-requires
     sub-room
-    slice-aggregate-put-piece
     put-piece-requires
     same_length
     returns)

@@ -5,22 +5,22 @@ use borrow.Author.Rules.{rules}
 use Rattle.writing.proofs.put_name.Statement.{statement}
 use Rattle.writing.proofs.put_name.Tie as tie
 
-put-at-requires : tie.Need-put-at-requires
+put-at-requires : tie.Need-put_at-requires
 put-at-requires c κs = search rules
 
-put-spaces-requires : tie.Need-put-spaces-requires
+put-spaces-requires : tie.Need-put_spaces-requires
 put-spaces-requires c κs = search rules
 
-slice-write-block : tie.Need-slice-write-block
+slice-write-block : tie.Need-bounds-block-8
 slice-write-block c = search rules
 
-add-block : tie.Need-overflow-add-block
+add-block : tie.Need-overflow_add-block
 add-block c = search rules
 
-slice-write-block-2 : tie.Need-slice-write-block-2
+slice-write-block-2 : tie.Need-bounds-block
 slice-write-block-2 c = search rules
 
-same_length : tie.Need-same-length
+same_length : tie.Need-shape_of-block
 same_length c = simp length-set (search rules)
 
 returns : tie.Need-returns
@@ -28,10 +28,10 @@ returns c =
     let spaces = c.before.before in
     let put = spaces.before.before.before.before in
     let start = put.before.before.before.before in
-    name-put start.args.block.now start.args.name.now start.requires.0 put.put-at.ensures spaces.put-spaces.ensures
+    name-put start.args.block.now start.args.name.now start.requires.0 put.put_at.ensures spaces.put_spaces.ensures
 
-pub put-name-spec : {M : Type 1} → statement M
-put-name-spec =
+pub put_name_spec : {M : Type 1} → statement M
+put_name_spec =
     tie.close
     (tie.spec
     put-at-requires

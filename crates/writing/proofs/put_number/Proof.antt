@@ -11,22 +11,22 @@ use borrow.Author.Rules.{rules}
 use Rattle.writing.proofs.put_number.Statement.{statement}
 use Rattle.writing.proofs.put_number.Tie as tie
 
-margin-requires : tie.Need-margin-requires
+margin-requires : tie.Need-margin-start-requires
 margin-requires c κs = search rules
 
-add_start : tie.Need-overflow-add-start
+add_start : tie.Need-overflow_add-start
 add_start c = search rules
 
-put-spaces-requires : tie.Need-put-spaces-requires
+put-spaces-requires : tie.Need-put_spaces-requires
 put-spaces-requires c κs = search rules
 
-put-at-requires : tie.Need-put-at-requires
+put-at-requires : tie.Need-put_at-requires
 put-at-requires c κs = search rules
 
-add-put-tail : tie.Need-overflow-add-put-tail
+add-put-tail : tie.Need-overflow_add-start-2
 add-put-tail c = search rules
 
-put-tail-requires : tie.Need-put-tail-requires
+put-tail-requires : tie.Need-put_tail-requires
 put-tail-requires c κs =
     let put = c.before.before.before in
     let m = put.before.before.before.before.before.before in
@@ -34,9 +34,9 @@ put-tail-requires c κs =
     let t = start.args.t.now in
     let own = comment_of start.args.commented start.args.comment.now in
     let fit = leb-true (length (plain_text t own)) 70 start.requires.0 in
-    (omega (arith, m.margin.ensures, plain_length t own, fit), omega (arith, start.requires.1))
+    (omega (arith, m.margin-start.ensures, plain_length t own, fit), omega (arith, start.requires.1))
 
-same_length : tie.Need-same-length
+same_length : tie.Need-shape_of-block
 same_length c = search rules
 
 returns : tie.Need-returns
@@ -45,13 +45,13 @@ returns c =
     let put = tail.before.before.before.before in
     let spaces = put.before.before.before.before in
     let m = spaces.before.before in
-    let a = m.before.before.before.before.args in
+    let a = m.args in
     let own = comment_of a.commented a.comment.now in
-    let place = ap (λ (n : ℕ). 10 + n) m.margin.ensures in
-    number_put a.block.now a.t.now own place spaces.put-spaces.ensures put.put-at.ensures tail.put-tail.ensures
+    let place = ap (λ (n : ℕ). 10 + n) m.margin-start.ensures in
+    number_put a.block.now a.t.now own place spaces.put_spaces.ensures put.put_at.ensures tail.put_tail.ensures
 
-pub put-number-spec : {M : Type 1} → statement M
-put-number-spec =
+pub put_number_spec : {M : Type 1} → statement M
+put_number_spec =
     tie.close
     (tie.spec
     margin-requires

@@ -15,46 +15,34 @@ use borrow.Author.Rules.{rules}
 use Rattle.writing.proofs.put_open.Statement.{statement}
 use Rattle.writing.proofs.put_open.Tie as tie
 
-slice-aggregate-put-piece : tie.Need-slice-aggregate-put-piece
-slice-aggregate-put-piece c = search rules
-
-slice-aggregate-put-piece-2 : tie.Need-slice-aggregate-put-piece-2
-slice-aggregate-put-piece-2 c = search rules
-
-put-piece-requires : tie.Need-put-piece-requires
+put-piece-requires : tie.Need-put_piece-taken-requires
 put-piece-requires c κs = search rules
 
-slice-aggregate-put-at : tie.Need-slice-aggregate-put-at
-slice-aggregate-put-at c = search rules
-
-add-put-at : tie.Need-overflow-add-put-at
+add-put-at : tie.Need-overflow_add-at
 add-put-at c = search rules
 
-put-at-requires : tie.Need-put-at-requires
+put-at-requires : tie.Need-put_at-requires
 put-at-requires c κs = search rules
 
-same_length : tie.Need-same-length
+same_length : tie.Need-shape_of-block
 same_length c = search rules
 
 returns : tie.Need-returns
 returns c =
     let put = c.before.before in
     let piece = put.before.before.before.before.before in
-    let a = piece.before.before.before.before.before.before.args in
+    let a = piece.args in
     let t = piece_text (open_piece a.s.now) in
     let d = a.block.now in
-    let body = piece.put-piece.ensures.1 ∙ ap (λ (l : List ℕ). sets d a.at (body_of l)) (sym (open_text a.s.now)) in
+    let body = piece.put_piece-taken.ensures.1 ∙ ap (λ (l : List ℕ). sets d a.at (body_of l)) (sym (open_text a.s.now)) in
     let there : a.at + 70 ≡ a.at + length (body_of t) = omega (arith, body_length t (open_fits a.s.now)) in
-    (piece.put-piece.ensures.0, sets_then d a.at (body_of t) continue_front body there put.put-at.ensures)
+    (piece.put_piece-taken.ensures.0, sets_then d a.at (body_of t) continue_front body there put.put_at.ensures)
 
-pub put-open-spec : {M : Type 1} → statement M
-put-open-spec =
+pub put_open_spec : {M : Type 1} → statement M
+put_open_spec =
     tie.close
     (tie.spec
-    slice-aggregate-put-piece
-    slice-aggregate-put-piece-2
     put-piece-requires
-    slice-aggregate-put-at
     add-put-at
     put-at-requires
     same_length

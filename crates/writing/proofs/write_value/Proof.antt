@@ -29,82 +29,82 @@ use borrow.Author.Rules.{rules}
 use Rattle.writing.proofs.write_value.Statement.{statement}
 use Rattle.writing.proofs.write_value.Tie as tie
 
-enum-known-value : tie.Need-enum-known-value
+enum-known-value : tie.Need-enum_known-value
 enum-known-value c = search rules
 
-integer-text-requires : tie.Need-integer-text-requires
+integer-text-requires : tie.Need-integer_text-requires
 integer-text-requires c κs = search rules
 
-write-plain-requires : tie.Need-write-plain-requires
+write-plain-requires : tie.Need-write_plain-requires
 write-plain-requires c κs = search rules
 
-enum-known-value-2 : tie.Need-enum-known-value-2
+enum-known-value-2 : tie.Need-enum_known-value-in-Float-1
 enum-known-value-2 c = search rules
 
-enum-known-size : tie.Need-enum-known-size
+enum-known-size : tie.Need-enum_known-size
 enum-known-size c = search rules
 
-write-decimal-requires : tie.Need-write-decimal-requires
+write-decimal-requires : tie.Need-write_decimal-requires
 write-decimal-requires c κs = search rules
 
-enum_told : tie.Need-enum-told
+enum_told : tie.Need-enum_told-1
 enum_told c = search rules
 
 refused-requires : tie.Need-refused-requires
 refused-requires c κs = search rules
 
-enum-told-2 : tie.Need-enum-told-2
+enum-told-2 : tie.Need-enum_told-in-Nan
 enum-told-2 c = search rules
 
-refused-requires-2 : tie.Need-refused-requires-2
+refused-requires-2 : tie.Need-refused-requires-in-Nan
 refused-requires-2 c κs = search rules
 
-enum-known-value-3 : tie.Need-enum-known-value-3
+enum-known-value-3 : tie.Need-enum_known-value-in-Logical-1
 enum-known-value-3 c = search rules
 
-truth-text-requires : tie.Need-truth-text-requires
+truth-text-requires : tie.Need-truth_text-requires
 truth-text-requires c κs = search rules
 
-write-plain-requires-2 : tie.Need-write-plain-requires-2
+write-plain-requires-2 : tie.Need-write_plain-requires-in-Logical
 write-plain-requires-2 c κs = search rules
 
-enum-told-3 : tie.Need-enum-told-3
+enum-told-3 : tie.Need-enum_told-in-String
 enum-told-3 c = search rules
 
-write-string-requires : tie.Need-write-string-requires
+write-string-requires : tie.Need-write_string-requires
 write-string-requires c κs = search rules
 
-enum-told-4 : tie.Need-enum-told-4
+enum-told-4 : tie.Need-enum_told-in-Undefined
 enum-told-4 c = search rules
 
-refused-requires-3 : tie.Need-refused-requires-3
+refused-requires-3 : tie.Need-refused-requires-in-Undefined
 refused-requires-3 c κs = search rules
 
-enum-told-5 : tie.Need-enum-told-5
+enum-told-5 : tie.Need-enum_told-in-Invalid
 enum-told-5 c = search rules
 
-refused-requires-4 : tie.Need-refused-requires-4
+refused-requires-4 : tie.Need-refused-requires-in-Invalid
 refused-requires-4 c κs = search rules
 
-same_length : tie.Need-same-length
+same_length : tie.Need-shape_of-block-in-Integer
 same_length c = search rules
 
-abbrev start : tie.After-slice-known → tie.Start
+abbrev start : tie.After-slice_known-1 → tie.Start
 start c = c.before.before.before.before
 
 -- what a kind comes to
-abbrev outcome : tie.After-slice-known → Value → WriteOutcome
+abbrev outcome : tie.After-slice_known-1 → Value → WriteOutcome
 outcome c v =
     let a = (start c).args in
     let o = comment_of a.commented a.comment.now in
     put_where (is_value v a.text.now o) (written_cards v a.name.now a.text.now o) a.block.now
 
 -- the kind that is known is the value's
-by : (c : tie.After-slice-known) (v : Value) → (start c).args.value ≡ v → outcome c v ≡ outcome c (start c).args.value
+by : (c : tie.After-slice_known-1) (v : Value) → (start c).args.value ≡ v → outcome c v ≡ outcome c (start c).args.value
 by c v e = ap (outcome c) (sym e)
 
 -- a kind that is never written
-refusal : (c : tie.After-slice-known) (v : Value) {r : WriteAnswer}
+refusal : (c : tie.After-slice_known-1) (v : Value) {r : WriteAnswer}
     → is_value v (start c).args.text.now (comment_of (start c).args.commented (start c).args.comment.now) ≡ false
     → (start c).args.value ≡ v → r ≡ Refused (fault_of UnwritableValue)
     → write_outcome r (start c).args.block.now ≡ outcome c (start c).args.value
@@ -113,96 +113,96 @@ refusal c v no_way e f =
     let o = comment_of a.commented a.comment.now in
     put_refused (is_value v a.text.now o) (written_cards v a.name.now a.text.now o) a.block.now no_way f ∙ by c v e
 
-returns : tie.Need-returns
+returns : tie.Need-returns-in-Integer
 returns c =
     let put = c.before.before in
     let made = put.before.before in
     let known = made.before in
-    let s = known.before.before.before in
+    let s = known.before in
     let a = (start s).args in
     let o = comment_of a.commented a.comment.now in
-    let z = known.before.value.given.0.0 in
+    let z = known.in-Integer.z in
     let t = signed_digits z in
-    let fit : SFits w64 z = record { sfits = known.known-told.given.0.1 } in
-    let digits = made.integer-text.ensures ∙ ap (λ (y : ℤ). text_of (signed_digits y)) (to_z-of_z fit) in
-    put.write-plain.ensures
+    let fit : SFits w64 z = record { sfits = known.in-Integer.known_told-1-own.given.0.1 } in
+    let digits = made.integer_text.ensures ∙ ap (λ (y : ℤ). text_of (signed_digits y)) (to_z-of_z fit) in
+    put.write_plain.ensures
     ∙ ap (λ (l : List ℕ). put_where (fits_card l o) (plain_cards a.name.now l o) a.block.now) (text-bytes t digits)
     ∙ sym (ap (λ (u : Bool). put_where (u && fits_card t o) (plain_cards a.name.now t o) a.block.now) (is_long_lem z fit))
-    ∙ by s (Integer z) known.before.value.given.1
+    ∙ by s (Integer z) known.in-Integer.is
 
-same-length-2 : tie.Need-same-length-2
+same-length-2 : tie.Need-shape_of-block-in-Finite
 same-length-2 c = search rules
 
-returns-2 : tie.Need-returns-2
+returns-2 : tie.Need-returns-in-Finite
 returns-2 c =
     let put = c.before.before in
     let known = put.before.before in
-    let value = known.before.before.before.before in
-    let s = value.before.before in
-    let minus = value.value2.given.0.0 in
-    let power = known.before.size.given.0.0 in
-    let fit : SFits w64 power = record { sfits = known.known-told3.given.0.1 } in
-    put.write-decimal.ensures
+    let value = known.before in
+    let s = value.before in
+    let minus = value.in-Float.minus in
+    let power = known.in-Finite.power in
+    let fit : SFits w64 power = record { sfits = known.in-Finite.known_told-in-Float-1-own.given.0.1 } in
+    put.write_decimal.ensures
     ∙ ap (λ (z : ℤ). outcome s (Float minus (Finite z))) (to_z-of_z fit)
-    ∙ by s (Float minus (Finite power)) (value.value2.given.1 ∙ ap (λ (z : Size). Float minus z) known.before.size.given.1)
+    ∙ by s (Float minus (Finite power)) (value.in-Float.is ∙ ap (λ (z : Size). Float minus z) known.in-Finite.is)
 
-returns-3 : tie.Need-returns-3
+returns-3 : tie.Need-returns-in-Infinite
 returns-3 c =
     let told = c.before in
-    let value = told.before.before.before in
-    let minus = value.value2.given.0.0 in
-    let is = value.value2.given.1 ∙ ap (λ (z : Size). Float minus z) told.enum_told.given.1 in
-    refusal value.before.before (Float minus Infinite) refl is c.refused.ensures
+    let value = told.before in
+    let minus = value.in-Float.minus in
+    let is = value.in-Float.is ∙ ap (λ (z : Size). Float minus z) told.in-Infinite.is in
+    refusal value.before (Float minus Infinite) refl is c.refused.ensures
 
-returns-4 : tie.Need-returns-4
+returns-4 : tie.Need-returns-in-Nan
 returns-4 c =
     let told = c.before in
-    let value = told.before.before.before in
-    let minus = value.value2.given.0.0 in
-    let is = value.value2.given.1 ∙ ap (λ (z : Size). Float minus z) told.enum-told2.given.1 in
-    refusal value.before.before (Float minus Nan) refl is c.refused2.ensures
+    let value = told.before in
+    let minus = value.in-Float.minus in
+    let is = value.in-Float.is ∙ ap (λ (z : Size). Float minus z) told.in-Nan.is in
+    refusal value.before (Float minus Nan) refl is c.refused-in-Nan.ensures
 
-same-length-3 : tie.Need-same-length-3
+same-length-3 : tie.Need-shape_of-block-in-Logical
 same-length-3 c = search rules
 
-returns-5 : tie.Need-returns-5
+returns-5 : tie.Need-returns-in-Logical
 returns-5 c =
     let put = c.before.before in
     let made = put.before.before in
     let known = made.before in
-    let s = known.before.before.before in
+    let s = known.before in
     let a = (start s).args in
     let o = comment_of a.commented a.comment.now in
-    let t = known.before.value3.given.0.0 in
-    put.write-plain2.ensures
+    let t = known.in-Logical.t in
+    put.write_plain-in-Logical.ensures
     ∙ ap (λ (l : List ℕ). put_where (fits_card l o) (plain_cards a.name.now l o) a.block.now)
-    (text-bytes (truth_text t) made.truth-text.ensures)
-    ∙ by s (Logical t) known.before.value3.given.1
+    (text-bytes (truth_text t) made.truth_text.ensures)
+    ∙ by s (Logical t) known.in-Logical.is
 
-same-length-4 : tie.Need-same-length-4
+same-length-4 : tie.Need-shape_of-block-in-String
 same-length-4 c = search rules
 
-returns-6 : tie.Need-returns-6
+returns-6 : tie.Need-returns-in-String
 returns-6 c =
     let put = c.before.before in
     let told = put.before.before in
-    let s = told.before.before in
-    put.write-string.ensures ∙ by s String told.enum-told3.given.1
+    let s = told.before in
+    put.write_string.ensures ∙ by s String told.in-String.is
 
-returns-7 : tie.Need-returns-7
+returns-7 : tie.Need-returns-in-Undefined
 returns-7 c =
     let told = c.before in
-    let s = told.before.before in
-    refusal s Undefined refl told.enum-told4.given.1 c.refused3.ensures
+    let s = told.before in
+    refusal s Undefined refl told.in-Undefined.is c.refused-in-Undefined.ensures
 
-returns-8 : tie.Need-returns-8
+returns-8 : tie.Need-returns-in-Invalid
 returns-8 c =
     let told = c.before in
-    let s = told.before.before in
-    refusal s Invalid refl told.enum-told5.given.1 c.refused4.ensures
+    let s = told.before in
+    refusal s Invalid refl told.in-Invalid.is c.refused-in-Invalid.ensures
 
-pub write-value-spec : {M : Type 1} → statement M
-write-value-spec =
+pub write_value_spec : {M : Type 1} → statement M
+write_value_spec =
     tie.close
     (tie.spec
     enum-known-value

@@ -9,73 +9,73 @@ use Rattle.rice.proofs.Reaching.{field-some, reach-start}
 use Rattle.rice.proofs.Cursor.easy.Statement.{statement}
 use Rattle.rice.proofs.Cursor.easy.Tie as tie
 
-add-if1 : tie.Need-overflow-add-if1
+add-if1 : tie.Need-overflow_add-bit
 add-if1 c = search rules
 
-returns : tie.Need-returns
-returns c = reach-start c.before.before.requires
+returns : tie.Need-returns-then-tile-bit
+returns c = reach-start c.requires
 
 window-requires : tie.Need-window-requires
 window-requires c κs = search rules
 
-fs-bits-requires : tie.Need-fs-bits-requires
+fs-bits-requires : tie.Need-fs_bits-requires
 fs-bits-requires c κs = search rules
 
-sub-field : tie.Need-overflow-sub-field
-sub-field c = omega (arith, c.fs-bits.ensures, (sizes c.before.before.before.before.args.width).field)
+sub-field : tie.Need-overflow_sub-field
+sub-field c = omega (arith, c.fs_bits.ensures, (sizes c.args.width).field)
 
-shr-field : tie.Need-overflow-shr-field
-shr-field c = omega (arith, c.fs-bits.ensures, field-some c.before.before.before.before.args.width)
+shr-field : tie.Need-overflow_shr-field
+shr-field c = omega (arith, c.fs_bits.ensures, field-some c.args.width)
 
 levels-requires : tie.Need-levels-requires
 levels-requires c κs = search rules
 
-same_length : tie.Need-same-length
+same_length : tie.Need-shape_of-pixels-then-field-eq0
 same_length c = search rules
 
-returns-2 : tie.Need-returns-2
+returns-2 : tie.Need-returns-then-field-eq0
 returns-2 c = search rules
 
-fs-top-requires : tie.Need-fs-top-requires
+fs-top-requires : tie.Need-fs_top-requires
 fs-top-requires c κs = search rules
 
 raws-requires : tie.Need-raws-requires
 raws-requires c κs = search rules
 
-same-length-2 : tie.Need-same-length-2
+same-length-2 : tie.Need-shape_of-pixels-then-fs_top-field
 same-length-2 c = search rules
 
-returns-3 : tie.Need-returns-3
+returns-3 : tie.Need-returns-then-fs_top-field
 returns-3 c = search rules
 
 ones-requires : tie.Need-ones-requires
 ones-requires c κs =
     let a = c.before.before.before.before.before.before.before.before.before in
     subst (λ (n : ℕ). Standing a.args.width a.args.tile.now a.args.nx n a.args.self a.args.pixels.now)
-    c.before.if4.true a.requires
+    c.if-nblock-eq1.true a.requires
 
-same-length-3 : tie.Need-same-length-3
+same-length-3 : tie.Need-shape_of-pixels-then-nblock-eq1
 same-length-3 c = search rules
 
-returns-4 : tie.Need-returns-4
+returns-4 : tie.Need-returns-then-nblock-eq1
 returns-4 c =
     let o = c.before in
-    let a = o.before.before.before.before.before.before.before.before.before.before.args in
+    let a = o.args in
     subst (λ (n : ℕ). Reaches a.width a.tile.now a.nx n a.self a.pixels.now o.ones.result
     o.ones.new.1.1.1.1.0)
-    (sym o.before.before.if4.true) o.ones.ensures
+    (sym o.if-nblock-eq1.true) o.ones.ensures
 
 splits-requires : tie.Need-splits-requires
 splits-requires c κs = search rules
 
-same-length-4 : tie.Need-same-length-4
+same-length-4 : tie.Need-shape_of-pixels
 same-length-4 c = search rules
 
-returns-5 : tie.Need-returns-5
+returns-5 : tie.Need-returns
 returns-5 c = search rules
 
-pub easy-spec : {M : Type 1} → statement M
-easy-spec =
+pub easy_spec : {M : Type 1} → statement M
+easy_spec =
     tie.close
     (tie.spec
     add-if1

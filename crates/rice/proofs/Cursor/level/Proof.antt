@@ -35,10 +35,10 @@ abbrev Done : Cursor → Width → List ℕ → List ℤ → List ℤ → ℕ �
 Done self w s part₀ part i =
     All.Stored (run_of w Same s (length part₀) self.bit self.last) part₀ part i (complete self.bit self.last)
 
-abbrev invariant-loop : tie.invariant-loop
+abbrev invariant-loop : tie.invariant-loop-i
 invariant-loop self part₀ last i₀ part i = Stored self part₀ part i
 
-abbrev decreases-loop : tie.decreases-loop
+abbrev decreases-loop : tie.decreases-loop-i
 decreases-loop self part₀ last i₀ part i = length part₀ - i
 
 none_yet : (self : Cursor) (part : List ℤ) → Stored self part part 0
@@ -62,55 +62,55 @@ one_more self part₀ part i z f l e = record {
       (following-none w self.last h ∙ sym e) (following-none w self.last h));
 }
 
-abbrev start : tie.At-loop invariant-loop decreases-loop → tie.Start invariant-loop decreases-loop
+abbrev start : tie.At-loop-i invariant-loop decreases-loop → tie.Start invariant-loop decreases-loop
 start l = l.before.before
 
 -- the cursor's pixel is handed over as it is
-last-is : (l : tie.At-loop invariant-loop decreases-loop) → to_z w32 (of_z w32 (start l).args.self.last) ≡ (start l).args.self.last
+last-is : (l : tie.At-loop-i invariant-loop decreases-loop) → to_z w32 (of_z w32 (start l).args.self.last) ≡ (start l).args.self.last
 last-is l = to_z-of_z {w = w32} (record { sfits = omega arith })
 
-loop-holds : tie.Need-loop-init invariant-loop decreases-loop
+loop-holds : tie.Need-loop-i-init invariant-loop decreases-loop
 loop-holds c = none_yet _ _
 
-mul-last : tie.Need-overflow-mul-last invariant-loop decreases-loop
+mul-last : tie.Need-offset_bounds-part-i invariant-loop decreases-loop
 mul-last c = search rules
 
-slice-set-from-last : tie.Need-slice-set-from-last invariant-loop decreases-loop
+slice-set-from-last : tie.Need-bounds-part-i invariant-loop decreases-loop
 slice-set-from-last c = search rules
 
-add-i : tie.Need-overflow-add-i invariant-loop decreases-loop
+add-i : tie.Need-overflow_add-i invariant-loop decreases-loop
 add-i c = search rules
 
-loop-less : tie.Need-loop-smaller invariant-loop decreases-loop
+loop-less : tie.Need-loop-i-smaller invariant-loop decreases-loop
 loop-less c = search rules
 
-loop-again : tie.Need-loop-preserved invariant-loop decreases-loop
+loop-again : tie.Need-loop-i-preserved invariant-loop decreases-loop
 loop-again c =
-    one_more _ _ _ _ _ c.before.loop.invariant (omega (arith, c.before.loop.invariant.same)) (last-is c.before)
+    one_more _ _ _ _ _ c.loop-i.invariant (omega (arith, c.loop-i.invariant.same)) (last-is c.before)
 
-add-t8 : tie.Need-overflow-add-t8 invariant-loop decreases-loop
+add-t8 : tie.Need-overflow_add-result invariant-loop decreases-loop
 add-t8 c = search rules
 
-same_length : tie.Need-same-length invariant-loop decreases-loop
-same_length c = c.before.before.loop.invariant.same
+same_length : tie.Need-shape_of-part invariant-loop decreases-loop
+same_length c = c.loop-i.invariant.same
 
 -- the run is stored, whatever the width and the tile
-stored : (c : tie.After-loop invariant-loop decreases-loop) (w : Width) → in_width w (start c.before).args.self.last ≡ true → (s : List ℕ)
-    → Done (start c.before).args.self w s (start c.before).args.part.now c.before.loop.part c.before.loop.i
+stored : (c : tie.After-loop-i invariant-loop decreases-loop) (w : Width) → in_width w (start c.before).args.self.last ≡ true → (s : List ℕ)
+    → Done (start c.before).args.self w s (start c.before).args.part.now c.loop-i.part c.loop-i.i
 stored c w h s =
     let l = c.before in
-    let left : length (start l).args.part.now ≤ l.loop.i = omega (arith, l.loop.invariant.same) in
-    going_stops (l.loop.invariant.going w h s) (run_done w Same s _ _ _ _ left)
+    let left : length (start l).args.part.now ≤ l.loop-i.i = omega (arith, l.loop-i.invariant.same) in
+    going_stops (l.loop-i.invariant.going w h s) (run_done w Same s _ _ _ _ left)
 
 returns : tie.Need-returns invariant-loop decreases-loop
 returns c =
     let l = c.before.before in
     let a = (start l).args in
-    let all : l.loop.i ≡ length a.part.now = omega (arith, l.loop.invariant.same, l.loop.invariant.within) in
+    let all : l.loop-i.i ≡ length a.part.now = omega (arith, l.loop-i.invariant.same, l.loop-i.invariant.within) in
     λ w h s. filled-whole a.self _ refl all (last-is l) (stored c.before w h s)
 
-pub level-spec : {M : Type 1} → statement M
-level-spec =
+pub level_spec : {M : Type 1} → statement M
+level_spec =
     tie.close
     (tie.spec
     invariant-loop

@@ -38,103 +38,103 @@ decreases-splits tile width nx nblock pixels₀ size top mask below last bit₀ 
 last-is : (a : tie.Start invariant-splits decreases-splits) → to_z w32 (of_z w32 a.args.self.last) ≡ a.args.self.last
 last-is a = to_z-of_z {w = w32} (record { sfits = omega arith })
 
-fs-bits-requires : tie.Need-fs-bits-requires invariant-splits decreases-splits
+fs-bits-requires : tie.Need-fs_bits-size-requires invariant-splits decreases-splits
 fs-bits-requires c κs = tt
 
-fs-top-requires : tie.Need-fs-top-requires invariant-splits decreases-splits
+fs-top-requires : tie.Need-fs_top-top-requires invariant-splits decreases-splits
 fs-top-requires c κs = tt
 
-mask-requires : tie.Need-mask-requires invariant-splits decreases-splits
+mask-requires : tie.Need-mask-mask-requires invariant-splits decreases-splits
 mask-requires c κs = tt
 
-negatives-requires : tie.Need-negatives-requires invariant-splits decreases-splits
+negatives-requires : tie.Need-negatives-below-requires invariant-splits decreases-splits
 negatives-requires c κs = tt
 
-level-of-requires : tie.Need-level-of-requires invariant-splits decreases-splits
+level-of-requires : tie.Need-level_of-level-requires invariant-splits decreases-splits
 level-of-requires c κs =
     let a = c.before.before.before.before.before.before in
     ap (in_width a.args.width) (last-is a) ∙ (facts a.requires).last
 
-abbrev start : tie.After-level-of invariant-splits decreases-splits → tie.Start invariant-splits decreases-splits
+abbrev start : tie.After-level_of-level invariant-splits decreases-splits → tie.Start invariant-splits decreases-splits
 start c = c.before.before.before.before.before.before.before
 
-first : (c : tie.After-level-of invariant-splits decreases-splits) → raised (start c).args.width c.level-of.result ≡ (start c).args.self.last
-first c = c.level-of.ensures.1 ∙ last-is (start c)
+first : (c : tie.After-level_of-level invariant-splits decreases-splits) → raised (start c).args.width c.level_of-level.result ≡ (start c).args.self.last
+first c = c.level_of-level.ensures.1 ∙ last-is (start c)
 
 splits-holds : tie.Need-splits-init invariant-splits decreases-splits
-splits-holds c = onto-start _ _ (first c) c.level-of.ensures.0 (start c).requires
+splits-holds c = onto-start _ _ (first c) c.level_of-level.ensures.0 (start c).requires
 
-sub-splits : tie.Need-overflow-sub-splits invariant-splits decreases-splits
+sub-splits : tie.Need-overflow_sub-nx invariant-splits decreases-splits
 sub-splits c = (facts c.splits.invariant.reach.standing).done
 
-add-if1 : tie.Need-overflow-add-if1 invariant-splits decreases-splits
-add-if1 c = let f = facts c.before.splits.invariant.reach.standing in omega (arith, f.high, f.tile)
+add-if1 : tie.Need-overflow_add-bit invariant-splits decreases-splits
+add-if1 c = let f = facts c.splits.invariant.reach.standing in omega (arith, f.high, f.tile)
 
 window-requires : tie.Need-window-requires invariant-splits decreases-splits
 window-requires c κs = search rules
 
-sub-field : tie.Need-overflow-sub-field invariant-splits decreases-splits
+sub-field : tie.Need-overflow_sub-field invariant-splits decreases-splits
 sub-field c =
     let a = c.before.before.before.before in
-    omega (arith, a.before.before.before.before.before.fs-bits.ensures, (sizes (start a).args.width).field)
+    omega (arith, a.fs_bits-size.ensures, (sizes (start a).args.width).field)
 
-shr-field : tie.Need-overflow-shr-field invariant-splits decreases-splits
+shr-field : tie.Need-overflow_shr-field invariant-splits decreases-splits
 shr-field c =
     let a = c.before.before.before.before in
-    omega (arith, a.before.before.before.before.before.fs-bits.ensures, field-some (start a).args.width)
+    omega (arith, a.fs_bits-size.ensures, field-some (start a).args.width)
 
 -- the FS field of a block of code words
-abbrev at-splits : tie.Else3 invariant-splits decreases-splits → tie.At-splits invariant-splits decreases-splits
+abbrev at-splits : tie.Else-top-field invariant-splits decreases-splits → tie.At-splits invariant-splits decreases-splits
 at-splits k = k.before.before.before.before.before
 
-abbrev args : tie.Else3 invariant-splits decreases-splits → tie.Start invariant-splits decreases-splits
+abbrev args : tie.Else-top-field invariant-splits decreases-splits → tie.Start invariant-splits decreases-splits
 args k = start (at-splits k).before
 
-abbrev size : tie.Else3 invariant-splits decreases-splits → ℕ
-size k = (at-splits k).before.before.before.before.before.before.fs-bits.result
+abbrev size : tie.Else-top-field invariant-splits decreases-splits → ℕ
+size k = (at-splits k).fs_bits-size.result
 
-abbrev field : tie.Else3 invariant-splits decreases-splits → ℕ
-field k = k.before.before.window.result / 2 ^ (64 - size k)
+abbrev field : tie.Else-top-field invariant-splits decreases-splits → ℕ
+field k = k.window.result / 2 ^ (64 - size k)
 
-field_is : (k : tie.Else3 invariant-splits decreases-splits)
+field_is : (k : tie.Else-top-field invariant-splits decreases-splits)
     → field_read (args k).args.tile.now (at-splits k).splits.bit (fs_bits (args k).args.width)
     ≡ found (field k) ((at-splits k).splits.bit + size k)
 field_is k =
     let w = k.before.before in
     window_field (args k).args.width (args k).args.tile.now (at-splits k).splits.bit w.window.result (size k)
-    (at-splits k).before.before.before.before.before.before.fs-bits.ensures w.before.if1.false w.window.ensures
+    (at-splits k).fs_bits-size.ensures w.if-tile-bit.false w.window.ensures
 
-under : (k : tie.Else3 invariant-splits decreases-splits) → field k ≤ fs_top (args k).args.width
-under k = omega (arith, k.if3.false, (at-splits k).before.before.before.before.before.fs-top.ensures)
+under : (k : tie.Else-top-field invariant-splits decreases-splits) → field k ≤ fs_top (args k).args.width
+under k = omega (arith, k.if-top-field.false, (at-splits k).fs_top-top.ensures)
 
-code_is : (k : tie.Else3 invariant-splits decreases-splits) → code_of (args k).args.width (field k) ≡ Known (Split (field k - 1))
-code_is k = code_split (args k).args.width (field k) k.before.if2.false (under k)
+code_is : (k : tie.Else-top-field invariant-splits decreases-splits) → code_of (args k).args.width (field k) ≡ Known (Split (field k - 1))
+code_is k = code_split (args k).args.width (field k) k.if-field-eq0.false (under k)
 
-add-end : tie.Need-overflow-add-end invariant-splits decreases-splits
+add-end : tie.Need-overflow_add-end invariant-splits decreases-splits
 add-end c = let f = facts (at-splits c).splits.invariant.reach.standing in omega (arith, f.done, f.few, f.blocks)
 
-add-split-block : tie.Need-overflow-add-split-block invariant-splits decreases-splits
+add-split-block : tie.Need-overflow_add-start invariant-splits decreases-splits
 add-split-block c =
     omega (arith, (field_of _ _ _ _ _ (field_is c)).within, (facts (at-splits c).splits.invariant.reach.standing).tile)
 
-sub-fs : tie.Need-overflow-sub-fs invariant-splits decreases-splits
-sub-fs c = pos_of_ne-zero c.before.if2.false
+sub-fs : tie.Need-overflow_sub-fs invariant-splits decreases-splits
+sub-fs c = pos_of_ne-zero c.if-field-eq0.false
 
-mul-split-block : tie.Need-overflow-mul-split-block invariant-splits decreases-splits
+mul-split-block : tie.Need-offset_bounds-pixels-done invariant-splits decreases-splits
 mul-split-block c = let f = facts (at-splits c).splits.invariant.reach.standing in omega (arith, f.done, f.few)
 
-sub-split-block : tie.Need-overflow-sub-split-block invariant-splits decreases-splits
+sub-split-block : tie.Need-slice_bounds-split_block-count invariant-splits decreases-splits
 sub-split-block c = search rules
 
-part-split-block-start : tie.Need-slice-bounds-split-block-start invariant-splits decreases-splits
+part-split-block-start : tie.Need-slice_bounds-split_block-start invariant-splits decreases-splits
 part-split-block-start c = search rules
 
-part-split-block-end : tie.Need-slice-bounds-split-block-end invariant-splits decreases-splits
+part-split-block-end : tie.Need-slice_bounds-split_block-end invariant-splits decreases-splits
 part-split-block-end c =
     let f = facts (at-splits c).splits.invariant.reach.standing in
-    omega (arith, f.sized, f.done, c.before.before.before.before.splits-test.true)
+    omega (arith, f.sized, f.done, c.splits-test.true)
 
-split-block-requires : tie.Need-split-block-requires invariant-splits decreases-splits
+split-block-requires : tie.Need-split_block-requires invariant-splits decreases-splits
 split-block-requires c κs =
     let k = c.before in
     let s = (at-splits k).before in
@@ -142,55 +142,55 @@ split-block-requires c κs =
       (
         (facts o.reach.standing).tile,
         omega (arith, under k, (sizes (args k).args.width).top),
-        (s.before.before.before.mask.ensures, s.before.before.negatives.ensures),
+        (s.mask-mask.ensures, s.negatives-below.ensures),
         part_small (at-splits k).splits.done ((at-splits k).splits.done + (args k).args.nblock) o.reach.standing,
       ),
       ((field_of _ _ _ _ _ (field_is k)).within, o.small, omega arith),
     )
 
-enum-known-at : tie.Need-enum-known-at invariant-splits decreases-splits
+enum-known-at : tie.Need-enum_known-at invariant-splits decreases-splits
 enum-known-at c = search rules
 
-enum_told : tie.Need-enum-told invariant-splits decreases-splits
+enum_told : tie.Need-enum_told-1 invariant-splits decreases-splits
 enum_told c = search rules
 
 splits-less : tie.Need-splits-smaller invariant-splits decreases-splits
 splits-less c =
-    let k = c.before.before.before.before.before.before in
-    omega (arith, k.before.before.before.before.splits-test.true, (facts (at-splits k).splits.invariant.reach.standing).block)
+    let k = c.before.before.before.before in
+    omega (arith, k.splits-test.true, (facts (at-splits k).splits.invariant.reach.standing).block)
 
 splits-again : tie.Need-splits-preserved invariant-splits decreases-splits
 splits-again c =
-    let b = c.before.before.before.before in
+    let b = c.before.before in
     let k = b.before.before in
-    let came = subst (CameTo (args k).args.width (Split (field k - 1)) (args k).args.tile.now _ _ _) c.before.at.given.1
-    b.split-block.ensures in
-    onto-block (at-splits k).splits.invariant _ refl k.before.before.before.before.splits-test.true _ _ _ (field_is k) (code_is k)
+    let came = subst (CameTo (args k).args.width (Split (field k - 1)) (args k).args.tile.now _ _ _) c.in-To.is
+    b.split_block.ensures in
+    onto-block (at-splits k).splits.invariant _ refl k.splits-test.true _ _ _ (field_is k) (code_is k)
     _ _ _ came.1 came.0
 
-pixel-by-requires : tie.Need-pixel-by-requires invariant-splits decreases-splits
-pixel-by-requires c κs = (c.before.before.before.before.negatives.ensures, c.before.splits.invariant.small)
+pixel-by-requires : tie.Need-pixel_by-requires invariant-splits decreases-splits
+pixel-by-requires c κs = (c.negatives-below.ensures, c.splits.invariant.small)
 
 -- what the loop leaves is reached
 abbrev Left : (l : tie.At-splits invariant-splits decreases-splits) → List ℤ → Type 0
 Left l px =
     let a = (start l.before).args in
-    Onto a.width a.tile.now a.nx a.nblock (counted a.width a.self.bit a.self.done l.before.level-of.result)
+    Onto a.width a.tile.now a.nx a.nblock (counted a.width a.self.bit a.self.done l.level_of-level.result)
     a.pixels.now px l.splits.bit l.splits.done l.splits.level
 
 stay : (l : tie.At-splits invariant-splits decreases-splits) {px : List ℤ} → px ≡ l.splits.pixels → Left l px
 stay l e = subst (Left l) (sym e) l.splits.invariant
 
 -- the tile ends in the next block
-cut_short : (b : tie.After-split-block invariant-splits decreases-splits) (n : ℕ) → b.split-block.result ≡ Short n
+cut_short : (b : tie.After-split_block invariant-splits decreases-splits) (n : ℕ) → b.split_block.result ≡ Short n
     → Left (at-splits b.before.before)
     (put_mid (at-splits b.before.before).splits.done
     ((at-splits b.before.before).splits.done + (args b.before.before).args.nblock - (at-splits b.before.before).splits.done)
-    (at-splits b.before.before).splits.pixels b.split-block.new.1.1.1.1.1.1.0)
+    (at-splits b.before.before).splits.pixels b.split_block.new.1.1.1.1.1.1.0)
 cut_short b n e =
     let k = b.before.before in
-    let came = subst (CameTo (args k).args.width (Split (field k - 1)) (args k).args.tile.now _ _ _) e b.split-block.ensures in
-    onto-cut (at-splits k).splits.invariant _ refl k.before.before.before.before.splits-test.true _ _ _ (field_is k) (code_is k) _ _
+    let came = subst (CameTo (args k).args.width (Split (field k - 1)) (args k).args.tile.now _ _ _) e b.split_block.ensures in
+    onto-cut (at-splits k).splits.invariant _ refl k.splits-test.true _ _ _ (field_is k) (code_is k) _ _
     came.1 came.0
 
 onto-left : (c : tie.Left-splits invariant-splits decreases-splits) → Left c.before c.splits-test.pixels
@@ -198,7 +198,7 @@ onto-left c =
     let l = c.before in
     ⊎_elim (λ x. stay l x.1) (⊎_elim (λ x. stay l x.2) (⊎_elim (λ x. stay l x.4) (⊎_elim (λ x. stay l x.5)
     (λ x.
-    let k : tie.Else3 invariant-splits decreases-splits = record {
+    let k : tie.Else-top-field invariant-splits decreases-splits = record {
       before = record {
         before = record { before = record { before = record { before = l; splits-test = x.0 }; if1 = x.1 }; window = x.2 };
         if2 = x.3;
@@ -206,22 +206,22 @@ onto-left c =
       if3 = x.4;
     }
     in
-    let b : tie.After-split-block invariant-splits decreases-splits =
+    let b : tie.After-split_block invariant-splits decreases-splits =
     record { before = record { before = k; split-block-arg = x.5 }; split-block = x.6 }
     in
     subst (Left l) (sym x.10) (cut_short b x.9.given.0.0 x.9.given.1))))) c.splits-test.branch
 
-same_length : tie.Need-same-length invariant-splits decreases-splits
-same_length c = (onto-left c.before).reach.standing.sized ∙ sym (start c.before.before.before).pre.sized
+same_length : tie.Need-shape_of-pixels invariant-splits decreases-splits
+same_length c = (onto-left c.before).reach.standing.sized ∙ sym (start c.before.before.before).requires.sized
 
 returns : tie.Need-returns invariant-splits decreases-splits
 returns c =
     let a = c.before.before.before in
-    onto-end (start a).args.self a.level-of.result (first a) (onto-left c.before) _
-    (to_z-of_z {w = w32} (record { sfits = c.pixel-by.type-inv }) ∙ c.pixel-by.ensures)
+    onto-end (start a).args.self a.level_of-level.result (first a) (onto-left c.before) _
+    (to_z-of_z {w = w32} (record { sfits = c.pixel_by.type-inv }) ∙ c.pixel_by.ensures)
 
-pub splits-spec : {M : Type 1} → statement M
-splits-spec =
+pub splits_spec : {M : Type 1} → statement M
+splits_spec =
     tie.close
     (tie.spec
     invariant-splits

@@ -13,54 +13,54 @@ use Rattle.rice.proofs.Stepping.{stands_low, stands_past, stands-more, stands-be
 use Rattle.rice.proofs.Cursor.stands.Statement.{statement}
 use Rattle.rice.proofs.Cursor.stands.Tie as tie
 
-start-bytes-requires : tie.Need-start-bytes-requires
+start-bytes-requires : tie.Need-start_bytes-requires
 start-bytes-requires c κs = search rules
 
-mul-if1 : tie.Need-overflow-mul-if1
-mul-if1 c = omega (arith, (sizes c.before.before.args.width).start, (sizes c.before.before.args.width).width)
+mul-if1 : tie.Need-overflow_mul-start_bytes
+mul-if1 c = omega (arith, (sizes c.args.width).start, (sizes c.args.width).width)
 
 -- the start value ends before the cursor, or not
-low : (c : tie.Else1) → start_bytes c.before.before.before.args.width * 8 ≤ c.before.before.before.args.self.bit
+low : (c : tie.Else-bit-start_bytes) → start_bytes c.args.width * 8 ≤ c.args.self.bit
 low c = omega arith
 
-returns : tie.Need-returns
+returns : tie.Need-returns-then-bit-start_bytes
 returns c = stands_low _ _ _ _ _ (omega arith)
 
-mul-if2 : tie.Need-overflow-mul-if2
+mul-if2 : tie.Need-overflow_mul-tile
 mul-if2 c = search rules
 
-returns-2 : tie.Need-returns-2
-returns-2 c = stands_past _ _ _ _ _ (low c.before) c.if2.true
+returns-2 : tie.Need-returns-then-tile-bit
+returns-2 c = stands_past _ _ _ _ _ (low c.before) c.if-tile-bit.true
 
-returns-3 : tie.Need-returns-3
-returns-3 c = stands-more _ _ _ _ _ (low c.before.before) c.before.if2.false c.if3.true
+returns-3 : tie.Need-returns-then-nx-done
+returns-3 c = stands-more _ _ _ _ _ (low c.before.before) c.if-tile-bit.false c.if-nx-done.true
 
-rem-if5 : tie.Need-nonzero-rem-if5
+rem-if5 : tie.Need-nonzero_rem-done
 rem-if5 c = search rules
 
-returns-4 : tie.Need-returns-4
+returns-4 : tie.Need-returns-then-done-nblock-ne0
 returns-4 c =
     let e = c.before.before in
-    stands-between _ _ _ _ _ (low e.before.before) e.before.if2.false e.if3.false c.before.if4.true
-    c.if5.true
+    stands-between _ _ _ _ _ (low e.before.before) e.if-tile-bit.false e.if-nx-done.false c.if-done-nx.true
+    c.if-done-nblock-ne0.true
 
 holds-requires : tie.Need-holds-requires
 holds-requires c κs = search rules
 
-returns-5 : tie.Need-returns-5
+returns-5 : tie.Need-returns
 returns-5 c =
     let e = c.before.before.before in
-    let a = e.before.before.before.before.before.args in
+    let a = e.args in
     let fits : SFits w32 a.self.last = record { sfits = omega arith } in
     c.holds.ensures ∙ ap (in_width a.width) (to_z-of_z fits)
     ∙ ⊎_elim (λ w. stands_edge a.width a.tile.now a.nx a.nblock a.self (low e.before.before)
-    e.before.if2.false e.if3.false w.0.taken w.1.left)
+    e.if-tile-bit.false e.if-nx-done.false w.0.taken w.1.left)
     (λ w. stands-end a.width a.tile.now a.nx a.nblock a.self (low e.before.before)
-    e.before.if2.false e.if3.false w.left)
-    c.before.before.if4.branch
+    e.if-tile-bit.false e.if-nx-done.false w.left)
+    c.if-done-nx.branch
 
-pub stands-spec : {M : Type 1} → statement M
-stands-spec =
+pub stands_spec : {M : Type 1} → statement M
+stands_spec =
     tie.close
     (tie.spec
     start-bytes-requires

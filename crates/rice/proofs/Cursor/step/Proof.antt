@@ -15,102 +15,102 @@ use Rattle.rice.proofs.FsCodes.{outcome}
 use Rattle.rice.proofs.Cursor.step.Statement.{statement}
 use Rattle.rice.proofs.Cursor.step.Tie as tie
 
-abbrev start : tie.After-known-told → tie.Start
-start k = k.before.before.before.before.before
+abbrev start : tie.In-Of → tie.Start
+start k = k.before.before.before
 
 plan-requires : tie.Need-plan-requires
 plan-requires c κs = search rules
 
-enum-known-width : tie.Need-enum-known-width
+enum-known-width : tie.Need-enum_known-width
 enum-known-width c = search rules
 
-enum_told : tie.Need-enum-told
+enum_told : tie.Need-enum_told-1
 enum_told c = search rules
 
-step-refused-requires : tie.Need-step-refused-requires
+step-refused-requires : tie.Need-step_refused-requires
 step-refused-requires c κs = tt
 
-returns : tie.Need-returns
+returns : tie.Need-returns-in_default
 returns c =
-    let p = c.before.before.before in
-    let a = p.before.before.args in
-    outcome c.step-refused.ensures
+    let p = c.before.before in
+    let a = p.args in
+    outcome c.step_refused.ensures
     (step_limits a.tile.now a.nx a.nblock a.bits a.self a.pixels.now
-    (sym p.plan.ensures ∙ c.before.enum_told.given.1))
+    (sym p.plan.ensures ∙ c.in_default.is))
 
 -- the width that the limits leave
-plan : (k : tie.After-known-told)
+plan : (k : tie.In-Of)
     → plan_of (length (start k).args.tile.now) (start k).args.nx (start k).args.nblock (start k).args.bits
-    ≡ Of k.before.width.given.0.0
-plan k = sym k.before.before.before.plan.ensures ∙ k.before.width.given.1
+    ≡ Of k.in-Of.width
+plan k = sym k.plan.ensures ∙ k.in-Of.is
 
-limits : (k : tie.After-known-told)
+limits : (k : tie.In-Of)
     → Within (length (start k).args.tile.now) (start k).args.nx (start k).args.nblock
 limits k = plan_within _ _ _ (start k).args.bits (plan k)
 
-step-refused-requires-2 : tie.Need-step-refused-requires-2
+step-refused-requires-2 : tie.Need-step_refused-requires-then-pixels-nx
 step-refused-requires-2 c κs = tt
 
-returns-2 : tie.Need-returns-2
+returns-2 : tie.Need-returns-then-pixels-nx
 returns-2 c =
     let k = c.before.before in
     let a = (start k).args in
-    outcome c.step-refused2.ensures
+    outcome c.step_refused-then-pixels-nx.ensures
     (step_count a.tile.now a.nx a.nblock a.bits a.self a.pixels.now _ (plan k)
-    c.before.if1.true)
+    c.if-pixels-nx.true)
 
 stands-requires : tie.Need-stands-requires
 stands-requires c κs = ((limits c.before).tile, (limits c.before).block)
 
-step-refused-requires-3 : tie.Need-step-refused-requires-3
+step-refused-requires-3 : tie.Need-step_refused-requires-then-not-stands
 step-refused-requires-3 c κs = tt
 
-returns-3 : tie.Need-returns-3
+returns-3 : tie.Need-returns-then-not-stands
 returns-3 c =
     let e = c.before.before.before in
     let a = (start e.before).args in
-    outcome c.step-refused3.ensures
+    outcome c.step_refused-then-not-stands.ensures
     (step_cursor a.tile.now a.nx a.nblock a.bits a.self a.pixels.now _ (plan e.before)
-    e.if1.false
-    (sym c.before.before.stands.ensures ∙ not-true _ c.before.if2.true))
+    e.if-pixels-nx.false
+    (sym c.stands.ensures ∙ not-true _ c.if-not-stands.true))
 
-keeps : (c : tie.Else2)
-    → stands c.before.before.before.before.width.given.0.0
+keeps : (c : tie.Else-not-stands)
+    → stands c.in-Of.width
     (start c.before.before.before).args.tile.now
     (start c.before.before.before).args.nx
     (start c.before.before.before).args.nblock
     (start c.before.before.before).args.self
     ≡ true
-keeps c = sym c.before.stands.ensures ∙ not-false _ c.if2.false
+keeps c = sym c.stands.ensures ∙ not-false _ c.if-not-stands.false
 
-returns-4 : tie.Need-returns-4
+returns-4 : tie.Need-returns-then-done-nx
 returns-4 c =
-    let a = c.before.before.before.before.before.before.before.before.before.args in
+    let a = c.args in
     let e = c.before.before.before in
     outcome refl (step_done a.tile.now a.nx a.nblock a.bits a.self a.pixels.now _ (plan e.before)
-    e.if1.false (keeps c.before) c.if3.true)
+    e.if-pixels-nx.false (keeps c.before) c.if-done-nx.true)
 
-stand : (c : tie.Else2)
-    → Kept c.before.before.before.before.width.given.0.0
+stand : (c : tie.Else-not-stands)
+    → Kept c.in-Of.width
     (start c.before.before.before).args.tile.now
     (start c.before.before.before).args.nx
     (start c.before.before.before).args.nblock
     (start c.before.before.before).args.self
 stand c = kept _ _ _ _ _ (keeps c)
 
-block-end-requires : tie.Need-block-end-requires
+block-end-requires : tie.Need-block_end-end-requires
 block-end-requires c κs = (stand c.before).done
 
-mul-block : tie.Need-overflow-mul-block
+mul-block : tie.Need-offset_bounds-pixels-done
 mul-block c = omega (arith, (stand c.before.before).done, (limits c.before.before.before.before.before).few)
 
-sub-block : tie.Need-overflow-sub-block
+sub-block : tie.Need-slice_bounds-block-count
 sub-block c = omega (arith, (stand c.before.before).done)
 
-part-block-start : tie.Need-slice-bounds-block-start
+part-block-start : tie.Need-slice_bounds-block-start
 part-block-start c = omega (arith, (stand c.before.before).done)
 
-part-block-end : tie.Need-slice-bounds-block-end
+part-block-end : tie.Need-slice_bounds-block-end
 part-block-end c = search rules
 
 block-requires : tie.Need-block-requires
@@ -119,20 +119,20 @@ block-requires c κs =
     let k = e.before.before.before in
     ((limits k).tile, (stand e).last, simp (length-take, length-drop) (omega (arith, (stand e).done, (limits k).few)))
 
-same_length : tie.Need-same-length
+same_length : tie.Need-shape_of-pixels
 same_length c = search rules
 
-returns-5 : tie.Need-returns-5
+returns-5 : tie.Need-returns
 returns-5 c =
     let e = c.before.before.before.before.before in
     let k = e.before.before.before in
     let a = (start k).args in
     let is = step_block a.tile.now a.nx a.nblock a.bits a.self a.pixels.now _ (plan k)
-    e.before.before.if1.false (keeps e) c.before.before.before.before.if3.false _
-    c.before.before.before.block-end.ensures in
-    let order : a.self.done ≤ c.before.before.before.block-end.result = omega (arith, (stand e).done) in (
-      c.before.block.ensures.0 ∙ sym (ap (λ (o : StepOutcome). o.answer) is),
-      part_back _ _ _ _ _ order c.before.block.ensures.1 ∙ sym (ap (λ (o : StepOutcome). o.content) is),
+    e.if-pixels-nx.false (keeps e) c.if-done-nx.false _
+    c.block_end-end.ensures in
+    let order : a.self.done ≤ c.block_end-end.result = omega (arith, (stand e).done) in (
+      c.block.ensures.0 ∙ sym (ap (λ (o : StepOutcome). o.answer) is),
+      part_back _ _ _ _ _ order c.block.ensures.1 ∙ sym (ap (λ (o : StepOutcome). o.content) is),
     )
 
 pub step_spec : {M : Type 1} → statement M

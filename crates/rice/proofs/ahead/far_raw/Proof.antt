@@ -7,35 +7,35 @@ use Rattle.rice.proofs.Giving.{bare_gives}
 use Rattle.rice.proofs.ahead.far_raw.Statement.{statement}
 use Rattle.rice.proofs.ahead.far_raw.Tie as tie
 
-take-bits-requires : tie.Need-take-bits-requires
+take-bits-requires : tie.Need-take_bits-requires
 take-bits-requires c κs = search rules
 
-enum-known-u : tie.Need-enum-known-u
+enum-known-u : tie.Need-enum_known-u
 enum-known-u c = search rules
 
-enum_told : tie.Need-enum-told
+enum_told : tie.Need-enum_told-1
 enum_told c = search rules
 
-returns : tie.Need-returns
+returns : tie.Need-returns-in_default
 unfolding diff_read
 returns c =
-    let t = c.before.before in
+    let t = c.before in
     let a = t.before.before in
     taken-short _ _
-    (sym (take-read _ _ a.requires.0 _ a.requires.1) ∙ sym t.take-bits.ensures ∙ c.enum_told.given.1)
+    (sym (take-read _ _ a.requires.0 _ a.requires.1) ∙ sym t.take_bits.ensures ∙ c.in_default.is)
 
 bare-requires : tie.Need-bare-requires
 bare-requires c κs = search rules
 
-returns-2 : tie.Need-returns-2
+returns-2 : tie.Need-returns
 unfolding diff_read
 returns-2 c =
-    let t = c.before.before.before.before in
+    let t = c.before.before in
     let a = t.before.before in
     let f = taken-found _ _ _ _
-    (sym (take-read _ _ a.requires.0 _ a.requires.1) ∙ sym t.take-bits.ensures ∙ c.before.before.u.given.1) in
+    (sym (take-read _ _ a.requires.0 _ a.requires.1) ∙ sym t.take_bits.ensures ∙ c.in-Bits.is) in
     bare_gives _ _ c.bare.ensures f.0 (field_of _ _ _ _ _ f.0).within
 
-pub far-raw-spec : {M : Type 1} → statement M
-far-raw-spec =
+pub far_raw_spec : {M : Type 1} → statement M
+far_raw_spec =
     tie.close (tie.spec take-bits-requires enum-known-u enum_told returns bare-requires returns-2)

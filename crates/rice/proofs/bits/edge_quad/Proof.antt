@@ -4,25 +4,25 @@ use Rattle.rice.proofs.Fields.{field_quad}
 use Rattle.rice.proofs.bits.edge_quad.Statement.{statement}
 use Rattle.rice.proofs.bits.edge_quad.Tie as tie
 
-byte-or-zero-requires : tie.Need-byte-or-zero-requires
+byte-or-zero-requires : tie.Need-byte_or_zero-requires
 byte-or-zero-requires c κs = search rules
 
-add-byte-or-zero : tie.Need-overflow-add-byte-or-zero
+add-byte-or-zero : tie.Need-overflow_add-i
 add-byte-or-zero c = search rules
 
-byte-or-zero-requires-2 : tie.Need-byte-or-zero-requires-2
+byte-or-zero-requires-2 : tie.Need-byte_or_zero-requires-2
 byte-or-zero-requires-2 c κs = search rules
 
-add-byte-or-zero-2 : tie.Need-overflow-add-byte-or-zero-2
+add-byte-or-zero-2 : tie.Need-overflow_add-i-2
 add-byte-or-zero-2 c = search rules
 
-byte-or-zero-requires-3 : tie.Need-byte-or-zero-requires-3
+byte-or-zero-requires-3 : tie.Need-byte_or_zero-requires-3
 byte-or-zero-requires-3 c κs = search rules
 
-add-byte-or-zero-3 : tie.Need-overflow-add-byte-or-zero-3
+add-byte-or-zero-3 : tie.Need-overflow_add-i-3
 add-byte-or-zero-3 c = search rules
 
-byte-or-zero-requires-4 : tie.Need-byte-or-zero-requires-4
+byte-or-zero-requires-4 : tie.Need-byte_or_zero-requires-4
 byte-or-zero-requires-4 c κs = search rules
 
 quad-requires : tie.Need-quad-requires
@@ -30,11 +30,11 @@ quad-requires c κs = search rules
 
 returns : tie.Need-returns
 returns c =
-    let a = c.before.before.before.before.before.before.args in
-    cc (field_quad a.s.now a.i (λ k. (c.before.before.before.before.before.shared-slice-known.given k).fits))
+    let a = c.args in
+    cc (field_quad a.s.now a.i (λ k. (c.shared_slice_known-1.given k).fits))
 
-pub edge-quad-spec : {M : Type 1} → statement M
-edge-quad-spec =
+pub edge_quad_spec : {M : Type 1} → statement M
+edge_quad_spec =
     tie.close
     (tie.spec
     byte-or-zero-requires

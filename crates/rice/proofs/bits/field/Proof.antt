@@ -10,21 +10,21 @@ use Rattle.rice.proofs.bits.field.Tie as tie
 word-requires : tie.Need-word-requires
 word-requires c κs = search rules
 
-shl-result : tie.Need-overflow-shl-result
+shl-result : tie.Need-overflow_shl-result
 shl-result c = search rules
 
-sub-result : tie.Need-overflow-sub-result
+sub-result : tie.Need-overflow_sub-result
 sub-result c = search rules
 
-shr-result : tie.Need-overflow-shr-result
+shr-result : tie.Need-overflow_shr-result-2
 shr-result c = search rules
 
 returns : tie.Need-returns
 returns c =
-    let a = c.before.before.args in
+    let a = c.args in
     ap (λ (w : ℕ). w * 2 ^ (a.p % 8) % 2 ^ 64 / 2 ^ 1 / 2 ^ (63 - a.n)) c.word.ensures
     ∙ ap (λ (w : ℕ). w / 2 ^ 1 / 2 ^ (63 - a.n)) (window_held a.s.now a.p)
     ∙ held_cut a.s.now a.p a.n (64 - a.p % 8) (omega arith) (omega arith) (omega arith)
 
-pub field-spec : {M : Type 1} → statement M
-field-spec = tie.close (tie.spec word-requires shl-result sub-result shr-result returns)
+pub field_spec : {M : Type 1} → statement M
+field_spec = tie.close (tie.spec word-requires shl-result sub-result shr-result returns)

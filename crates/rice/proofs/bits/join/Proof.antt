@@ -12,5 +12,5 @@ returns c =
     let fits : c.args.high * 2 ^ 32 % 2 ^ 64 ≡ c.args.high * 2 ^ 32 = omega arith in
     rw fits (or_shifted c.args.high 32 c.args.low (search rules))
 
-pub join-spec : {M : Type 1} → statement M
-join-spec = tie.close (tie.spec returns)
+pub join_spec : {M : Type 1} → statement M
+join_spec = tie.close (tie.spec returns)

@@ -9,72 +9,72 @@ use Rattle.rice.proofs.Cutting.{told-some, told-least, pair_told}
 use Rattle.rice.proofs.words.next_two.Statement.{statement}
 use Rattle.rice.proofs.words.next_two.Tie as tie
 
-add-if1 : tie.Need-overflow-add-if1
+add-if1 : tie.Need-overflow_add-bit
 add-if1 c = search rules
 
-returns : tie.Need-returns
+returns : tie.Need-returns-then-tile-bit
 returns c = search rules
 
-shl-scale : tie.Need-overflow-shl-scale
+shl-scale : tie.Need-overflow_shl-scale
 shl-scale c = search rules
 
-add_most : tie.Need-overflow-add-most
+add_most : tie.Need-overflow_add-most
 add_most c = search rules
 
 window-requires : tie.Need-window-requires
 window-requires c κs = search rules
 
-top-word-requires : tie.Need-top-word-requires
-top-word-requires c κs = let l = c.before.before.before.requires.1 in (l, refl, one_shifted _ l)
+top-word-requires : tie.Need-top_word-a-requires
+top-word-requires c κs = let l = c.requires.1 in (l, refl, one_shifted _ l)
 
-top-word-requires-2 : tie.Need-top-word-requires-2
-top-word-requires-2 c κs = let l = c.before.before.before.before.requires.1 in (l, refl, one_shifted _ l)
+top-word-requires-2 : tie.Need-top_word-b-requires
+top-word-requires-2 c κs = let l = c.requires.1 in (l, refl, one_shifted _ l)
 
-add-used : tie.Need-overflow-add-used
+add-used : tie.Need-overflow_add-used
 add-used c = search rules
 
-mul-if2 : tie.Need-overflow-mul-if2
+mul-if2 : tie.Need-overflow_mul-t-10
 mul-if2 c = search rules
 
-add-if2 : tie.Need-overflow-add-if2
+add-if2 : tie.Need-overflow_add-t-11
 add-if2 c = search rules
 
-returns-2 : tie.Need-returns-2
+returns-2 : tie.Need-returns-then-used
 returns-2 c = search rules
 
-returns-3 : tie.Need-returns-3
+returns-3 : tie.Need-returns-then-after-lt1
 returns-3 c = search rules
 
-add-t12 : tie.Need-overflow-add-t12
+add-t12 : tie.Need-overflow_add-result
 add-t12 c = search rules
 
-mul-t10 : tie.Need-overflow-mul-t10
+mul-t10 : tie.Need-overflow_mul-result
 mul-t10 c = search rules
 
-sub-t11 : tie.Need-overflow-sub-t11
+sub-t11 : tie.Need-overflow_sub-result
 sub-t11 c =
     let u = c.before.before.before.before in
-    let o : 0 < u.before.top-word.result.rest = omega (arith, c.if3.false) in
+    let o : 0 < u.top_word-a.result.rest = omega (arith, c.if-after-lt1.false) in
     omega (
       arith,
-      told-least u.before.top-word.ensures (told-some u.before.top-word.ensures o),
-      told-least u.top-word2.ensures o,
+      told-least u.top_word-a.ensures (told-some u.top_word-a.ensures o),
+      told-least u.top_word-b.ensures o,
     )
 
-returns-4 : tie.Need-returns-4
+returns-4 : tie.Need-returns
 returns-4 c =
     let u = c.before.before.before.before in
     let w = u.before.before in
     let st = w.before.before.before in
     let s = st.args.tile.now in
     let p = st.args.bit in
-    let o : 0 < u.before.top-word.result.rest = omega (arith, c.if3.false) in
-    let room : p + (64 - p % 8) ≤ bits_in s = omega (arith, w.before.if1.false) in
+    let o : 0 < u.top_word-a.result.rest = omega (arith, c.if-after-lt1.false) in
+    let room : p + (64 - p % 8) ≤ bits_in s = omega (arith, w.if-tile-bit.false) in
     pair_told s p (64 - p % 8) st.args.fs st.requires.1 (omega arith) room w.window.ensures
-    u.before.top-word.ensures u.top-word2.ensures o (omega (arith, c.before.if2.false)) c.before.if2.false
+    u.top_word-a.ensures u.top_word-b.ensures o (omega (arith, c.if-used.false)) c.if-used.false
 
-pub next-two-spec : {M : Type 1} → statement M
-next-two-spec =
+pub next_two_spec : {M : Type 1} → statement M
+next_two_spec =
     tie.close
     (tie.spec
     add-if1

@@ -7,44 +7,44 @@ use Rattle.rice.specs.declared.width.Code.{Code}
 use Rattle.rice.proofs.ahead.Ahead.held_one.Statement.{statement}
 use Rattle.rice.proofs.ahead.Ahead.held_one.Tie as tie
 
-enum_told : tie.Need-enum-told
+enum_told : tie.Need-enum_told-1
 enum_told c = search rules
 
-enum-known-code : tie.Need-enum-known-code
+enum-known-code : tie.Need-enum_known-code
 enum-known-code c = search rules
 
-held-raw-requires : tie.Need-held-raw-requires
+held-raw-requires : tie.Need-held_raw-requires
 held-raw-requires c κs =
-    let a = c.before.before.before in (a.requires.0, subst CodeFits c.before.code.given.1 a.requires.1, a.requires.2)
+    let a = c.before in (a.requires.0, subst CodeFits c.in-Raw.is a.requires.1, a.requires.2)
 
-enum-known-code-2 : tie.Need-enum-known-code-2
+enum-known-code-2 : tie.Need-enum_known-code-in-Split-1
 enum-known-code-2 c = search rules
 
-held-split-requires : tie.Need-held-split-requires
+held-split-requires : tie.Need-held_split-requires
 held-split-requires c κs =
-    let a = c.before.before.before in
-    (a.requires.0, subst CodeFits c.before.code2.given.1 a.requires.1, a.requires.2)
+    let a = c.before in
+    (a.requires.0, subst CodeFits c.in-Split.is a.requires.1, a.requires.2)
 
-returns : tie.Need-returns
+returns : tie.Need-returns-in-Same
 unfolding diff_read
 returns c =
-    let a = c.before.before in
-    λ s H. (ap (λ (d : Code). diff_read d s a.args.self.bit) c.enum_told.given.1, H)
+    let a = c.before in
+    λ s H. (ap (λ (d : Code). diff_read d s a.args.self.bit) c.in-Same.is, H)
 
-returns-2 : tie.Need-returns-2
+returns-2 : tie.Need-returns-in-Raw
 returns-2 c =
-    let a = c.before.before.before.before in
-    λ s H. subst (λ (d : Code). Found s (diff_read d s a.args.self.bit) c.held-raw.result)
-    (sym c.before.before.code.given.1) (c.held-raw.ensures s H)
+    let a = c.before.before in
+    λ s H. subst (λ (d : Code). Found s (diff_read d s a.args.self.bit) c.held_raw.result)
+    (sym c.in-Raw.is) (c.held_raw.ensures s H)
 
-returns-3 : tie.Need-returns-3
+returns-3 : tie.Need-returns-in-Split
 returns-3 c =
-    let a = c.before.before.before.before in
-    λ s H. subst (λ (d : Code). Found s (diff_read d s a.args.self.bit) c.held-split.result)
-    (sym c.before.before.code2.given.1) (c.held-split.ensures s H)
+    let a = c.before.before in
+    λ s H. subst (λ (d : Code). Found s (diff_read d s a.args.self.bit) c.held_split.result)
+    (sym c.in-Split.is) (c.held_split.ensures s H)
 
-pub held-one-spec : {M : Type 1} → statement M
-held-one-spec =
+pub held_one_spec : {M : Type 1} → statement M
+held_one_spec =
     tie.close
     (tie.spec
     enum_told

@@ -4,22 +4,22 @@ use Rattle.rice.proofs.Giving.{raw_gives}
 use Rattle.rice.proofs.ahead.Ahead.held_raw.Statement.{statement}
 use Rattle.rice.proofs.ahead.Ahead.held_raw.Tie as tie
 
-sub-value : tie.Need-overflow-sub-value
+sub-value : tie.Need-overflow_sub-value
 sub-value c = search rules
 
-shr-value : tie.Need-overflow-shr-value
+shr-value : tie.Need-overflow_shr-value-then-n-self
 shr-value c = search rules
 
 past-requires : tie.Need-past-requires
 past-requires c κs = search rules
 
-returns : tie.Need-returns
+returns : tie.Need-returns-then-n-self
 returns c =
     let a = c.before.before.before.before in
-    λ s H. raw_gives s a.args.self H a.args.n _ a.requires.1 c.before.before.if1.true c.past.ensures
+    λ s H. raw_gives s a.args.self H a.args.n _ a.requires.1 c.if-n-self.true c.past.ensures
 
-returns-2 : tie.Need-returns-2
+returns-2 : tie.Need-returns-else-n-self
 returns-2 c = search rules
 
-pub held-raw-spec : {M : Type 1} → statement M
-held-raw-spec = tie.close (tie.spec sub-value shr-value past-requires returns returns-2)
+pub held_raw_spec : {M : Type 1} → statement M
+held_raw_spec = tie.close (tie.spec sub-value shr-value past-requires returns returns-2)

@@ -10,33 +10,33 @@ use Rattle.rice.proofs.Giving.{split_gives}
 use Rattle.rice.proofs.ahead.Ahead.held_split.Statement.{statement}
 use Rattle.rice.proofs.ahead.Ahead.held_split.Tie as tie
 
-cast-n : tie.Need-overflow-cast-n
-cast-n c = omega (arith, leading_le 64 c.before.args.self.held)
+cast-n : tie.Need-overflow_cast-n
+cast-n c = omega (arith, leading_le 64 c.args.self.held)
 
-add-used : tie.Need-overflow-add-used
-add-used c = omega (arith, leading_le 64 c.before.args.self.held)
+add-used : tie.Need-overflow_add-used
+add-used c = omega (arith, leading_le 64 c.args.self.held)
 
-add-used-2 : tie.Need-overflow-add-used-2
-add-used-2 c = omega (arith, leading_le 64 c.before.args.self.held)
+add-used-2 : tie.Need-overflow_add-used-2
+add-used-2 c = omega (arith, leading_le 64 c.args.self.held)
 
-sub-rest : tie.Need-overflow-sub-rest
+sub-rest : tie.Need-overflow_sub-rest
 sub-rest c = search rules
 
-shr-rest : tie.Need-overflow-shr-rest
+shr-rest : tie.Need-overflow_shr-rest
 shr-rest c = search rules
 
-shl-rest : tie.Need-overflow-shl-rest
+shl-rest : tie.Need-overflow_shl-rest
 shl-rest c = search rules
 
-sub-rest-2 : tie.Need-overflow-sub-rest-2
-sub-rest-2 c = rw (one_shifted c.before.before.before.before.args.fs (search rules)) (pow_pos _)
+sub-rest-2 : tie.Need-overflow_sub-rest-then-used-self
+sub-rest-2 c = rw (one_shifted c.args.fs (search rules)) (pow_pos _)
 
-shl-value : tie.Need-overflow-shl-value
+shl-value : tie.Need-overflow_shl-value
 shl-value c = search rules
 
-add-value : tie.Need-overflow-add-value
+add-value : tie.Need-overflow_add-value
 add-value c =
-    let a = c.before.before.before.before.args in
+    let a = c.args in
     let n = count_leading_zeros 64 a.self.held in
     let fs = a.fs in
     let l : fs ≤ 24 = search rules in
@@ -50,18 +50,18 @@ add-value c =
 past-requires : tie.Need-past-requires
 past-requires c κs = search rules
 
-returns : tie.Need-returns
+returns : tie.Need-returns-then-used-self
 returns c =
     let t = c.before.before in
-    let a = t.before.before.before.args in
+    let a = t.args in
     let l : a.fs ≤ 24 = search rules in
-    λ s H. split_gives s a.self H (count_leading_zeros 64 a.self.held) a.fs l refl t.if1.true _ c.past.ensures
+    λ s H. split_gives s a.self H (count_leading_zeros 64 a.self.held) a.fs l refl t.if-used-self.true _ c.past.ensures
 
-returns-2 : tie.Need-returns-2
+returns-2 : tie.Need-returns-else-used-self
 returns-2 c = search rules
 
-pub held-split-spec : {M : Type 1} → statement M
-held-split-spec =
+pub held_split_spec : {M : Type 1} → statement M
+held_split_spec =
     tie.close
     (tie.spec
     cast-n

@@ -27,119 +27,119 @@ record Filled (w : Width) (code : Code) (s : List ℕ) (old new : List ℤ) (fro
   on : Onward w code s old new from (spot a level i)
   holds : Holds s a
 
-abbrev invariant-loop : tie.invariant-loop
+abbrev invariant-loop : tie.invariant-loop-i
 invariant-loop self tile code mask below part₀ a₀ level₀ i₀ part a level i =
     Filled self code tile part₀ part (spot a₀ level₀ i₀) a level i
 
-abbrev decreases-loop : tie.decreases-loop
+abbrev decreases-loop : tie.decreases-loop-i
 decreases-loop self tile code mask below part₀ a₀ level₀ i₀ part a level i = length part₀ - i
 
-abbrev start : tie.At-loop invariant-loop decreases-loop → tie.Start invariant-loop decreases-loop
+abbrev start : tie.At-loop-i invariant-loop decreases-loop → tie.Start invariant-loop decreases-loop
 start l = l.before.before.before
 
-bare-requires : tie.Need-bare-requires invariant-loop decreases-loop
+bare-requires : tie.Need-bare-a-requires invariant-loop decreases-loop
 bare-requires c κs = tt
 
 -- the place of a bare start
-bare-is : (c : tie.After-bare invariant-loop decreases-loop) → c.bare.result.bit ≡ c.before.before.args.start.bit
-bare-is c = ap (λ (x : Ahead). x.bit) c.bare.ensures
+bare-is : (c : tie.After-bare-a invariant-loop decreases-loop) → c.bare-a.result.bit ≡ c.args.start.bit
+bare-is c = ap (λ (x : Ahead). x.bit) c.bare-a.ensures
 
-loop-holds : tie.Need-loop-init invariant-loop decreases-loop
+loop-holds : tie.Need-loop-i-init invariant-loop decreases-loop
 loop-holds c =
     let s = c.before.before in
     let a = s.args in
-    let b = spot c.bare.result a.start.level a.start.next in
+    let b = spot c.bare-a.result a.start.level a.start.next in
     record {
       on = onward-start a.self a.code a.tile.now a.part.now b
           (omega (arith, bare-is c, s.requires.1.0), s.requires.1.1, s.requires.1.2);
-      holds = bare_holds a.tile.now c.bare.result a.start.bit c.bare.ensures s.requires.1.0;
+      holds = bare_holds a.tile.now c.bare-a.result a.start.bit c.bare-a.ensures s.requires.1.0;
     }
 
 difference-requires : tie.Need-difference-requires invariant-loop decreases-loop
 difference-requires c κs =
     let l = c.before in
     let pre = (start l).requires.0 in
-    (pre.0, l.loop.invariant.holds, pre.1)
+    (pre.0, l.loop-i.invariant.holds, pre.1)
 
-enum-known-u : tie.Need-enum-known-u invariant-loop decreases-loop
+enum-known-u : tie.Need-enum_known-u invariant-loop decreases-loop
 enum-known-u c = search rules
 
-enum_told : tie.Need-enum-told invariant-loop decreases-loop
+enum_told : tie.Need-enum_told-1 invariant-loop decreases-loop
 enum_told c = search rules
 
-same_length : tie.Need-same-length invariant-loop decreases-loop
-same_length c = c.before.before.before.before.loop.invariant.on.sized
+same_length : tie.Need-shape_of-part-in_default invariant-loop decreases-loop
+same_length c = c.loop-i.invariant.on.sized
 
-returns : tie.Need-returns invariant-loop decreases-loop
+returns : tie.Need-returns-in_default invariant-loop decreases-loop
 returns c =
-    let d = c.before.before in
+    let d = c.before in
     let l = d.before.before in
     let a = (start l).args in
-    let read : diff_read a.code a.tile.now l.loop.a.bit ≡ short =
-    subst (Gives _ _) c.enum_told.given.1 d.difference.ensures in
+    let read : diff_read a.code a.tile.now l.loop-i.a.bit ≡ short =
+    subst (Gives _ _) c.in_default.is d.difference.ensures in
     subst
-    (λ (p : ℕ). CameTo a.self a.code a.tile.now a.part.now l.loop.part
-    (record { bit = p; level = a.start.level; next = a.start.next }) (Short l.loop.i))
+    (λ (p : ℕ). CameTo a.self a.code a.tile.now a.part.now l.loop-i.part
+    (record { bit = p; level = a.start.level; next = a.start.next }) (Short l.loop-i.i))
     (bare-is l.before)
-    (came_short a.self a.code a.tile.now _ _ _ _ l.loop.invariant.on d.before.loop-test.true read)
+    (came_short a.self a.code a.tile.now _ _ _ _ l.loop-i.invariant.on d.loop-i-test.true read)
 
 -- the loop at which a number is found; the number, and what is held after it
-abbrev now-at : tie.After-known-told invariant-loop decreases-loop → tie.At-loop invariant-loop decreases-loop
-now-at c = c.before.before.before.before.before
+abbrev now-at : tie.In-Bits invariant-loop decreases-loop → tie.At-loop-i invariant-loop decreases-loop
+now-at c = c.before.before.before
 
-read : (c : tie.After-known-told invariant-loop decreases-loop)
+read : (c : tie.In-Bits invariant-loop decreases-loop)
     → After (start (now-at c)).args.tile.now
-    (diff_read (start (now-at c)).args.code (start (now-at c)).args.tile.now (now-at c).loop.a.bit)
-    c.before.u.given.0.0 c.before.u.given.0.1.0
+    (diff_read (start (now-at c)).args.code (start (now-at c)).args.tile.now (now-at c).loop-i.a.bit)
+    c.in-Bits.u c.in-Bits.next
 read c =
     let a = (start (now-at c)).args in
-    subst (Gives a.tile.now (diff_read a.code a.tile.now (now-at c).loop.a.bit)) c.before.u.given.1
-    c.before.before.before.difference.ensures
+    subst (Gives a.tile.now (diff_read a.code a.tile.now (now-at c).loop-i.a.bit)) c.in-Bits.is
+    c.difference.ensures
 
-store-requires : tie.Need-store-requires invariant-loop decreases-loop
+store-requires : tie.Need-store-level-requires invariant-loop decreases-loop
 store-requires c κs =
     let l = now-at c.before in
-    let pre = (start l).pre.0 in
+    let pre = (start l).requires.0 in
     let a = (start l).args in (
       pre.2,
-      l.loop.inv.on.inside.1,
-      diff_small a.code a.tile.now l.loop.a.bit pre.1 (read c.before).0,
-      c.before.before.before.before.before.loop-test.true,
+      l.loop-i.invariant.on.inside.1,
+      diff_small a.code a.tile.now l.loop-i.a.bit pre.1 (read c.before).0,
+      c.loop-i-test.true,
     )
 
-add-i : tie.Need-overflow-add-i invariant-loop decreases-loop
+add-i : tie.Need-overflow_add-i invariant-loop decreases-loop
 add-i c = search rules
 
-loop-less : tie.Need-loop-smaller invariant-loop decreases-loop
-loop-less c = let l = now-at c.before.before.before in omega (arith, l.loop.inv.on.sized)
+loop-less : tie.Need-loop-i-smaller invariant-loop decreases-loop
+loop-less c = let l = now-at c.before.before.before in omega (arith, l.loop-i.invariant.on.sized)
 
-loop-again : tie.Need-loop-preserved invariant-loop decreases-loop
+loop-again : tie.Need-loop-i-preserved invariant-loop decreases-loop
 loop-again c =
     let k = c.before.before.before in
     let l = now-at k in
     let a = (start l).args in
-    let store = c.before.store in
+    let store = c.store-level in
     let within = (read k).1.within in
     record {
-      on = onward_then l.loop.inv.on
-          (onward-one a.self a.code a.tile.now l.loop.part (spot l.loop.a l.loop.level l.loop.i)
-          store.result _ _ k.before.before.before.before.loop-test.true (read k).0 (omega arith)
+      on = onward_then l.loop-i.invariant.on
+          (onward-one a.self a.code a.tile.now l.loop-i.part (spot l.loop-i.a l.loop-i.level l.loop-i.i)
+          store.result _ _ k.loop-i-test.true (read k).0 (omega arith)
           store.ensures.0 store.ensures.1 (omega arith));
       holds = (read k).1;
     }
 
-same-length-2 : tie.Need-same-length-2 invariant-loop decreases-loop
-same-length-2 c = c.before.loop.invariant.on.sized
+same-length-2 : tie.Need-shape_of-part invariant-loop decreases-loop
+same-length-2 c = c.loop-i.invariant.on.sized
 
-returns-2 : tie.Need-returns-2 invariant-loop decreases-loop
+returns-2 : tie.Need-returns invariant-loop decreases-loop
 returns-2 c =
     let l = c.before in
     let a = (start l).args in
     subst
-    (λ (p : ℕ). CameTo a.self a.code a.tile.now a.part.now l.loop.part
-    (record { bit = p; level = a.start.level; next = a.start.next }) (To (spot l.loop.a l.loop.level l.loop.i)))
+    (λ (p : ℕ). CameTo a.self a.code a.tile.now a.part.now l.loop-i.part
+    (record { bit = p; level = a.start.level; next = a.start.next }) (To (spot l.loop-i.a l.loop-i.level l.loop-i.i)))
     (bare-is l.before)
-    (came_to a.self a.code a.tile.now _ _ _ _ l.loop.invariant.on c.loop-test.false)
+    (came_to a.self a.code a.tile.now _ _ _ _ l.loop-i.invariant.on c.loop-i-test.false)
 
 pub each_spec : {M : Type 1} → statement M
 each_spec =

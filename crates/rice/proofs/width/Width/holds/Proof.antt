@@ -13,50 +13,50 @@ use Rattle.rice.proofs.width.Width.holds.Statement.{statement}
 use Rattle.rice.proofs.width.Width.holds.Tie as tie
 
 -- what the code has of a negative pixel, and of another
-negative : (c : tie.Then1) → Negative w32 c.before.before.args.z
-negative c = is_negative w32 _ c.before.before.ranges.z c.if1.true
+negative : (c : tie.Then-z-lt0) → Negative w32 c.args.z
+negative c = is_negative w32 _ c.ranges.z c.if-z-lt0.true
 
-positive : (c : tie.After-mask) → Positive w32 c.before.before.before.args.z
-positive c = is_positive w32 _ c.before.before.before.ranges.z c.before.if1.false
+positive : (c : tie.After-mask) → Positive w32 c.args.z
+positive c = is_positive w32 _ c.ranges.z c.if-z-lt0.false
 
-negatives-requires : tie.Need-negatives-requires
+negatives-requires : tie.Need-negatives-below-requires
 negatives-requires c κs = search rules
 
-sub-result : tie.Need-overflow-sub-result
+sub-result : tie.Need-overflow_sub-result
 sub-result c = rw (negative c).less (record { sfits = (negative c).small })
 
-cast-result : tie.Need-overflow-cast-result
+cast-result : tie.Need-overflow_cast-result
 cast-result c = rw (negative c).back (tt, omega (arith, (negative c).small))
 
 mask-requires : tie.Need-mask-requires
 mask-requires c κs = search rules
 
-add-above : tie.Need-overflow-add-above
-add-above c = omega (arith, sizes c.before.before.before.args.self)
+add-above : tie.Need-overflow_add-above
+add-above c = omega (arith, sizes c.args.self)
 
-sub-above : tie.Need-overflow-sub-above
+sub-above : tie.Need-overflow_sub-above
 sub-above c = search rules
 
-cast-result-2 : tie.Need-overflow-cast-result-2
+cast-result-2 : tie.Need-overflow_cast-result-else-z-lt0
 cast-result-2 c = rw (positive c).back (tt, omega (arith, (positive c).small))
 
-returns : tie.Need-returns
+returns : tie.Need-returns-then-z-lt0
 unfolding in_width
 returns c =
-    let a = c.before.before.args in
-    ap₂ (λ (y : ℤ) (m : ℕ). ltb (nat_abs y) m) (negative c).back (omega (arith, c.before.negatives.ensures))
+    let a = c.args in
+    ap₂ (λ (y : ℤ) (m : ℕ). ltb (nat_abs y) m) (negative c).back (omega (arith, c.negatives-below.ensures))
     ∙ sym (ap (in_width a.self) (negative c).is)
 
-returns-2 : tie.Need-returns-2
+returns-2 : tie.Need-returns-else-z-lt0
 unfolding in_width
 returns-2 c =
-    let a = c.before.before.before.args in
+    let a = c.args in
     ap₂ (λ (y : ℤ) (m : ℕ). ltb (nat_abs y) m) (positive c).back
-    (omega (arith, c.mask.ensures, c.before.before.negatives.ensures))
+    (omega (arith, c.mask.ensures, c.negatives-below.ensures))
     ∙ sym (ap (in_width a.self) (positive c).is)
 
-pub holds-spec : {M : Type 1} → statement M
-holds-spec =
+pub holds_spec : {M : Type 1} → statement M
+holds_spec =
     tie.close
     (tie.spec
     negatives-requires

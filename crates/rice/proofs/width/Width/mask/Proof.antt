@@ -7,23 +7,23 @@ use Rattle.rice.specs.declared.width.Width.{Width}
 use Rattle.rice.proofs.width.Width.mask.Statement.{statement}
 use Rattle.rice.proofs.width.Width.mask.Tie as tie
 
-enum_told : tie.Need-enum-told
+enum_told : tie.Need-enum_told-1
 enum_told c = search rules
 
-enum-told-2 : tie.Need-enum-told-2
+enum-told-2 : tie.Need-enum_told-in-Sixteen
 enum-told-2 c = search rules
 
-enum-told-3 : tie.Need-enum-told-3
+enum-told-3 : tie.Need-enum_told-in-ThirtyTwo
 enum-told-3 c = search rules
 
-returns : tie.Need-returns
-returns c = sym (ap (λ (w : Width). 2 ^ bits_of w) c.enum_told.given.1)
+returns : tie.Need-returns-in-Eight
+returns c = sym (ap (λ (w : Width). 2 ^ bits_of w) c.in-Eight.is)
 
-returns-2 : tie.Need-returns-2
-returns-2 c = sym (ap (λ (w : Width). 2 ^ bits_of w) c.enum-told2.given.1)
+returns-2 : tie.Need-returns-in-Sixteen
+returns-2 c = sym (ap (λ (w : Width). 2 ^ bits_of w) c.in-Sixteen.is)
 
-returns-3 : tie.Need-returns-3
-returns-3 c = sym (ap (λ (w : Width). 2 ^ bits_of w) c.enum-told3.given.1)
+returns-3 : tie.Need-returns-in-ThirtyTwo
+returns-3 c = sym (ap (λ (w : Width). 2 ^ bits_of w) c.in-ThirtyTwo.is)
 
-pub mask-spec : {M : Type 1} → statement M
-mask-spec = tie.close (tie.spec enum_told enum-told-2 enum-told-3 returns returns-2 returns-3)
+pub mask_spec : {M : Type 1} → statement M
+mask_spec = tie.close (tie.spec enum_told enum-told-2 enum-told-3 returns returns-2 returns-3)

@@ -14,21 +14,21 @@ use Rattle.rice.proofs.width.Width.next_by.Tie as tie
 unmap-requires : tie.Need-unmap-requires
 unmap-requires c κs = search rules
 
-add-result : tie.Need-overflow-add-result
+add-result : tie.Need-overflow_add-result
 add-result c =
     let few : c.unmap.result < 2 ^ 32 = rw c.unmap.ensures (modulo_lt _ (2 ^ 32) (pow_pos 32)) in
-    omega (arith, (sizes c.before.args.self).all)
+    omega (arith, (sizes c.args.self).all)
 
 returns : tie.Need-returns
 returns c =
-    let a = c.before.args in
-    let mask = c.before.requires.0 in (
+    let a = c.args in
+    let mask = c.requires.0 in (
       and_width_lt a.self (a.level + c.unmap.result) _ mask,
       ap (raised a.self)
           (and_width a.self (a.level + c.unmap.result) _ mask
           ∙ ap (λ (n : ℕ). (a.level + n) % 2 ^ bits_of a.self) c.unmap.ensures)
-          ∙ raised-following a.self a.level a.u c.before.requires.1,
+          ∙ raised-following a.self a.level a.u c.requires.1,
     )
 
-pub next-by-spec : {M : Type 1} → statement M
-next-by-spec = tie.close (tie.spec unmap-requires add-result returns)
+pub next_by_spec : {M : Type 1} → statement M
+next_by_spec = tie.close (tie.spec unmap-requires add-result returns)

@@ -10,10 +10,10 @@ use Rattle.rice.proofs.Wrapping.{sizes, below_small, raised_32, raised-made}
 use Rattle.rice.proofs.width.Width.pixel_by.Statement.{statement}
 use Rattle.rice.proofs.width.Width.pixel_by.Tie as tie
 
-cast-result : tie.Need-overflow-cast-result
+cast-result : tie.Need-overflow_cast-result
 cast-result c = record { sfits = omega (arith, (sizes c.args.self).all, c.requires.1) }
 
-cast-result-2 : tie.Need-overflow-cast-result-2
+cast-result-2 : tie.Need-overflow_cast-result-2
 cast-result-2 c = record { sfits = omega (arith, below_small c.args.self _ c.requires.0) }
 
 made : (c : tie.Start) → to_z w64 c.args.level -ℤ to_z w64 c.args.below ≡ raised c.args.self c.args.level
@@ -26,14 +26,14 @@ back : (c : tie.Start)
     → to_z w64 (of_z w64 (to_z w64 c.args.level -ℤ to_z w64 c.args.below)) ≡ raised c.args.self c.args.level
 back c = ap (λ z. to_z w64 (of_z w64 z)) (made c) ∙ to_z-of_z {w = w64} (sfits_widen {w = w32} tt (fits c))
 
-sub-result : tie.Need-overflow-sub-result
+sub-result : tie.Need-overflow_sub-result
 sub-result c = rw (made c) (sfits_widen {w = w32} tt (fits c))
 
-cast-result-3 : tie.Need-overflow-cast-result-3
+cast-result-3 : tie.Need-overflow_cast-result-3
 cast-result-3 c = rw (back c) (fits c)
 
 returns : tie.Need-returns
 returns c = ap (λ z. to_z w32 (of_z w32 z)) (back c) ∙ to_z-of_z (fits c)
 
-pub pixel-by-spec : {M : Type 1} → statement M
-pixel-by-spec = tie.close (tie.spec cast-result cast-result-2 sub-result cast-result-3 returns)
+pub pixel_by_spec : {M : Type 1} → statement M
+pixel_by_spec = tie.close (tie.spec cast-result cast-result-2 sub-result cast-result-3 returns)

@@ -18,20 +18,20 @@ inside s p a n h =
     ap (λ (k : ℕ). field_at s p 64 / 2 ^ k % 2 ^ n) rest ∙ ap (λ (x : ℕ). x % 2 ^ n) (field-first s p (a + n) 64 h)
     ∙ field_end s p a n
 
-whole-word-requires : tie.Need-whole-word-requires
+whole-word-requires : tie.Need-whole_word-requires
 whole-word-requires c κs = search rules
 
 bits-requires : tie.Need-bits-requires
 bits-requires c κs = search rules
 
-sub-result : tie.Need-overflow-sub-result
-sub-result c = omega (arith, (sizes c.before.before.before.args.self).width)
+sub-result : tie.Need-overflow_sub-result
+sub-result c = omega (arith, (sizes c.args.self).width)
 
-sub-result-2 : tie.Need-overflow-sub-result-2
+sub-result-2 : tie.Need-overflow_sub-result-2
 sub-result-2 c = let a = c.before.before.before in omega (arith, (sizes a.args.self).width, a.requires.1)
 
-shr-result : tie.Need-overflow-shr-result
-shr-result c = omega (arith, (sizes c.before.before.before.args.self).least)
+shr-result : tie.Need-overflow_shr-result
+shr-result c = omega (arith, (sizes c.args.self).least)
 
 returns : tie.Need-returns
 returns c =
@@ -41,11 +41,11 @@ returns c =
     let k = a.args.k in
     let lead = a.args.lead in
     let fits : lead + bits_of w ≤ 64 = omega (arith, (sizes w).width, a.requires.1) in
-    and_width w (c.before.whole_word.result / 2 ^ (64 - c.bits.result - lead)) _ a.requires.2
-    ∙ ap₂ (λ (x n : ℕ). x / 2 ^ (64 - n - lead) % 2 ^ bits_of w) c.before.whole_word.ensures c.bits.ensures
+    and_width w (c.whole_word.result / 2 ^ (64 - c.bits.result - lead)) _ a.requires.2
+    ∙ ap₂ (λ (x n : ℕ). x / 2 ^ (64 - n - lead) % 2 ^ bits_of w) c.whole_word.ensures c.bits.ensures
     ∙ inside s (k * 8) lead (bits_of w) fits
 
-pub raw-at-spec : {M : Type 1} → statement M
-raw-at-spec =
+pub raw_at_spec : {M : Type 1} → statement M
+raw_at_spec =
     tie.close
     (tie.spec whole-word-requires bits-requires sub-result sub-result-2 shr-result returns)

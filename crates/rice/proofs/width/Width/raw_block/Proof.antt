@@ -10,175 +10,175 @@ use Rattle.rice.proofs.RawPixels.{RawStored, raw_small, raw_start, raw_room, raw
 use Rattle.rice.proofs.width.Width.raw_block.Statement.{statement}
 use Rattle.rice.proofs.width.Width.raw_block.Tie as tie
 
-abbrev invariant-loop : tie.invariant-loop
+abbrev invariant-loop : tie.invariant-loop-part
 invariant-loop self tile mask below start bit part₀ size lead k₀ level₀ i₀ part k level i =
     RawStored self tile bit start part₀ part k level i
 
-abbrev decreases-loop : tie.decreases-loop
+abbrev decreases-loop : tie.decreases-loop-part
 decreases-loop self tile mask below start bit part₀ size lead k₀ level₀ i₀ part k level i = length part₀ - i
 
-abbrev start : tie.At-loop invariant-loop decreases-loop → tie.Start invariant-loop decreases-loop
+abbrev start : tie.At-loop-part invariant-loop decreases-loop → tie.Start invariant-loop decreases-loop
 start l = l.before.before.before
 
-start-bytes-requires : tie.Need-start-bytes-requires invariant-loop decreases-loop
+start-bytes-requires : tie.Need-start_bytes-size-requires invariant-loop decreases-loop
 start-bytes-requires c κs = tt
 
-loop-holds : tie.Need-loop-init invariant-loop decreases-loop
+loop-holds : tie.Need-loop-part-init invariant-loop decreases-loop
 loop-holds c =
     let s = c.before.before in
     let a = s.args in
     raw_start a.self a.tile.now a.bit a.start a.part.now s.requires.1 s.requires.0.2
 
 -- where there is a next pixel, its number is within the tile
-room : (l : tie.At-loop invariant-loop decreases-loop) → l.loop.i < length l.loop.part
-    → l.loop.k + start_bytes (start l).args.self + 8 ≤ length (start l).args.tile.now
+room : (l : tie.At-loop-part invariant-loop decreases-loop) → l.loop-part.i < length l.loop-part.part
+    → l.loop-part.k + start_bytes (start l).args.self + 8 ≤ length (start l).args.tile.now
 room l h =
     let a = (start l).args in
-    raw_room a.self a.tile.now a.bit a.start a.part.now (start l).requires.1 l.loop.part l.loop.k
-    l.loop.level l.loop.i l.loop.invariant h
+    raw_room a.self a.tile.now a.bit a.start a.part.now (start l).requires.1 l.loop-part.part l.loop-part.k
+    l.loop-part.level l.loop-part.i l.loop-part.invariant h
 
-sub-loop : tie.Need-overflow-sub-loop invariant-loop decreases-loop
-sub-loop c = c.loop.invariant.on.inside.2
+sub-loop : tie.Need-overflow_sub-part invariant-loop decreases-loop
+sub-loop c = c.loop-part.invariant.on.inside.2
 
-some : (c : tie.In-loop invariant-loop decreases-loop) → c.before.loop.i < length c.before.loop.part
+some : (c : tie.In-loop-part invariant-loop decreases-loop) → c.loop-part.i < length c.loop-part.part
 some c = omega arith
 
-raw-at-requires : tie.Need-raw-at-requires invariant-loop decreases-loop
-raw-at-requires c κs = (omega (arith, room c.before (some c)), omega arith, (start c.before).pre.0.1.0)
+raw-at-requires : tie.Need-raw_at-a-requires invariant-loop decreases-loop
+raw-at-requires c κs = (omega (arith, room c.before (some c)), omega arith, (start c.before).requires.0.1.0)
 
 -- the number at byte k that is read is below 2 ^ 32
-store-requires : tie.Need-store-requires invariant-loop decreases-loop
+store-requires : tie.Need-store-first-requires invariant-loop decreases-loop
 store-requires c κs =
     let r = c.before in
     let l = r.before.before in
     let a = (start l).args in
-    ((start l).requires.0.1, l.loop.invariant.on.inside.1, raw_small a.self a.tile.now _ _ r.raw_at.ensures, some r.before)
+    ((start l).requires.0.1, l.loop-part.invariant.on.inside.1, raw_small a.self a.tile.now _ _ r.raw_at-a.ensures, some r.before)
 
 -- the first pixel of a turn is stored
-abbrev turn : tie.After-store invariant-loop decreases-loop → tie.At-loop invariant-loop decreases-loop
+abbrev turn : tie.After-store-first invariant-loop decreases-loop → tie.At-loop-part invariant-loop decreases-loop
 turn c = c.before.before.before.before
 
-first : (c : tie.After-store invariant-loop decreases-loop)
+first : (c : tie.After-store-first invariant-loop decreases-loop)
     → RawStored (start (turn c)).args.self (start (turn c)).args.tile.now (start (turn c)).args.bit
-    (start (turn c)).args.start (start (turn c)).args.part.now c.store.new.1.1.1.1.1.0
-    ((turn c).loop.k + (turn c).before.start-bytes.result) c.store.result ((turn c).loop.i + 1)
+    (start (turn c)).args.start (start (turn c)).args.part.now c.store-first.new.1.1.1.1.1.0
+    ((turn c).loop-part.k + (turn c).start_bytes-size.result) c.store-first.result ((turn c).loop-part.i + 1)
 first c =
     let l = turn c in
     let a = (start l).args in
-    raw_on a.self a.tile.now a.bit a.start a.part.now (start l).pre.1 l.loop.part l.loop.k
-    l.loop.level l.loop.i l.loop.inv _ _ _ _ _ (some c.before.before.before) c.before.before.raw_at.ensures
-    c.store.ensures (ap (λ (n : ℕ). l.loop.k + n) l.before.start-bytes.ensures) refl
+    raw_on a.self a.tile.now a.bit a.start a.part.now (start l).requires.1 l.loop-part.part l.loop-part.k
+    l.loop-part.level l.loop-part.i l.loop-part.invariant _ _ _ _ _ (some c.before.before.before) c.raw_at-a.ensures
+    c.store-first.ensures (ap (λ (n : ℕ). l.loop-part.k + n) l.start_bytes-size.ensures) refl
 
 -- and there is another
-another : (c : tie.After-store invariant-loop decreases-loop) → (turn c).loop.i + 1 < length c.store.new.1.1.1.1.1.0
-another c = omega (arith, (first c).on.sized, (turn c).loop.invariant.on.sized, c.before.before.before.loop-test.true)
+another : (c : tie.After-store-first invariant-loop decreases-loop) → (turn c).loop-part.i + 1 < length c.store-first.new.1.1.1.1.1.0
+another c = omega (arith, (first c).on.sized, (turn c).loop-part.invariant.on.sized, c.loop-part-test.true)
 
-room-2 : (c : tie.After-store invariant-loop decreases-loop)
-    → (turn c).loop.k + (turn c).before.start-bytes.result + start_bytes (start (turn c)).args.self + 8
+room-2 : (c : tie.After-store-first invariant-loop decreases-loop)
+    → (turn c).loop-part.k + (turn c).start_bytes-size.result + start_bytes (start (turn c)).args.self + 8
     ≤ length (start (turn c)).args.tile.now
 room-2 c =
     let l = turn c in
     let a = (start l).args in
-    raw_room a.self a.tile.now a.bit a.start a.part.now (start l).pre.1 _ _ _ _ (first c) (another c)
+    raw_room a.self a.tile.now a.bit a.start a.part.now (start l).requires.1 _ _ _ _ (first c) (another c)
 
-add-raw-at : tie.Need-overflow-add-raw-at invariant-loop decreases-loop
+add-raw-at : tie.Need-overflow_add-k invariant-loop decreases-loop
 add-raw-at c = let s = c.before in omega (arith, room-2 s, (start (turn s)).pre.0.0)
 
-raw-at-requires-2 : tie.Need-raw-at-requires-2 invariant-loop decreases-loop
+raw-at-requires-2 : tie.Need-raw_at-b-requires invariant-loop decreases-loop
 raw-at-requires-2 c κs = (omega (arith, room-2 c.before), omega arith, (start (turn c.before)).pre.0.1.0)
 
-add-store : tie.Need-overflow-add-store invariant-loop decreases-loop
+add-store : tie.Need-overflow_add-i invariant-loop decreases-loop
 add-store c = search rules
 
-store-requires-2 : tie.Need-store-requires-2 invariant-loop decreases-loop
+store-requires-2 : tie.Need-store-level-requires invariant-loop decreases-loop
 store-requires-2 c κs =
     let r = c.before in
     let s = r.before.before in
     let a = (start (turn s)).args in (
       (start (turn s)).pre.0.1,
       (first s).on.inside.1,
-      raw_small a.self a.tile.now _ _ r.raw-at2.ensures,
+      raw_small a.self a.tile.now _ _ r.raw_at-b.ensures,
       another s,
     )
 
-mul-k : tie.Need-overflow-mul-k invariant-loop decreases-loop
+mul-k : tie.Need-overflow_mul-k invariant-loop decreases-loop
 mul-k c =
     let s = c.before.before.before.before.before in
-    omega (arith, sizes (start (turn s)).args.self, (turn s).before.start-bytes.ensures)
+    omega (arith, sizes (start (turn s)).args.self, (turn s).start_bytes-size.ensures)
 
-add-k : tie.Need-overflow-add-k invariant-loop decreases-loop
+add-k : tie.Need-overflow_add-k-in-loop-part invariant-loop decreases-loop
 add-k c =
     let s = c.before.before.before.before.before in
-    omega (arith, room-2 s, (turn s).before.start-bytes.ensures, (start (turn s)).pre.0.0)
+    omega (arith, room-2 s, (turn s).start_bytes-size.ensures, (start (turn s)).pre.0.0)
 
-add-i : tie.Need-overflow-add-i invariant-loop decreases-loop
+add-i : tie.Need-overflow_add-i-in-loop-part invariant-loop decreases-loop
 add-i c = search rules
 
-loop-less : tie.Need-loop-smaller invariant-loop decreases-loop
+loop-less : tie.Need-loop-part-smaller invariant-loop decreases-loop
 loop-less c =
     let s = c.before.before.before.before.before in
-    omega (arith, (turn s).loop.invariant.on.sized, another s, (first s).on.sized)
+    omega (arith, (turn s).loop-part.invariant.on.sized, another s, (first s).on.sized)
 
-loop-again : tie.Need-loop-preserved invariant-loop decreases-loop
+loop-again : tie.Need-loop-part-preserved invariant-loop decreases-loop
 loop-again c =
     let d = c.before in
     let s = d.before.before.before.before in
     let l = turn s in
     let a = (start l).args in
-    raw_on a.self a.tile.now a.bit a.start a.part.now (start l).pre.1 _ _ _ _ (first s) _ _ _ _ _
-    (another s) d.before.before.raw-at2.ensures d.store2.ensures (omega (arith, l.before.start-bytes.ensures))
+    raw_on a.self a.tile.now a.bit a.start a.part.now (start l).requires.1 _ _ _ _ (first s) _ _ _ _ _
+    (another s) d.raw_at-b.ensures d.store-level.ensures (omega (arith, l.start_bytes-size.ensures))
     (omega arith)
 
-raw-at-requires-3 : tie.Need-raw-at-requires-3 invariant-loop decreases-loop
+raw-at-requires-3 : tie.Need-raw_at-a-requires-then-i-part invariant-loop decreases-loop
 raw-at-requires-3 c κs =
     let l = c.before.before in
-    (omega (arith, room l c.if1.true), omega arith, (start l).requires.0.1.0)
+    (omega (arith, room l c.if-i-part.true), omega arith, (start l).requires.0.1.0)
 
-store-requires-3 : tie.Need-store-requires-3 invariant-loop decreases-loop
+store-requires-3 : tie.Need-store-level-requires-then-i-part invariant-loop decreases-loop
 store-requires-3 c κs =
     let r = c.before in
     let l = r.before.before.before in
     let a = (start l).args in
-    ((start l).requires.0.1, l.loop.invariant.on.inside.1, raw_small a.self a.tile.now _ _ r.raw-at3.ensures, r.before.if1.true)
+    ((start l).requires.0.1, l.loop-part.invariant.on.inside.1, raw_small a.self a.tile.now _ _ r.raw_at-a-then-i-part.ensures, r.if-i-part.true)
 
 -- the last pixel is stored
-last : (c : tie.After-store3 invariant-loop decreases-loop)
+last : (c : tie.After-store-level-then-i-part invariant-loop decreases-loop)
     → RawStored (start c.before.before.before.before.before).args.self
     (start c.before.before.before.before.before).args.tile.now (start c.before.before.before.before.before).args.bit
     (start c.before.before.before.before.before).args.start (start c.before.before.before.before.before).args.part.now
-    c.store3.new.1.1.1.1.1.0
-    (c.before.before.before.before.before.loop.k + start_bytes (start c.before.before.before.before.before).args.self)
-    c.store3.result (c.before.before.before.before.before.loop.i + 1)
+    c.store-level-then-i-part.new.1.1.1.1.1.0
+    (c.loop-part.k + start_bytes (start c.before.before.before.before.before).args.self)
+    c.store-level-then-i-part.result (c.loop-part.i + 1)
 last c =
     let r = c.before.before in
     let l = r.before.before.before in
     let a = (start l).args in
-    raw_on a.self a.tile.now a.bit a.start a.part.now (start l).requires.1 l.loop.part l.loop.k
-    l.loop.level l.loop.i l.loop.invariant _ _ _ _ _ r.before.if1.true r.raw-at3.ensures c.store3.ensures refl refl
+    raw_on a.self a.tile.now a.bit a.start a.part.now (start l).requires.1 l.loop-part.part l.loop-part.k
+    l.loop-part.level l.loop-part.i l.loop-part.invariant _ _ _ _ _ r.if-i-part.true r.raw_at-a-then-i-part.ensures c.store-level-then-i-part.ensures refl refl
 
-same_length : tie.Need-same-length invariant-loop decreases-loop
+same_length : tie.Need-shape_of-part-then-i-part invariant-loop decreases-loop
 same_length c = (last c.before).on.sized
 
-returns : tie.Need-returns invariant-loop decreases-loop
+returns : tie.Need-returns-then-i-part invariant-loop decreases-loop
 returns c =
     let s = c.before in
     let l = s.before.before.before.before.before in
     let a = (start l).args in
-    let all : length s.store3.new.1.1.1.1.1.0 ≤ l.loop.i + 1 =
-    omega (arith, (last s).on.sized, l.loop.invariant.on.sized, s.before.before.before.before.loop-test.false) in
+    let all : length s.store-level-then-i-part.new.1.1.1.1.1.0 ≤ l.loop-part.i + 1 =
+    omega (arith, (last s).on.sized, l.loop-part.invariant.on.sized, s.loop-part-test.false) in
     raw_end a.self a.tile.now a.bit a.start a.part.now (start l).requires.1 _ _ _ _ (last s) all
 
-same-length-2 : tie.Need-same-length-2 invariant-loop decreases-loop
-same-length-2 c = c.before.before.loop.invariant.on.sized
+same-length-2 : tie.Need-shape_of-part-else-i-part invariant-loop decreases-loop
+same-length-2 c = c.loop-part.invariant.on.sized
 
-returns-2 : tie.Need-returns-2 invariant-loop decreases-loop
+returns-2 : tie.Need-returns-else-i-part invariant-loop decreases-loop
 returns-2 c =
     let l = c.before.before in
     let a = (start l).args in
-    raw_end a.self a.tile.now a.bit a.start a.part.now (start l).requires.1 _ _ _ _ l.loop.invariant c.if1.false
+    raw_end a.self a.tile.now a.bit a.start a.part.now (start l).requires.1 _ _ _ _ l.loop-part.invariant c.if-i-part.false
 
-pub raw-block-spec : {M : Type 1} → statement M
-raw-block-spec =
+pub raw_block_spec : {M : Type 1} → statement M
+raw_block_spec =
     tie.close
     (tie.spec
     invariant-loop

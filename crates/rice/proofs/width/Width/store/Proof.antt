@@ -8,27 +8,27 @@ use mir.Facts.{to_z-of_z}
 use Rattle.rice.proofs.width.Width.store.Statement.{statement}
 use Rattle.rice.proofs.width.Width.store.Tie as tie
 
-next-by-requires : tie.Need-next-by-requires
+next-by-requires : tie.Need-next_by-next-requires
 next-by-requires c κs = search rules
 
-pixel-by-requires : tie.Need-pixel-by-requires
+pixel-by-requires : tie.Need-pixel_by-pixel-requires
 pixel-by-requires c κs = search rules
 
-mul-pixel : tie.Need-overflow-mul-pixel
+mul-pixel : tie.Need-offset_bounds-part-i
 mul-pixel c = search rules
 
-slice-set-from-pixel : tie.Need-slice-set-from-pixel
+slice-set-from-pixel : tie.Need-bounds-part-i
 slice-set-from-pixel c = search rules
 
-same_length : tie.Need-same-length
+same_length : tie.Need-shape_of-part
 same_length c = search rules
 
 returns : tie.Need-returns
 returns c =
     let n = c.before in
-    let a = n.before.args in (
-      n.next-by.ensures,
-      ap (λ (z : ℤ). set a.part.now a.i z) (to_z-of_z {w = w32} (record { sfits = c.pixel-by.type-inv }) ∙ c.pixel-by.ensures),
+    let a = n.args in (
+      n.next_by-next.ensures,
+      ap (λ (z : ℤ). set a.part.now a.i z) (to_z-of_z {w = w32} (record { sfits = c.pixel_by-pixel.type-inv }) ∙ c.pixel_by-pixel.ensures),
     )
 
 pub store_spec : {M : Type 1} → statement M
