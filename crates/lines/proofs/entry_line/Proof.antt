@@ -125,21 +125,21 @@ same_length c = search rules
 
 returns : tie.Need-returns-in-Digits
 returns c =
-    let put = c.before.before in
-    let told = put.before.before in
-    let m = told.before in
+    let put = c in
+    let told = put in
+    let m = told.before.before.before.before.before in
     let e = line-told m _ _ told.in-Digits.is (heads m).first_of-shown.ensures in
     said m (heads m).first_of-shown.result.now _ put.put_line.ensures.0 put.put_line.ensures.1 e
-    (omega (arith, few-digits (heads m).before.before))
+    (omega (arith, few-digits (heads m).before.before.before.before))
 
 same-length-2 : tie.Need-shape_of-out-in-Words
 same-length-2 c = search rules
 
 returns-2 : tie.Need-returns-in-Words
 returns-2 c =
-    let put = c.before.before in
-    let told = put.before.before in
-    let m = told.before in
+    let put = c in
+    let told = put in
+    let m = told.before.before.before.before.before in
     let e = line-told m _ _ told.in-Words.is refl in
     said m (start m).args.text.now _ put.put_line-in-Words.ensures.0 put.put_line-in-Words.ensures.1 e (omega arith)
 
@@ -148,9 +148,9 @@ same-length-3 c = search rules
 
 returns-3 : tie.Need-returns-in-Nothing
 returns-3 c =
-    let put = c.before.before in
-    let told = put.before.before.before in
-    let m = told.before in
+    let put = c in
+    let told = put in
+    let m = told.before.before.before.before.before.before.before in
     let e = line-told m _ _ told.in-Nothing.is refl in
     said m [] _ put.put_line-in-Nothing.ensures.0 put.put_line-in-Nothing.ensures.1 e (omega arith)
 
