@@ -16,13 +16,13 @@ signed-requires : tie.Need-signed-requires
 signed-requires c κs = le-leb (c.args.b - c.args.a) (2 ^ 63) (omega arith)
 
 returns : tie.Need-returns-then-a-b
-returns c = to_z-of_z (record { sfits = c.signed.type-inv }) ∙ c.signed.ensures ∙ difference_minus _ _ c.if-a-b.true
+returns c = to_z-of_z (record { sfits = c.signed.type_inv }) ∙ c.signed.ensures ∙ difference_minus _ _ c.if-a-b.true
 
 signed-requires-2 : tie.Need-signed-requires-2
 signed-requires-2 c κs = lt-ltb (c.args.a - c.args.b) (2 ^ 63) (omega arith)
 
 returns-2 : tie.Need-returns
-returns-2 c = to_z-of_z (record { sfits = c.signed-2.type-inv }) ∙ c.signed-2.ensures ∙ difference_plus _ _ c.if-a-b.false
+returns-2 c = to_z-of_z (record { sfits = c.signed-2.type_inv }) ∙ c.signed-2.ensures ∙ difference_plus _ _ c.if-a-b.false
 
 pub difference_spec : {M : Type 1} → statement M
 difference_spec =

@@ -18,7 +18,7 @@ difference-requires c κs = search rules
 returns : tie.Need-returns-then-negative
 returns c =
     let a = c.args in
-    to_z-of_z (record { sfits = c.difference.type-inv })
+    to_z-of_z (record { sfits = c.difference.type_inv })
     ∙ c.difference.ensures
     ∙ power_minus a.e a.places a.zeros
     ∙ sym (ap (λ (t : Bool). signed_of t a.e -ℤ pos a.places +ℤ pos a.zeros) c.if-negative.true)
@@ -32,7 +32,7 @@ difference-requires-2 c κs = search rules
 returns-2 : tie.Need-returns
 returns-2 c =
     let a = c.args in
-    to_z-of_z (record { sfits = c.difference-2.type-inv })
+    to_z-of_z (record { sfits = c.difference-2.type_inv })
     ∙ c.difference-2.ensures
     ∙ power_plus a.e a.places a.zeros
     ∙ sym (ap (λ (t : Bool). signed_of t a.e -ℤ pos a.places +ℤ pos a.zeros) c.if-negative.false)

@@ -66,7 +66,7 @@ returns-2 c =
     let by = ap₂ signed_of d.is_negative-negative.ensures (size-told f.before) in
     let digits = sym (digits-told d) ∙ not-false _ f.if-not-is_digits.false in
     c.whole.ensures
-    ∙ ap whole_of (to_z-of_z (record { sfits = c.signed.type-inv }) ∙ c.signed.ensures ∙ by)
+    ∙ ap whole_of (to_z-of_z (record { sfits = c.signed.type_inv }) ∙ c.signed.ensures ∙ by)
     ∙ integer-fits (text d) digits (sym (fits_told f) ∙ c.if-fits.true)
 
 invalid-of-requires-2 : tie.Need-invalid_of-requires-2

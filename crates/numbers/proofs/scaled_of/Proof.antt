@@ -68,7 +68,7 @@ returns-2 c =
     let exponent = signed_of a.negative a.e in
     let at : List ℕ → List ℕ → ℤ = λ r s. exponent -ℤ pos a.places +ℤ pos (length r - length s) in
     let power =
-    to_z-of_z (record { sfits = c.power-p.type-inv }) ∙ c.power-p.ensures ∙ ap₂ at f.trim_start-rest.ensures (cut f) in
+    to_z-of_z (record { sfits = c.power-p.type_inv }) ∙ c.power-p.ensures ∙ ap₂ at f.trim_start-rest.ensures (cut f) in
     (λ j. record { value = Float a.minus (Finite (power j)); text = (c.text_of.ensures ∙ ap text_of (all ∙ cut f)) j })
     ∙ scaled-some a.minus (text f) a.places exponent (λ e. c.if-significant-eq0.false (ap length (cut f) ∙ e))
 
