@@ -25,7 +25,7 @@ found c = c.find_byte.ensures ∙ ap (place_of (code "]")) (take_rest (comment c
 -- the place that an arm knows gives the unit
 by : (c : tie.After-find_byte) (p : Place) → c.find_byte.result ≡ p → unit_of (comment c) ≡ closed_at p
 by c p e =
-    let bracket = c.before.before in
+    let bracket = c in
     unit_some (comment c) bracket.if-comment-eq0.false bracket.if-comment-ne91.false ∙ ap closed_at (sym (found c) ∙ e)
 
 returns : tie.Need-returns-then-comment-eq0

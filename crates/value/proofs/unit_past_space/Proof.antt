@@ -22,7 +22,7 @@ behind c = c.unit-2.ensures ∙ ap unit_of (take_rest (comment c) 1)
 -- the unit behind the space, as an arm knows it, gives the comment's
 by : (c : tie.After-unit-2) (p : UnitPlace) → c.unit-2.result ≡ p → behind_one p ≡ unit_past_space (comment c)
 by c p e =
-    let space = c.before.before in
+    let space = c in
     ap behind_one (sym e ∙ behind c) ∙ sym (past_some (comment c) space.if-comment-eq0.false space.if-comment-ne32.false)
 
 -- the unit that an arm knows starts and ends within the comment
@@ -44,7 +44,7 @@ unit-requires c κs = search rules
 
 returns-2 : tie.Need-returns-then-comment-ne32
 returns-2 c =
-    let first = c.before.before in
+    let first = c in
     let s = first.args.comment.now in
     c.unit.ensures ∙ sym (past_none s first.if-comment-eq0.false c.if-comment-ne32.true)
 
