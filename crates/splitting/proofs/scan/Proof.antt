@@ -1,7 +1,5 @@
 use Prim.Native.Nat.{◌-◌}
-use mathlib.Core.Logic.{⊎_elim}
 use mathlib.Core.Path.{◌≡◌, sym, ap, ap₂, ◌∙◌}
-use borrow.Author.Tests.{not-true, not-false}
 use borrow.Author.Rules.{rules}
 use lib.ListN.{length, get_or}
 use Rattle.splitting.specs.declared.Quoting.TheVariants.{Inside}
@@ -11,6 +9,10 @@ use Rattle.text.proofs.Texts.{padded-none}
 use Rattle.splitting.proofs.Scanning.{class_quote, class_slash, class_plain, class_odd, inside-other}
 use Rattle.splitting.proofs.Scanning.{Reached, start, at_end, on_ends, on_refused, on_passes, on_puts}
 use Rattle.splitting.proofs.scan.Statement.{statement}
+use Rattle.splitting.proofs.scan.Lts.{in-Outside+then-b-eq-QUOTE, in-Inside+then-b-eq-QUOTE-2, in-Inside+else-b-eq-QUOTE-2}
+use Rattle.splitting.proofs.scan.Lts.{in-Outside+else-b-eq-QUOTE+else-b-eq-SLASH+else-not-is_printable}
+use Rattle.splitting.proofs.scan.Lts.{in-Closed+else-b-eq-QUOTE-3+else-b-eq-SLASH-2+then-is_printable}
+use Rattle.splitting.proofs.scan.Lts.{in-Closed+else-b-eq-QUOTE-3+else-b-eq-SLASH-2+else-is_printable}
 use Rattle.splitting.proofs.scan.Tie as tie
 
 abbrev invariant-scan : tie.invariant-scan
@@ -72,16 +74,26 @@ put-so : (c : tie.Joined-state invariant-scan decreases-scan)
     → let loop = c.before.before.before in
     move loop.scan.state (byte_class (get_or loop.args.s.now loop.scan.i 0)) ≡ puts c.match-state.state
 put-so c =
-    ⊎_elim (λ w. ap₂ move w.1.given.1 (class_quote w.2.taken) ∙ ap puts (sym w.3))
-    (⊎_elim (λ w. ap₂ move w.1.given.1 (class_plain w.2.left w.3.left (sym w.4.ensures ∙ w.5.left))
-    ∙ ap puts (sym (w.6 ∙ w.1.given.1)))
-    (⊎_elim (λ w. ap₂ move w.1.given.1 (class_quote w.2.taken) ∙ ap puts (sym w.3))
-    (⊎_elim (λ w. inside-other w.2.left _ w.1.given.1 ∙ ap puts (sym (w.3 ∙ w.1.given.1)))
-    (⊎_elim (λ w. ap₂ move w.1.given.1 (class_plain w.2.left w.3.left (sym w.4.ensures ∙ w.5.taken))
-    ∙ ap puts (sym w.6))
-    (λ w. ap₂ move w.1.given.1 (class_odd w.2.left w.3.left (sym w.4.ensures ∙ w.5.left))
-    ∙ ap puts (sym (w.6 ∙ w.1.given.1)))))))
-    c.match-state.branch
+    elim c.match-state.branch [
+      | in-Outside+then-b-eq-QUOTE w ↦
+        ap₂ move w.in-Outside.is (class_quote w.if-b-eq-QUOTE.true) ∙ ap puts (sym w.state-is)
+      | in-Outside+else-b-eq-QUOTE+else-b-eq-SLASH+else-not-is_printable w ↦
+        ap₂ move w.in-Outside.is
+        (class_plain w.if-b-eq-QUOTE.false w.if-b-eq-SLASH.false (sym w.is_printable.ensures ∙ w.if-not-is_printable.false))
+        ∙ ap puts (sym (w.state-is ∙ w.in-Outside.is))
+      | in-Inside+then-b-eq-QUOTE-2 w ↦
+        ap₂ move w.in-Inside.is (class_quote w.if-b-eq-QUOTE-2.true) ∙ ap puts (sym w.state-is)
+      | in-Inside+else-b-eq-QUOTE-2 w ↦
+        inside-other w.if-b-eq-QUOTE-2.false _ w.in-Inside.is ∙ ap puts (sym (w.state-is ∙ w.in-Inside.is))
+      | in-Closed+else-b-eq-QUOTE-3+else-b-eq-SLASH-2+then-is_printable w ↦
+        ap₂ move w.in-Closed.is
+        (class_plain w.if-b-eq-QUOTE-3.false w.if-b-eq-SLASH-2.false (sym w.is_printable-in-Closed.ensures ∙ w.if-is_printable.true))
+        ∙ ap puts (sym w.state-is)
+      | in-Closed+else-b-eq-QUOTE-3+else-b-eq-SLASH-2+else-is_printable w ↦
+        ap₂ move w.in-Closed.is
+        (class_odd w.if-b-eq-QUOTE-3.false w.if-b-eq-SLASH-2.false (sym w.is_printable-in-Closed.ensures ∙ w.if-is_printable.false))
+        ∙ ap puts (sym (w.state-is ∙ w.in-Closed.is))
+    ]
 
 scan-again-2 : tie.Need-scan-preserved invariant-scan decreases-scan
 scan-again-2 c =
