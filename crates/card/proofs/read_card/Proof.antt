@@ -44,10 +44,9 @@ returns : tie.Need-returns-in-At
 returns c =
     let at_i = c in
     let find = at_i in
-    let i = at_i.in-At.i.given in
     c.refused.ensures
     ∙ ap card_refused c.fault_at.ensures
-    ∙ high find.args.card.now i.0.0 (sym find.find_high.ensures ∙ i.1)
+    ∙ high find.args.card.now at_i.in-At.i (sym find.find_high.ensures ∙ at_i.in-At.is)
 
 returns-2 : tie.Need-returns-in-Absent
 returns-2 c =

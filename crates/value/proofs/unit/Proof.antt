@@ -64,8 +64,7 @@ add-t3 : tie.Need-overflow_add-result
 add-t3 c =
     let find = c.before in
     let s = comment find in
-    let place = c.in-At.i.given in
-    omega (arith, found_within (code "]") (drop 1 s) place.0.0 (sym (found find) ∙ place.1), length-drop 1 s)
+    omega (arith, found_within (code "]") (drop 1 s) c.in-At.i (sym (found find) ∙ c.in-At.is), length-drop 1 s)
 
 returns-4 : tie.Need-returns
 returns-4 c = sym (by c.before (At c.in-At.i) c.in-At.is)

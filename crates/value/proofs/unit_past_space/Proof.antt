@@ -26,8 +26,8 @@ by c p e =
     ap behind_one (sym e ∙ behind c) ∙ sym (past_some (comment c) space.if-comment-eq0.false space.if-comment-ne32.false)
 
 -- the unit that an arm knows starts and ends within the comment
-within : (c : tie.In-Between) → let place = c.in-Between.from.given.0 in
-    (place.0 ≤ place.1.0) × (place.1.0 < length (comment c.before))
+within : (c : tie.In-Between) → 
+    (c.in-Between.from ≤ c.in-Between.to) × (c.in-Between.to < length (comment c.before))
 within c =
     let s = comment c.before in
     let told = unit_within (drop 1 s) _ _ (sym (behind c.before) ∙ c.in-Between.is) in
@@ -77,8 +77,7 @@ add-t12 c = omega (arith, within c)
 
 returns-4 : tie.Need-returns
 returns-4 c =
-    let place = c.in-Between.from.given in
-    by c.before (Between place.0.0 place.0.1.0) place.1
+    by c.before (Between c.in-Between.from c.in-Between.to) c.in-Between.is
 
 pub unit_past_space_spec : {M : Type 1} → statement M
 unit_past_space_spec =
