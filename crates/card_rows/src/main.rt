@@ -3,6 +3,7 @@
 // or text, and its comment with the unit; or the refusal's number and the byte of the card at which it is met. A byte outside 32..126 is
 // printed in hexadecimal.
 #![tactic(auto)]
+
 use card::{CARD, Card, CardAnswer, CardRead};
 use numbers::{Size, Value};
 use refusal::{Column, Fault};
@@ -151,13 +152,19 @@ fn byte_rows(rt: &impl Print) {
     row(rt, b"END     \x80\xff");
     row(rt, b"COMMENT a\x80\x80b");
     row(rt, b"\x80");
-    row(rt, b"                                                                               \x80");
+    row(
+        rt,
+        b"                                                                               \x80",
+    );
     row(rt, b"A       = \x0b");
     row(rt, b"A       =  \x0b");
     row(rt, b"A       = \t\x0b");
     row(rt, b"A       = 5 \x0b6");
     row(rt, b"A       =  'a' \t/");
-    row(rt, b"A       = 555555555555555555555555555555555555555555555555555555555555555555555\x0b");
+    row(
+        rt,
+        b"A       = 555555555555555555555555555555555555555555555555555555555555555555555\x0b",
+    );
     row(rt, b"CONTINUE a\x0b");
     row(rt, b"HIERARCH A = 5\x0b");
 }

@@ -366,7 +366,10 @@ fn tell_no_end(told: &mut impl Write, cards: usize, more: bool) {
         );
         return;
     }
-    tell(told, b": there is no END among the cards, of which there are ");
+    tell(
+        told,
+        b": there is no END among the cards, of which there are ",
+    );
     tell_number(told, cards);
 }
 

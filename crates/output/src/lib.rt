@@ -1,6 +1,7 @@
 // Bytes handed to a writer, as they stand or made visible, and how that went. What arrives is outside every contract: one says how
 // many bytes were handed on where no write failed.
 #![tactic(auto)]
+
 ghost use Rattle.std.specs.Prelude.{◌≡◌, ◌-◌};
 ghost use Rattle.escaping.specs.Escaping.{escaped};
 ghost use Rattle.output.specs.Shown.{printed_line, IsWhole};
@@ -23,9 +24,8 @@ pub fn write(to: &mut impl Write, s: &[u8]) -> Printed
 {
     let mut done = 0;
     while done < s.len() {
-        let Ok(n) = to.write(text::rest_of(s, done)) else {
-            return Printed::Cut;
-        };
+        let rest = text::rest_of(s, done);
+        let n = to.write(rest).unwrap_or(0);
         if n == 0 {
             return Printed::Cut;
         }

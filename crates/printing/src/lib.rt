@@ -2,6 +2,7 @@
 // (SPECIFICATION 13). Each line is proved up to its write, and none is left out: the buffers hold every line that a header can give, and
 // a write that fails is answered.
 #![tactic(auto)]
+
 ghost use Rattle.std.specs.Prelude.{◌≡◌, [], ◌++◌, map, ◌<◌, ◌≤◌, length, get_or};
 ghost use Rattle.listing.specs.Listing.{list_of};
 ghost use Rattle.lines.specs.Lines.{count_line, refused_line, line_room};
@@ -74,22 +75,15 @@ fn print_names<'a>(
     let mut k = 0;
     while k < count {
         let n = name_part(header, first, last, times, k, &mut text, &mut line);
-        let Printed::Whole(written) = output::write_line(
-            to,
-            text::first_of(&line, n),
-            escaped,
-        ) else {
+        let Printed::Whole(written) = output::write_line(to, text::first_of(&line, n), escaped)
+        else {
             return Printed::Cut;
         };
         printed += written;
         k += 1;
     }
     let n = count_part(count, &mut line);
-    let Printed::Whole(written) = output::write_line(
-        to,
-        text::first_of(&line, n),
-        escaped,
-    ) else {
+    let Printed::Whole(written) = output::write_line(to, text::first_of(&line, n), escaped) else {
         return Printed::Cut;
     };
     let all = printed + written;

@@ -6,6 +6,7 @@
 // A stored header is the number of its cards in two bytes, the higher first, then for each card a length and so many bytes. Spaces
 // fill a card to 80.
 #![tactic(auto)]
+
 ghost use Rattle.std.specs.Prelude.{◌≡◌, ◌+◌, ◌≤◌, ◌<◌, length};
 
 use card::CARD;

@@ -4,6 +4,7 @@
 // The expected output is that of the published Rust (oracle/README.md).
 // A stored tile is its width in a byte, then nx, nblock and the tile's length in three bytes each, the highest first, then the tile.
 #![tactic(auto)]
+
 ghost use Rattle.std.specs.Prelude.{◌≡◌, true, ◌+◌, ◌/◌, ◌<◌};
 
 use refusal::Fault;

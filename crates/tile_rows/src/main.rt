@@ -1,6 +1,7 @@
 // Decodes the tiles of the readings at the edges (SPECIFICATION 15), whole and block by block, with nblock 32, and prints a line for
 // each: the tile's bytes, its width and number of pixels, and its pixels with the bits used, or the refusal with the pixels written.
 #![tactic(auto)]
+
 use refusal::Fault;
 use rice::{Decoded, Opened, Stepped};
 use test_output::{put, put_number, put_pixels, put_space};

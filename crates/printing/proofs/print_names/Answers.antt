@@ -49,7 +49,7 @@ overflow_add-printed g c =
         c.loop-k.invariant.small,
         few a.header.now a.first.now a.last.now a.times.now a.count c.requires.0 c.requires.1,
         c.loop-k-test.true,
-      )
+      );
     }
 
 pub loop-k-preserved : goal.loop-k-preserved
@@ -99,7 +99,7 @@ overflow_add-all g c =
         c.loop-k.invariant.small,
         c.loop-k.invariant.within,
         few a.header.now a.first.now a.last.now a.times.now a.count c.requires.0 c.requires.1,
-      )
+      );
     }
 
 pub returns : goal.returns
