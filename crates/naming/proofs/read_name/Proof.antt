@@ -1,5 +1,4 @@
 -- `naming::read_name` meets its contract: a bad length, a number beyond the cards, or what the card there is to its header.
-use Prim.Native.Nat.{ℕ}
 use mathlib.Core.Path.{◌≡◌, sym, ap, ◌∙◌}
 use mathlib.Core.Bool.{false}
 use lib.ListN.{length}
