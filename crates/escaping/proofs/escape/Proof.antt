@@ -86,7 +86,7 @@ same_length c = search rules
 
 returns : tie.Need-returns invariant-loop decreases-loop
 returns c =
-    let l = c.before in
+    let l = c in
     let a = l.args in
     let part = l.first_of-part.result.now in
     let v = l.loop-i.invariant in

@@ -41,7 +41,7 @@ joined-text-requires c κs = search rules
 
 returns : tie.Need-returns-then-z-lt0
 returns c =
-    let d = c.before.before.before.before.before.before in
+    let d = c.before.before.before.before.before.before.before in
     let n = is_negative w64 _ (start d).ranges.z c.if-z-lt0.true in
     let v = decimal_digits (suc n.k) in
     let fits : length (minus_of true ++ v) ≤ 21 = rw n.is at (few_signed (start d).args.z (start d).ranges.z) in

@@ -125,13 +125,13 @@ module _ {M : Type 1} {𝓤 : Ura M} (𝓛 : Logic 𝓤) (mem : Memory → SProp
     abbrev Slice : List (Item 𝓤)
     Slice = Token 𝓤 κ q ∷ ‵ (owns (ShrSlice (named 0) κ u8 ∷ []) (s, tt) (v ∷ [], tt)) ∷ []
 
-    goes-new : ent 𝓤 Entry (sep 𝓤 (New.pre to-new) (sem 𝓛 (TileOwn κ s)))
+    goes-new : ent 𝓤 Entry (sep 𝓤 (New.requires to-new) (sem 𝓛 (TileOwn κ s)))
     goes-new =
         qed 𝓛 (Token 𝓤 κ q ∷ ‵ (owns (ShrSlice (named 0) κ u8 ∷ usize ∷ usize ∷ []) (s, (p, (n, tt))) at) ∷ []) ∵
         move ! (1 ∷ []) $ fsplit ! $ move ! (1 ∷ []) $ drop ! $
         use1 𝓛 (‵ (TileOwn κ s) ⊛ ‵ (TileOwn κ s)) ((shr_slice_copy 𝓛 (named 0) κ u8).twice s (v ∷ [])) $ split ! $
         nothing ! $ move ! (1 ∷ 0 ∷ []) $ fjoin ! $ move ! (2 ∷ 0 ∷ []) $
-        use2 𝓛 (raw (New.pre to-new)) (qed 𝓛 Slice ∵ join ! $ frame ! $ done !) $ frame ! $ done !
+        use2 𝓛 (raw (New.requires to-new)) (qed 𝓛 Slice ∵ join ! $ frame ! $ done !) $ frame ! $ done !
 
     abbrev NewSaid : Reader → SProp 𝓤
     NewSaid r = ensured 𝓛 new.ended (new.clauses 𝓛 mem run) (κ, tt) (s, tt) tt r
@@ -150,7 +150,7 @@ module _ {M : Type 1} {𝓤 : Ura M} (𝓛 : Logic 𝓤) (mem : Memory → SProp
     abbrev Struct : Reader → Val → List (Item 𝓤)
     Struct r u = ‵ ((B (κ, tt)).own r (u ∷ [])) ∷ Token 𝓤 κ q ∷ []
 
-    goes-place : (r : Reader) (u : Val) → ent 𝓤 (⋆ 𝓛 (Struct r u)) (Place.pre (to-place r u))
+    goes-place : (r : Reader) (u : Val) → ent 𝓤 (⋆ 𝓛 (Struct r u)) (Place.requires (to-place r u))
     goes-place r u =
         qed 𝓛 (Struct r u) ∵ nothing ! $ number 𝓛 ! p p-fits $ fjoin ! $ move ! (1 ∷ 0 ∷ []) $ fjoin ! $
         move ! (1 ∷ 0 ∷ []) $ join ! $ frame ! $ done !
@@ -182,7 +182,7 @@ module _ {M : Type 1} {𝓤 : Ura M} (𝓛 : Logic 𝓤) (mem : Memory → SProp
     )
 
     goes-take : (l : ℕ) (t : Reader) (ν : ℕ) (γ : GName)
-        → ent 𝓤 (mean 𝓛 (Lent 𝓛 κ q l t ν γ)) (Take.pre (to_take l t ν γ))
+        → ent 𝓤 (mean 𝓛 (Lent 𝓛 κ q l t ν γ)) (Take.requires (to_take l t ν γ))
     goes-take l t ν γ =
         qed 𝓛 (Lent 𝓛 κ q l t ν γ ∷ []) ∵ split ! $ move ! (1 ∷ []) $ split ! $
         -- [the loan's token; 'a's token; the reference]
@@ -229,7 +229,7 @@ module _ {M : Type 1} {𝓤 : Ura M} (𝓛 : Logic 𝓤) (mem : Memory → SProp
           pass1 ! (init ! 10 refl (tt, record { fits = p-fits })) $
           pass1 ! (init ! 8 refl (tt, record { fits = n-fits })) $ pass0 ! $
           -- `new` is called
-          move ! (16 ∷ []) $ use1 𝓛 (raw (New.pre to-new) ⊛ ‵ (TileOwn κ s)) goes-new $ split ! $
+          move ! (16 ∷ []) $ use1 𝓛 (raw (New.requires to-new) ⊛ ‵ (TileOwn κ s)) goes-new $ split ! $
           calls_at ! fm New known-new to-new (and_then ! (load ! (from ! (stop !)) (look ! 14 refl)) (no_more !)) (λ u.
           use1 𝓛 (later (some (λ (r : Reader). (Token 𝓤 κ q ⊛ ‵ ((B (κ, tt)).own r (u ∷ []))) ⊛ raw (NewSaid r))))
           (id⊢ 𝓤 _) $
@@ -239,7 +239,7 @@ module _ {M : Type 1} {𝓤 : Ura M} (𝓛 : Logic 𝓤) (mem : Memory → SProp
           peeks ! (B (κ, tt)) (Is (B (κ, tt))) (shows 𝓛 (B (κ, tt))) r (u ∷ []) (λ is.
           land ! (from ! (stop !)) (init ! 5 refl ((LL.lawful (T.the_type αᵉ) (T'.the_laws αᵉ) 𝓛).typed r _ is).0) $
           -- `place` is called
-          use2 𝓛 (raw (Place.pre (to-place r u))) (goes-place r u) $
+          use2 𝓛 (raw (Place.requires (to-place r u))) (goes-place r u) $
           calls_at ! fm Place known-place (to-place r u)
           (and_then ! (load ! (from ! (stop !)) (look ! 4 refl)) (and_then ! (load ! (from ! (stop !)) (look ! 12 refl)) (no_more !)))
           (λ u'.
@@ -258,7 +258,7 @@ module _ {M : Type 1} {𝓤 : Ura M} (𝓛 : Logic 𝓤) (mem : Memory → SProp
           (λ (γ : GName). Lent 𝓛 κ q l₄ t ν γ ⊛ Kept 𝓛 κ q l₄ ν γ))))
           (lends 𝓛 κ q l₄ t u') $
           await ! tt $ pick ! (λ ν. pick ! (λ γ. split ! $
-          use1 𝓛 (raw (Take.pre (to_take l₄ t ν γ))) (goes-take l₄ t ν γ) $
+          use1 𝓛 (raw (Take.requires (to_take l₄ t ν γ))) (goes-take l₄ t ν γ) $
           -- [what it asks; what is kept; nothing; what s owns; _7; …; _6; …; _5; …; …; _3; …; _2; …; _1; …; _0; …]
           calls_at ! fm Take known-take (to_take l₄ t ν γ)
           (and_then ! (load ! (from ! (stop !)) (look ! 4 refl)) (and_then ! (load ! (from ! (stop !)) (look ! 11 refl)) (no_more !)))

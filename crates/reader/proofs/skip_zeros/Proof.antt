@@ -110,7 +110,7 @@ module _ {M : Type 1} {𝓤 : Ura M} (𝓛 : Logic 𝓤) (at_mem : Memory → SP
     abbrev to_step : StepAt.Ghost
     to_step = (((κ', tt), (q', tt), tt, (h.tile, (h.bit, tt)), passed), tt)
 
-    asked : ent 𝓤 (on_entry 𝓛 step.signature (κ', tt) (q', tt) (h.tile, (h.bit, tt)) passed) (StepAt.pre to_step)
+    asked : ent 𝓤 (on_entry 𝓛 step.signature (κ', tt) (q', tt) (h.tile, (h.bit, tt)) passed) (StepAt.requires to_step)
     asked =
         qed 𝓛 (Token 𝓤 κ' q' ∷ ‵ (owns (ShrSlice (named 0) κ' u8 ∷ usize ∷ [])
         (h.tile, (h.bit, tt)) passed) ∷ []) ∵
@@ -118,13 +118,13 @@ module _ {M : Type 1} {𝓤 : Ura M} (𝓛 : Logic 𝓤) (at_mem : Memory → SP
 
     -- what the struct owns gives what the callee asks, and is kept
     goes_step : h.bit < 2 ^ 64 → ent 𝓤 (⋆ 𝓛 (‵ (Own κ' h) ∷ Token 𝓤 κ' q' ∷ []))
-        (sep 𝓤 (StepAt.pre to_step) (sem 𝓛 (Own κ' h)))
+        (sep 𝓤 (StepAt.requires to_step) (sem 𝓛 (Own κ' h)))
     goes_step fits =
         qed 𝓛 (‵ (Own κ' h) ∷ Token 𝓤 κ' q' ∷ []) ∵
         use1 𝓛 (‵ (TileOwn κ' h.tile) ⊛ ‵ (Own κ' h)) (tile_out 𝓛 κ' h) $ split ! $
         -- [what the tile owns; what the struct owns; the token]
         nothing ! $ number 𝓛 ! h.bit fits $ fjoin ! $ move ! (1 ∷ 0 ∷ []) $ fjoin ! $
-        move ! (2 ∷ 0 ∷ []) $ use2 𝓛 (raw (StepAt.pre to_step)) asked $ frame ! $ done !
+        move ! (2 ∷ 0 ∷ []) $ use2 𝓛 (raw (StepAt.requires to_step)) asked $ frame ! $ done !
 
     abbrev StepSaid : Field → SProp 𝓤
     StepSaid r = ensured 𝓛 step.ended (step.clauses 𝓛 at_mem run) (κ', tt) (h.tile, (h.bit, tt)) tt r
@@ -183,7 +183,7 @@ module _ {M : Type 1} {𝓤 : Ura M} (𝓛 : Logic 𝓤) (at_mem : Memory → SP
           assigns ! (of_opd ! (load ! (from ! (hop ! (look ! 15 refl) (fld ! refl (stop !)))) (look_in ! 0 (sub ! 0 refl (whole !)))))
           (from ! (stop !)) (init ! 9 refl (tt, wt.1.0)) $
           -- `zeros_at` is called
-          move ! (1 ∷ 5 ∷ []) $ use2 𝓛 (raw (StepAt.pre to_step) ⊛ ‵ (Own κ' h)) (goes_step fits) $ split ! $
+          move ! (1 ∷ 5 ∷ []) $ use2 𝓛 (raw (StepAt.requires to_step) ⊛ ‵ (Own κ' h)) (goes_step fits) $ split ! $
           calls_at ! fm StepAt known to_step
           (and_then ! (load ! (from ! (stop !)) (look ! 9 refl))
           (and_then ! (load ! (from ! (stop !)) (look ! 13 refl)) (no_more !))) (λ u.
@@ -196,7 +196,7 @@ module _ {M : Type 1} {𝓤 : Ura M} (𝓛 : Logic 𝓤) (at_mem : Memory → SP
           let typed = ((EL.lawful S.the_type S'.the_laws 𝓛 tt).typed r _ is).0 in
           land ! (from ! (stop !)) (init ! 12 refl typed) $
           -- `past` is called
-          use1 𝓛 (raw (PastAt.pre (called r u)) ⊛ ‵ ((S.the_row).own_val r (u ∷ [])))
+          use1 𝓛 (raw (PastAt.requires (called r u)) ⊛ ‵ ((S.the_row).own_val r (u ∷ [])))
           (goes_past 𝓛 at_mem run h.bit fits r u) $
           split ! $
           calls_at ! fm PastAt known_past (called r u)
