@@ -86,7 +86,7 @@ row-before-requires : tie.Need-row_before-requires
 row-before-requires c κs =
     let t = c.before.before in
     let O = ordered (put t) in
-    (omega (arith, (ready (put t)).room, O.keys-long), omega (arith, below t, (ready (put t)).room, O.keys-long))
+    (omega (arith, (ready (put t)).room, O.keys_long), omega (arith, below t, (ready (put t)).room, O.keys_long))
 
 mul-last : tie.Need-offset_bounds-last-k
 mul-last c = let t = c.before.before.before.before in omega (arith, below t, (ready (put t)).room)

@@ -184,10 +184,10 @@ returns-2 c =
     (λ j.
     record {
       header = Accepted (number co);
-      first = S.first-in.is j;
-      last = S.last-in.is j;
-      times = S.times-in.is j;
-      count = sym S.first-in.long j;
+      first = S.first_in.is j;
+      last = S.last_in.is j;
+      times = S.times_in_lem.is j;
+      count = sym S.first_in.long j;
     })
     ∙ on_last S (more co) (role_so co T.Last end)
 
@@ -208,7 +208,7 @@ returns-3 c =
     ∙ on_refused (standing co) (more co) f (role_so co (T.Refused f) known.in-Refused.is)
 
 slice-aggregate-enter : tie.Need-slice_bounds-enter-end-then-entry-3 invariant-loop decreases-loop
-slice-aggregate-enter c = sym (standing c.before.before.before.before.before.before).ordered.keys-long
+slice-aggregate-enter c = sym (standing c.before.before.before.before.before.before).ordered.keys_long
 
 slice-aggregate-enter-2 : tie.Need-slice_bounds-enter-end-then-entry-4 invariant-loop decreases-loop
 slice-aggregate-enter-2 c =
