@@ -8,6 +8,7 @@ use borrow.Author.Rules.{rules}
 use Rattle.entries.specs.Passes.{passing, ampersands}
 use Rattle.entries.proofs.Ampersands.{passing-more, passing-none, passing_space, passing-few, ampersands_step, ampersands_done}
 use Rattle.entries.proofs.count_ampersands.Statement.{statement}
+use Rattle.entries.proofs.count_ampersands.Lts.{then-b-eq-AMPERSAND, else-b-eq-AMPERSAND+then-b-ne32, else-b-eq-AMPERSAND+else-b-ne32}
 use Rattle.entries.proofs.count_ampersands.Tie as tie
 
 abbrev invariant-loop : tie.invariant-loop-i
@@ -33,17 +34,19 @@ loop-less c = search rules
 
 loop-again : tie.Need-loop-i-preserved invariant-loop decreases-loop
 loop-again c =
-    let byte = c.before in
-    let inside = byte.before in
-    let at = inside.before in
+    let byte = c in
+    let inside = byte in
+    let at = inside in
     let a = at.args in
     let s = a.s.now in
     let b = get_or s at.loop-i.i 0 in
     let k = at.loop-i.k in
     let passed : c.if-b-eq-AMPERSAND.k ≡ passing k b =
-    ⊎_elim (λ w. w.1 ∙ passing-more k b w.0.taken)
-    (⊎_elim (λ w. w.2 ∙ passing-none k b w.0.left w.1.taken) (λ w. w.2 ∙ passing_space k b w.1.left))
-    c.if-b-eq-AMPERSAND.branch in (
+    elim c.if-b-eq-AMPERSAND.branch [
+      | then-b-eq-AMPERSAND w ↦ w.k-is ∙ passing-more k b w.if-b-eq-AMPERSAND.true
+      | else-b-eq-AMPERSAND+then-b-ne32 w ↦ w.k-is ∙ passing-none k b w.if-b-eq-AMPERSAND.false w.if-b-ne32.true
+      | else-b-eq-AMPERSAND+else-b-ne32 w ↦ w.k-is ∙ passing_space k b w.if-b-ne32.false
+    ] in (
       omega arith,
       ap (λ (m : ℕ). ampersands m (drop (at.loop-i.i + 1) s)) passed
           ∙ ampersands_step k s at.loop-i.i inside.loop-i-test.true
@@ -53,7 +56,7 @@ loop-again c =
 
 returns : tie.Need-returns invariant-loop decreases-loop
 returns c =
-    let at = c.before in
+    let at = c in
     ampersands_done at.loop-i.k at.args.s.now at.loop-i.i c.loop-i-test.false ∙ at.loop-i.invariant.1
 
 pub count_ampersands_spec : {M : Type 1} → statement M

@@ -26,7 +26,7 @@ returns : tie.Need-returns-in_default
 returns c =
     let a = c.args in
     c.empty_text.ensures
-    ∙ sym (ap (λ (b : Bool). text_of (cond b (bytes_of a.own) [])) (not_float a.value c.in_default.keys2))
+    ∙ sym (ap (λ (b : Bool). text_of (cond b (bytes_of a.own) [])) (not_float a.value c.in_default.in_default-own.keys2))
 
 slice-aggregate-first-of : tie.Need-slice_bounds-first_of-end
 slice-aggregate-first-of c = search rules
@@ -39,8 +39,8 @@ text-of-requires c κs = search rules
 
 returns-2 : tie.Need-returns
 returns-2 c =
-    let told = c.before.before.before.before in
-    let start = told.before in
+    let told = c in
+    let start = told.before.before.before.before.before in
     let t = start.args.own in
     c.text_of.ensures
     ∙ ap (λ (l : List ℕ). text_of (take size l)) c.first_of.ensures

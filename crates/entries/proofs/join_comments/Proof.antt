@@ -60,8 +60,8 @@ add-j c = search rules
 
 loop-holds : tie.Need-loop-j-init invariant-loop decreases-loop
 loop-holds c =
-    let count = c.before in
-    let put = count.before.before.before.before.before in
+    let count = c in
+    let put = count.before.before.before.before.before.before in
     let s = start put in
     let part = s.args.part in (
       keep s.requires.0 s.args.comments.now s.requires.1 s.requires.2 (fits s) (bytes_fit part.comment (comment-array s))
@@ -81,21 +81,21 @@ returns c =
     let at = c.before.before in
     let s = start (begun at) in
     let K = at.loop-j.invariant.0 in
-    kept s.pre.0 s.args.comments.now s.pre.1 K (long at) (at_stop K.going c.in_default.keys2)
+    kept s.requires.0 s.args.comments.now s.requires.1 K (long at) (at_stop K.going c.in_default.in_default-own.keys2)
 
 next-comment-requires : tie.Need-next_comment-held-requires invariant-loop decreases-loop
 next-comment-requires c κs =
-    let told = c.before in
-    let inside = told.before in
-    let at = inside.before in
+    let told = c in
+    let inside = told in
+    let at = inside.before.before.before in
     let s = start (begun at) in
     let K = at.loop-j.invariant.0 in
     let on = told.in-On.is in
     let next = inside.loop-j-test.true in (
       next,
-      some_left s.pre.0 s.args.comments.now s.pre.1 K on next,
-      few-left s.pre.0 s.args.comments.now s.pre.1 K on next,
-      room s.pre.0 s.args.comments.now s.pre.1 K on next (long at),
+      some_left s.requires.0 s.args.comments.now s.requires.1 K on next,
+      few-left s.requires.0 s.args.comments.now s.requires.1 K on next,
+      room s.requires.0 s.args.comments.now s.requires.1 K on next (long at),
     )
 
 add-j-2 : tie.Need-overflow_add-j-in-loop-j invariant-loop decreases-loop
@@ -106,12 +106,12 @@ loop-less c = search rules
 
 loop-again : tie.Need-loop-j-preserved invariant-loop decreases-loop
 loop-again c =
-    let joined = c.before.before in
-    let told = joined.before.before in
-    let inside = told.before in
-    let at = inside.before in
+    let joined = c in
+    let told = joined in
+    let inside = told in
+    let at = inside.before.before.before.before.before.before in
     let s = start (begun at) in (
-      keep_on s.pre.0 s.args.comments.now s.pre.1 at.loop-j.invariant.0 told.in-On.is inside.loop-j-test.true
+      keep_on s.requires.0 s.args.comments.now s.requires.1 at.loop-j.invariant.0 told.in-On.is inside.loop-j-test.true
           joined.next_comment-held.ensures,
       search rules,
     )
@@ -124,7 +124,7 @@ returns-2 c =
     let at = c.before in
     let s = start (begun at) in
     let K = at.loop-j.invariant.0 in
-    kept s.pre.0 s.args.comments.now s.pre.1 K (long at) (at_end K.going c.loop-j-test.false)
+    kept s.requires.0 s.args.comments.now s.requires.1 K (long at) (at_end K.going c.loop-j-test.false)
 
 pub join_comments_spec : {M : Type 1} → statement M
 join_comments_spec =

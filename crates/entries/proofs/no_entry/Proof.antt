@@ -12,14 +12,14 @@ enum-known-role : tie.Need-enum_known-role
 enum-known-role c = search rules
 
 returns : tie.Need-returns-in_default
-returns c = let a = c.args in not-refused a.role c.in_default.keys2 a.i
+returns c = let a = c.args in not-refused a.role c.in_default.in_default-own.keys2 a.i
 
 stop-at-requires : tie.Need-stop_at-requires
 stop-at-requires c κs = search rules
 
 returns-2 : tie.Need-returns
 returns-2 c =
-    let known = c.before in
+    let known = c in
     let a = known.args in
     ap Stops c.stop_at.ensures ∙ ap (λ (t : Told). no_entry t a.i) (sym known.in-Refused.is)
 

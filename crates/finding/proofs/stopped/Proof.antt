@@ -26,14 +26,14 @@ enum-known-role : tie.Need-enum_known-role
 enum-known-role c = search rules
 
 returns : tie.Need-returns-in_default
-returns c = read c.args.role c.args.i c.args.last c.in_default.keys2
+returns c = read c.args.role c.args.i c.args.last c.in_default.in_default-own.keys2
 
 stop-at-requires : tie.Need-stop_at-requires
 stop-at-requires c κs = search rules
 
 returns-2 : tie.Need-returns
 returns-2 c =
-    let at = c.before in
+    let at = c in
     let a = at.args in
     ap F.Refused c.stop_at.ensures ∙ sym (ap (λ (r : Role). stopped_at r a.i a.last) at.in-Refused.is)
 

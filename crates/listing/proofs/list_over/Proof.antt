@@ -4,7 +4,6 @@ use native.Mathlib.Omega.{arith}
 use mathlib.Core.Path.{◌≡◌, refl, sym, ap, ◌∙◌}
 use mathlib.Core.Bool.{Bool, true, false}
 use mathlib.Core.List.{List, [], ◌∷◌}
-use mathlib.Core.Logic.{⊎_elim}
 use types.Run.{OneOf, miss}
 use denote.Enum.Declared.{tag_of}
 use lib.ListN.{length, length-take}
@@ -30,6 +29,7 @@ use Rattle.listing.proofs.Rows.{ordered-none}
 use Rattle.listing.proofs.Placing.{IsEntry, Standing, start, standing_as, refused-length, at_end}
 use Rattle.listing.proofs.Placing.{on_refused, on_last, on_more, on_neutral, ready, on_entry_lem}
 use Rattle.listing.proofs.list_over.Statement.{statement}
+use Rattle.listing.proofs.list_over.Lts.{then-entry, else-entry}
 use Rattle.listing.proofs.list_over.Tie as tie
 
 abbrev invariant-loop : tie.invariant-loop-i
@@ -142,8 +142,8 @@ refused-requires c κs = search rules
 
 returns : tie.Need-returns-then-cards-eq0 invariant-loop decreases-loop
 returns c =
-    let stop = c.before.before.before.before in
-    let test = stop.before.before in
+    let stop = c in
+    let test = stop in
     let h = test.args.header.now in
     c.refused.ensures
     ∙ refused-so (fault_of R.HeaderLength) 0 stop.stop_at-none.result
@@ -180,7 +180,7 @@ returns-2 : tie.Need-returns-in_default-role invariant-loop decreases-loop
 returns-2 c =
     let co = c.before.before in
     let S = standing co in
-    let end = is_last (told co) c.in_default-role.keys2 (sym co.course_of.ensures ∙ c.in_default.is) in
+    let end = is_last (told co) c.in_default-role.in_default-role-own.keys2 (sym co.course_of.ensures ∙ c.in_default.is) in
     (λ j.
     record {
       header = Accepted (number co);
@@ -199,9 +199,9 @@ refused-requires-2 c κs = search rules
 
 returns-3 : tie.Need-returns-in_default invariant-loop decreases-loop
 returns-3 c =
-    let stop = c.before.before.before.before in
-    let known = stop.before in
-    let co = known.before.before in
+    let stop = c in
+    let known = stop in
+    let co = known.before.before.before.before.before.before.before in
     let f = known.in-Refused.fault in
     c.refused-in_default.ensures
     ∙ refused-so f (number co) stop.stop_at.result stop.stop_at.ensures
@@ -228,21 +228,21 @@ loop-less c = search rules
 loop-again : tie.Need-loop-i-preserved invariant-loop decreases-loop
 unfolding own
 loop-again c =
-    let known = c.before in
-    let co = known.before in
+    let known = c in
+    let co = known.before.before in
     let S = standing co in
     let course : (b : Bool) → known.in-On.entry ≡ b
     → co.course_of.result ≡ On b = λ b e. known.in-On.is ∙ ap On e in
     let other : known.in-On.entry ≡ false
     → course_of (told co) ≡ On false = λ e. sym co.course_of.ensures ∙ course false e in
-    ⊎_elim
-    (λ w.
-    standing_as w.9 w.10 w.11 w.12 w.13 w.14
-    (on_entry_lem S (more co) (own co (course true w.0.taken)) w.6.ensures))
-    (λ w.
-    standing_as w.1 w.2 w.3 w.4 w.5 w.6
-    (passed S (more co) (read co) (told co) (other w.0.left) (role_so co (told co) refl)))
-    c.if-entry.branch
+    elim c.if-entry.branch [
+      | then-entry w ↦
+        standing_as w.first-is w.last-is w.times-is w.keys-is w.order-is w.count-is
+        (on_entry_lem S (more co) (own co (course true w.if-entry.true)) w.enter-count.ensures)
+      | else-entry w ↦
+        standing_as w.first-is w.last-is w.times-is w.keys-is w.order-is w.count-is
+        (passed S (more co) (read co) (told co) (other w.if-entry.false) (role_so co (told co) refl))
+    ]
 
 fault-of-requires-2 : tie.Need-fault_of-requires-2 invariant-loop decreases-loop
 fault-of-requires-2 c κs = search rules
@@ -255,9 +255,9 @@ refused-requires-3 c κs = search rules
 
 returns-4 : tie.Need-returns invariant-loop decreases-loop
 returns-4 c =
-    let stop = c.before.before.before.before in
-    let past = stop.before.before in
-    let at-loop = past.before in
+    let stop = c in
+    let past = stop in
+    let at-loop = past.before.before.before.before.before.before.before in
     let n = (counted at-loop).card_count-cards.result in
     c.refused-2.ensures
     ∙ refused-so (fault_of R.NoEnd) n stop.stop_at-none-2.result

@@ -73,14 +73,14 @@ loop-again c =
     let stored : ℕ → List ℕ =
     λ w. sets (set l.keys (a.at + l.q) w) (a.at + (l.q + 1)) (first_words (9 - (l.q + 1)) (drop ((l.q + 1) * 9) a.name.now)) in
     let next = key_next a.name.now l.keys a.at l.q c.loop-q-test.true in
-    (omega arith, length-set l.keys (a.at + l.q) c.word_of.result ∙ l.inv.1, ap stored word ∙ next ∙ l.inv.2)
+    (omega arith, length-set l.keys (a.at + l.q) c.word_of.result ∙ l.invariant.1, ap stored word ∙ next ∙ l.invariant.2)
 
 same_length : tie.Need-shape_of-keys invariant-loop decreases-loop
 same_length c = search rules
 
 returns : tie.Need-returns invariant-loop decreases-loop
 returns c =
-    let l = c.before in
+    let l = c in
     let a = l.args in
     sym (key-end a.name.now l.loop-q.keys a.at l.loop-q.q l.loop-q.invariant.0 c.loop-q-test.false) ∙ l.loop-q.invariant.2
 
