@@ -2,11 +2,11 @@
 use Prim.Native.Nat.{ℕ, ◌+◌, ◌-◌, ◌*◌, ◌/◌, ◌≤◌}
 use native.Mathlib.Omega.{arith}
 use mathlib.Core.Path.{◌≡◌, refl, sym, ap, ap₂, ◌∙◌}
-use mathlib.Core.List.{List, []}
+use mathlib.Core.List.{List}
 use lib.ListN.{length, take, drop, get_or, length-take, drop_of_length-le}
 use lib.Seq.{sets}
 use borrow.Author.Rules.{rules}
-use Rattle.escaping.specs.Escaping.{escaped_byte, escaped, escaped_in}
+use Rattle.escaping.specs.Escaping.{escaped, escaped_in}
 use Rattle.escaping.proofs.Showing.{byte-few, put_next, count_next, at_the_end, stored_all}
 use Rattle.escaping.proofs.escape.Statement.{statement}
 use Rattle.escaping.proofs.escape.Tie as tie

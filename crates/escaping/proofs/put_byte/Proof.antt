@@ -6,7 +6,7 @@ use mathlib.Core.List.{List, [], ◌∷◌}
 use lib.ListN.{length}
 use lib.Seq.{sets}
 use borrow.Author.Rules.{rules}
-use Rattle.escaping.specs.Escaping.{hex_digit, escaped_byte}
+use Rattle.escaping.specs.Escaping.{hex_digit}
 use Rattle.escaping.proofs.Showing.{as_it_is, by_number}
 use Rattle.escaping.proofs.put_byte.Statement.{statement}
 use Rattle.escaping.proofs.put_byte.Tie as tie
