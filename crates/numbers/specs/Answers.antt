@@ -28,6 +28,6 @@ is_read Undefined = true
 is_read Invalid = false
 
 -- the first try, or the second where the first read nothing
-infixr 20 ◌orElse◌
-abbrev pub ◌orElse◌ : Number → Number → Number
+infixr 20 ◌or_else◌
+abbrev pub ◌or_else◌ : Number → Number → Number
 a or_else b = cond (is_read a.value) a b

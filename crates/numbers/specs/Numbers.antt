@@ -3,7 +3,7 @@
 use Rattle.std.specs.Prelude.{ℕ, List, map}
 use Rattle.text.specs.Bytes.{d_to_e}
 use Rattle.numbers.specs.declared.Number.{Number}
-use Rattle.numbers.specs.Answers.{◌orElse◌}
+use Rattle.numbers.specs.Answers.{◌or_else◌}
 use Rattle.numbers.specs.Integers.{integer_of}
 use Rattle.numbers.specs.Decimals.{decimal_of}
 

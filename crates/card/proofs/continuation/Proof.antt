@@ -89,8 +89,8 @@ returns-2 c =
 
 returns-3 : tie.Need-returns-in-Refused
 returns-3 c =
-    let told = c.before in
-    c.refused.ensures ∙ by told.before.before (Refused told.in-Refused.fault) told.in-Refused.is
+    let told = c in
+    c.refused.ensures ∙ by told.before.before.before (Refused told.in-Refused.fault) told.in-Refused.is
 
 pub continuation_spec : {M : Type 1} → statement M
 continuation_spec =

@@ -62,8 +62,8 @@ returns-2 c = c.quoted_card-in-Commented.ensures ∙ by c.before.before.before.b
 
 returns-3 : tie.Need-returns-in-Refused
 returns-3 c =
-    let told = c.before in
-    c.refused.ensures ∙ by told.before.before.before (Refused told.in-Refused.fault) told.in-Refused.is
+    let told = c in
+    c.refused.ensures ∙ by told.before.before.before.before (Refused told.in-Refused.fault) told.in-Refused.is
 
 pub extension_spec : {M : Type 1} → statement M
 extension_spec =

@@ -34,9 +34,9 @@ shared-slice-read-if2 c = search rules
 
 returns-2 : tie.Need-returns-then-s-i-ge-FIRST_HIGH invariant-loop decreases-loop
 returns-2 c =
-    let test = c.before.before in
+    let test = c in
     let loop = test.loop-i in
-    high_here (text test.before) loop.i test.loop-i-test.true c.if-s-i-ge-FIRST_HIGH.true ∙ loop.invariant.1
+    high_here (text test.before.before.before) loop.i test.loop-i-test.true c.if-s-i-ge-FIRST_HIGH.true ∙ loop.invariant.1
 
 add-i : tie.Need-overflow_add-i invariant-loop decreases-loop
 add-i c = search rules
@@ -46,9 +46,9 @@ loop-less c = search rules
 
 loop-again : tie.Need-loop-i-preserved invariant-loop decreases-loop
 loop-again c =
-    let test = c.before.before in
+    let test = c in
     let loop = test.loop-i in
-    (omega arith, high_later (text test.before) loop.i test.loop-i-test.true c.if-s-i-ge-FIRST_HIGH.false ∙ loop.invariant.1)
+    (omega arith, high_later (text test.before.before.before) loop.i test.loop-i-test.true c.if-s-i-ge-FIRST_HIGH.false ∙ loop.invariant.1)
 
 returns-3 : tie.Need-returns invariant-loop decreases-loop
 returns-3 c = high_none (text c.before) c.loop-i.i c.loop-i-test.false ∙ c.loop-i.invariant.1

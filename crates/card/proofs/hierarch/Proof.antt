@@ -101,18 +101,18 @@ refused-requires c κs = search rules
 
 returns : tie.Need-returns-in_default
 returns c =
-    let told = c.before.before in
+    let told = c in
     c.refused.ensures
     ∙ ap card_refused c.fault_at.ensures
-    ∙ ap (columned told.before) (by told.before Nowhere told.in_default.is)
+    ∙ ap (columned told.before.before.before) (by told.before.before.before Nowhere told.in_default.is)
 
 first-of-requires : tie.Need-first_of-requires
 first-of-requires c κs = search rules
 
 dotted-name-requires : tie.Need-dotted_name-name-requires
 dotted-name-requires c κs =
-    let at_i = c.before in
-    let find = at_i.before in
+    let at_i = c in
+    let find = at_i.before.before in
     let rest = find.rest_of-rest.result.now in
     rw c.first_of.ensures (omega (arith, length-take at_i.in-At.i rest, fits find))
 

@@ -133,11 +133,11 @@ returns-6 c = c.hierarch.ensures ∙ by c.before.before Hierarch c.in-Hierarch.i
 
 returns-7 : tie.Need-returns-in-End
 returns-7 c =
-    let told = c.before.before in
+    let told = c in
     let name = told.text_of-name.result in
     c.read_as.ensures
     ∙ ap (card_as C.End name) c.empty_text.ensures
-    ∙ by told.before End told.in-End.is
+    ∙ by told.before.before.before End told.in-End.is
 
 returns-8 : tie.Need-returns-in-Other
 returns-8 c = c.other.ensures ∙ by c.before.before Other c.in-Other.is

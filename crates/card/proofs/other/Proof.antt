@@ -20,7 +20,7 @@ use Rattle.card.proofs.other.Statement.{statement}
 use Rattle.card.proofs.other.Tie as tie
 
 abbrev first : tie.After-same_bytes → tie.After-first_of
-first c = c.before.before
+first c = c.before.before.before
 
 abbrev card : tie.After-same_bytes → List ℕ
 card c = (first c).args.card.now

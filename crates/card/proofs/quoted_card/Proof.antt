@@ -78,9 +78,9 @@ refused-requires-2 c κs = search rules
 
 returns-2 : tie.Need-returns-then-s-ne-QUOTE
 returns-2 c =
-    let test = c.before.before in
-    let long = test.before.before in
-    let first = long.before in
+    let test = c in
+    let long = test in
+    let first = long.before.before.before.before.before in
     c.refused-then-s-ne-QUOTE.ensures
     ∙ ap card_refused c.fault_at-then-s-ne-QUOTE.ensures
     ∙ not_within first (not_opened (text first) long.if-n-lt2.false test.if-s-ne-QUOTE.true)
@@ -99,8 +99,8 @@ refused-requires-3 c κs = search rules
 
 returns-3 : tie.Need-returns-then-s-n-ne-QUOTE
 returns-3 c =
-    let second = c.before.before.before.before in
-    let first = second.before.before.before in
+    let second = c in
+    let first = second.before.before.before.before.before.before.before in
     let starts = second.if-s-ne-QUOTE.false in
     c.refused-then-s-n-ne-QUOTE.ensures
     ∙ ap card_refused c.fault_at-then-s-n-ne-QUOTE.ensures
@@ -129,9 +129,9 @@ read-as-requires c κs = search rules
 
 returns-4 : tie.Need-returns
 returns-4 c =
-    let third = c.before.before.before.before in
-    let second = third.before.before in
-    let first = second.before.before.before in
+    let third = c in
+    let second = third in
+    let first = second.before.before.before.before.before.before.before.before.before in
     let s = text first in
     let a = (began first).args in
     let cut = c.trimmed-inner in

@@ -42,17 +42,16 @@ low-card-requires c κs = search rules
 
 returns : tie.Need-returns-in-At
 returns c =
-    let at_i = c.before.before in
-    let find = at_i.before in
-    let i = at_i.in-At.i.given in
+    let at_i = c in
+    let find = at_i in
     c.refused.ensures
     ∙ ap card_refused c.fault_at.ensures
-    ∙ high find.args.card.now i.0.0 (sym find.find_high.ensures ∙ i.1)
+    ∙ high find.args.card.now at_i.in-At.i (sym find.find_high.ensures ∙ at_i.in-At.is)
 
 returns-2 : tie.Need-returns-in-Absent
 returns-2 c =
-    let told = c.before in
-    let find = told.before in
+    let told = c in
+    let find = told in
     c.low_card.ensures ∙ low find.args.card.now (sym find.find_high.ensures ∙ told.in-Absent.is)
 
 pub read_card_spec : {M : Type 1} → statement M

@@ -25,8 +25,8 @@ changed-text-requires c κs = search rules
 
 returns : tie.Need-returns
 returns c =
-    let at_rest = c.before.before in
-    let began = at_rest.before.before in
+    let at_rest = c in
+    let began = at_rest in
     let whole = began.args.whole.now in
     let rest = drop 8 whole in
     let left = c.trim_end.result.now in

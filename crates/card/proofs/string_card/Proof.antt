@@ -20,7 +20,7 @@ returns c = rw c.in-Str.is
 
 returns-2 : tie.Need-returns-in-Refused
 returns-2 c =
-    let answer = c.before in
+    let answer = c in
     let a = answer.args in
     c.refused.ensures
     ∙ ap (λ (q : Quoted). string_card q a.name a.text a.commented a.comment) (sym answer.in-Refused.is)

@@ -32,7 +32,7 @@ read-as-requires c κs = search rules
 returns : tie.Need-returns-then-t-eq0
 unfolding empty_of
 returns c =
-    let empty = c.before.before.before in
+    let empty = c in
     let whole = empty.args.whole.now in
     c.read_as.ensures ∙ ap₂ (card_as Space) empty.empty_text-none.ensures empty.empty_text-none.ensures
     ∙ no_text (remark_of whole) (sym (ap (λ (t : Text). t.len) empty.remark_text-t.ensures) ∙ c.if-t-eq0.true)
@@ -43,7 +43,7 @@ read-as-requires-2 c κs = search rules
 returns-2 : tie.Need-returns
 unfolding empty_of
 returns-2 c =
-    let empty = c.before.before.before in
+    let empty = c in
     let whole = empty.args.whole.now in
     c.read_as-2.ensures ∙ ap₂ (card_as Comment) empty.empty_text-none.ensures empty.remark_text-t.ensures
     ∙ some-text (remark_of whole) (λ e. c.if-t-eq0.false (ap (λ (t : Text). t.len) empty.remark_text-t.ensures ∙ e))

@@ -27,17 +27,17 @@ refused-requires c κs = search rules
 
 returns : tie.Need-returns-in-Read
 returns c =
-    let told = c.before in
+    let told = c in
     let a = told.args in
     let r = a.read in
     let card = c.card_with.ensures in
     (λ j. record { answer = Read (card j); name = a.name; text = r.text; commented = r.commented; comment = r.comment })
-    ∙ by told.before.before.before (Read-value told.in-Read.value) told.in-Read.is
+    ∙ by told.before.before.before.before (Read-value told.in-Read.value) told.in-Read.is
 
 returns-2 : tie.Need-returns-in-Refused
 returns-2 c =
-    let told = c.before in
-    let began = told.before.before.before in
+    let told = c in
+    let began = told.before.before.before.before in
     c.refused.ensures ∙ by began (Refused-value told.in-Refused.fault) told.in-Refused.is
 
 pub with_value_spec : {M : Type 1} → statement M

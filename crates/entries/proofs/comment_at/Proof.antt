@@ -16,8 +16,8 @@ same_length c = search rules
 
 returns : tie.Need-returns
 returns c =
-    let comment = c.before.before in
-    let found = comment.before.before in
+    let comment = c in
+    let found = comment in
     let a = found.args in
     comment.comment_of.ensures ∙ ap (λ (x : Sought). comment_in x a.comment.now) found.find_card.ensures.is
 

@@ -20,15 +20,15 @@ refuse-comment-requires c κs = search rules
 
 returns : tie.Need-returns-in_default
 returns c =
-    let told = c.before in
-    let a = (start told.before).args in
+    let told = c in
+    let a = (start told.before.before).args in
     (λ j. comment_left (c.refuse_comment.ensures j) a.comment.now)
     ∙ refused-comment (not_at a.spot told.in_default.keys2) a.header.now a.comment.now
 
 entry-comment-requires : tie.Need-entry_comment-requires
 entry-comment-requires c κs =
-    let at = c.before in
-    let s = start at.before in
+    let at = c in
+    let s = start at.before.before in
     subst (λ (x : Spot). IsWithin x s.args.header.now) at.in-At.is s.requires
 
 same_length : tie.Need-shape_of-comment
@@ -36,9 +36,9 @@ same_length c = search rules
 
 returns-2 : tie.Need-returns
 returns-2 c =
-    let entry = c.before.before in
-    let at = entry.before.before in
-    let a = (start at.before).args in
+    let entry = c in
+    let at = entry in
+    let a = (start at.before.before.before.before.before).args in
     entry.entry_comment.ensures
     ∙ sym (ap (λ (x : Spot). comment_in (sought_at x a.header.now) a.comment.now) at.in-At.is)
 

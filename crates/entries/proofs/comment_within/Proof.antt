@@ -32,10 +32,10 @@ same-length-2 c = search rules
 
 returns : tie.Need-returns-in_default
 returns c =
-    let lay = c.before.before in
-    let first = lay.before.before in
-    let told = first.before.before in
-    let join = told.before.before.before in
+    let lay = c in
+    let first = lay in
+    let told = first in
+    let join = told.before.before.before.before.before.before.before.before in
     let comment = (start join).args.comment.now in
     lay.lay_comment.ensures
     ∙ ap (λ (l : List ℕ). comment_laid (comment_of join.join-comments.result.commented l) comment) first.first_of.ensures
@@ -49,8 +49,8 @@ same-length-3 c = search rules
 
 returns-2 : tie.Need-returns
 returns-2 c =
-    let known = c.before in
-    let join = known.before.before.before in
+    let known = c in
+    let join = known.before.before.before.before in
     let comment = (start join).args.comment.now in
     (λ j. comment_left (c.refuse_comment.ensures j) comment)
     ∙ string_refused_lem join.join_comments-end.ensures comment known.in-Met.stop known.in-Met.is

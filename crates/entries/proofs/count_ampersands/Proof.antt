@@ -33,9 +33,9 @@ loop-less c = search rules
 
 loop-again : tie.Need-loop-i-preserved invariant-loop decreases-loop
 loop-again c =
-    let byte = c.before in
-    let inside = byte.before in
-    let at = inside.before in
+    let byte = c in
+    let inside = byte in
+    let at = inside in
     let a = at.args in
     let s = a.s.now in
     let b = get_or s at.loop-i.i 0 in
@@ -53,7 +53,7 @@ loop-again c =
 
 returns : tie.Need-returns invariant-loop decreases-loop
 returns c =
-    let at = c.before in
+    let at = c in
     ampersands_done at.loop-i.k at.args.s.now at.loop-i.i c.loop-i-test.false ∙ at.loop-i.invariant.1
 
 pub count_ampersands_spec : {M : Type 1} → statement M

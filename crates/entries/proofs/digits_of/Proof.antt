@@ -39,8 +39,8 @@ text-of-requires c κs = search rules
 
 returns-2 : tie.Need-returns
 returns-2 c =
-    let told = c.before.before.before.before in
-    let start = told.before in
+    let told = c in
+    let start = told.before.before.before.before.before in
     let t = start.args.own in
     c.text_of.ensures
     ∙ ap (λ (l : List ℕ). text_of (take size l)) c.first_of.ensures

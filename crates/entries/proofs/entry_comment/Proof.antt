@@ -40,19 +40,19 @@ by : (c : tie.After-role_of-role) (x : Sought) → let a = (start c).args in
 by c x e = sym (ap (λ (y : Sought). comment_in y (start c).args.comment.now) e)
 
 -- an entry, by what was told of it
-abbrev value : tie.In-Entry-2 → Value
+abbrev value : tie.In-Entry → Value
 value c = c.in-Entry.value
 
-abbrev joins : tie.In-Entry-2 → Bool
+abbrev joins : tie.In-Entry → Bool
 joins c = c.in-Entry.joins
 
-abbrev read : tie.In-Entry-2 → tie.After-role_of-role
+abbrev read : tie.In-Entry → tie.After-role_of-role
 read c = c.before
 
-told : (c : tie.In-Entry-2) → role_by (card (read c)).answer ≡ Entry (value c) (joins c)
+told : (c : tie.In-Entry) → role_by (card (read c)).answer ≡ Entry (value c) (joins c)
 told c = sym (read c).role_of-role.ensures ∙ c.in-Entry.is
 
-abbrev entry : tie.After-is_open → tie.In-Entry-2
+abbrev entry : tie.After-is_open → tie.In-Entry
 entry c = c.before.before
 
 open_is : (c : tie.After-is_open) → (joins (entry c) && ends_open (bytes_of (card (read (entry c))).text)) ≡ c.is_open.result
@@ -75,8 +75,8 @@ refuse-comment-requires c κs = search rules
 
 returns : tie.Need-returns-in_default
 returns c =
-    let none = c.before in
-    let role = none.before.before in
+    let none = c in
+    let role = none.before.before.before in
     let a = (start role).args in
     let told = role.role_of-role.result in
     (λ j. comment_left (c.refuse_comment.ensures j) a.comment.now)
@@ -91,12 +91,12 @@ is-open-requires c κs = search rules
 
 joined-comment-requires : tie.Need-joined_comment-requires
 joined-comment-requires c κs =
-    let test = c.before in
-    let role = entry test.before in
+    let test = c in
+    let role = entry test.before.before in
     let part = read role in
     let s = start part in
     let a = s.args in
-    let opened = open_is test.before ∙ test.if-is_open.true in (
+    let opened = open_is test.before.before ∙ test.if-is_open.true in (
       open_at a.header.now a.i s.requires.0 (card part) (card-is part) (value role) (joins role) (told role) opened s.requires.1,
       begins a.header.now a.i s.requires.0 (card part) (card-is part) (value role) (joins role) (told role) opened,
     )
@@ -106,16 +106,16 @@ same_length c = search rules
 
 returns-2 : tie.Need-returns-then-is_open
 returns-2 c =
-    let join = c.before.before in
-    let test = join.before.before in
-    let role = entry test.before in
+    let join = c in
+    let test = join in
+    let role = entry test.before.before.before.before.before in
     let part = read role in
     let s = start part in
     let a = s.args in
     join.joined_comment.ensures
     ∙ by part _
     (numbered_open a.header.now a.i s.requires.0 (card part) (card-is part) (value role) (joins role) (told role)
-    (open_is test.before ∙ test.if-is_open.true))
+    (open_is test.before.before.before.before.before ∙ test.if-is_open.true))
 
 slice-aggregate-first-of : tie.Need-slice_bounds-first_of-end
 slice-aggregate-first-of c = search rules
@@ -131,10 +131,10 @@ same-length-2 c = search rules
 
 returns-3 : tie.Need-returns
 returns-3 c =
-    let lay = c.before.before in
-    let first = lay.before.before in
-    let test = first.before.before.before.before in
-    let role = entry test.before in
+    let lay = c in
+    let first = lay in
+    let test = first in
+    let role = entry test.before.before.before.before.before.before.before.before.before in
     let part = read role in
     let s = start part in
     let a = s.args in
@@ -144,7 +144,7 @@ returns-3 c =
     ∙ held-laid (held_of (value role) (joins role) p) a.comment.now
     ∙ by part _
     (numbered_shut a.header.now a.i s.requires.0 p (card-is part) (value role) (joins role) (told role)
-    (open_is test.before ∙ test.if-is_open.false))
+    (open_is test.before.before.before.before.before.before.before.before.before ∙ test.if-is_open.false))
 
 pub entry_comment_spec : {M : Type 1} → statement M
 entry_comment_spec =

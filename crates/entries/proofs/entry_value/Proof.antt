@@ -35,19 +35,19 @@ card-is : (c : tie.After-role_of-role) → card c ≡ card_of (card_no (start c)
 card-is c = c.card_at-part.ensures ∙ card-here _ _ (start c).requires.0
 
 -- an entry, by what was told of it
-abbrev value : tie.In-Entry-2 → Value
+abbrev value : tie.In-Entry → Value
 value c = c.in-Entry.value
 
-abbrev joins : tie.In-Entry-2 → Bool
+abbrev joins : tie.In-Entry → Bool
 joins c = c.in-Entry.joins
 
-abbrev read : tie.In-Entry-2 → tie.After-role_of-role
+abbrev read : tie.In-Entry → tie.After-role_of-role
 read c = c.before
 
-told : (c : tie.In-Entry-2) → role_by (card (read c)).answer ≡ Entry (value c) (joins c)
+told : (c : tie.In-Entry) → role_by (card (read c)).answer ≡ Entry (value c) (joins c)
 told c = sym (read c).role_of-role.ensures ∙ c.in-Entry.is
 
-abbrev entry : tie.After-is_open → tie.In-Entry-2
+abbrev entry : tie.After-is_open → tie.In-Entry
 entry c = c.before.before
 
 open_is : (c : tie.After-is_open) → (joins (entry c) && ends_open (bytes_of (card (read (entry c))).text)) ≡ c.is_open.result
@@ -70,8 +70,8 @@ refuse-value-requires c κs = search rules
 
 returns : tie.Need-returns-in_default
 returns c =
-    let other = c.before.before in
-    let part = other.before in
+    let other = c in
+    let part = other.before.before.before in
     let s = start part in
     let h = s.args.header.now in
     let text = s.args.text.now in
@@ -87,12 +87,12 @@ is-open-requires c κs = search rules
 
 joined-value-requires : tie.Need-joined_value-requires
 joined-value-requires c κs =
-    let test = c.before in
-    let role = entry test.before in
+    let test = c in
+    let role = entry test.before.before in
     let part = read role in
     let s = start part in
     let h = s.args.header.now in
-    let opened = open_is test.before ∙ test.if-is_open.true in (
+    let opened = open_is test.before.before ∙ test.if-is_open.true in (
       open_at h s.args.i s.requires.0 (card part) (card-is part) (value role) (joins role) (told role) opened s.requires.1,
       (begins h s.args.i s.requires.0 (card part) (card-is part) (value role) (joins role) (told role) opened).text,
     )
@@ -102,15 +102,15 @@ same_length c = search rules
 
 returns-2 : tie.Need-returns-then-is_open
 returns-2 c =
-    let joined = c.before.before in
-    let test = joined.before.before in
-    let role = entry test.before in
+    let joined = c in
+    let test = joined in
+    let role = entry test.before.before.before.before.before in
     let part = read role in
     let s = start part in
     joined.joined_value.ensures
     ∙ ap (λ (x : Sought). value_in x s.args.text.now)
     (sym (numbered_open s.args.header.now s.args.i s.requires.0 (card part) (card-is part) (value role) (joins role) (told role)
-    (open_is test.before ∙ test.if-is_open.true)))
+    (open_is test.before.before.before.before.before ∙ test.if-is_open.true)))
 
 has-text-requires : tie.Need-has_text-requires
 has-text-requires c κs = search rules
@@ -132,12 +132,12 @@ same-length-2 c = search rules
 
 returns-3 : tie.Need-returns
 returns-3 c =
-    let lay = c.before.before in
-    let first = lay.before.before in
-    let count = first.before.before in
-    let shown = count.before in
-    let test = shown.before.before in
-    let role = entry test.before in
+    let lay = c in
+    let first = lay in
+    let count = first in
+    let shown = count in
+    let test = shown in
+    let role = entry test.before.before.before.before.before.before.before.before.before.before in
     let part = read role in
     let s = start part in
     let p = card part in
@@ -149,7 +149,7 @@ returns-3 c =
     ∙ own_laid (value role) (joins role) p text long
     ∙ ap (λ (x : Sought). value_in x text)
     (sym (numbered_shut s.args.header.now s.args.i s.requires.0 p (card-is part) (value role) (joins role) (told role)
-    (open_is test.before ∙ test.if-is_open.false)))
+    (open_is test.before.before.before.before.before.before.before.before.before.before ∙ test.if-is_open.false)))
 
 pub entry_value_spec : {M : Type 1} → statement M
 entry_value_spec =

@@ -42,8 +42,8 @@ stop-at-requires c κs = search rules
 
 returns : tie.Need-returns-then-is_bad_length
 returns c =
-    let test = c.before.before in
-    let a = (start test.before).args in
+    let test = c in
+    let a = (start test.before.before.before).args in
     let refused = sym test.is_bad_length.ensures ∙ test.if-is_bad_length.true in
     record {
       is =

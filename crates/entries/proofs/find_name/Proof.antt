@@ -33,13 +33,13 @@ by_place h name end p a e =
     ap held_in (ap (λ (q : Place). entry_at q (roles_of h)) (sym e) ∙ last_found name (roles_of h)) ∙ by_header_lem h name (Accepted end) a
 
 -- an accepted header, where END stands, and the last card that bears the name
-abbrev end-at : tie.In-Read-2 → ℕ
+abbrev end-at : tie.In-Read → ℕ
 end-at c = c.in-Read.end
 
-abbrev last_at_lem : tie.In-Read-2 → Place
+abbrev last_at_lem : tie.In-Read → Place
 last_at_lem c = c.in-Read.last
 
-header_is : (c : tie.In-Read-2) → let a = (start c.before).args in
+header_is : (c : tie.In-Read) → let a = (start c.before).args in
     (header_of a.header.now ≡ Accepted (end-at c)) × (last_of a.name.now (roles_of a.header.now) ≡ last_at_lem c)
 header_is c =
     let found = c.before in

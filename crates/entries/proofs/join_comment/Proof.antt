@@ -47,7 +47,7 @@ count-of-requires c κs = search rules
 
 add-result-2 : tie.Need-overflow_add-result-then-there
 add-result-2 c =
-    let s = c.before.before.before.before.before.before.before.before.before.before.before.before in
+    let s = c.before.before.before.before.before.before.before.before.before.before.before.before.before in
     omega (arith, c.count_of.ensures, short s, s.requires)
 
 same_length : tie.Need-shape_of-held-then-there
@@ -55,10 +55,10 @@ same_length c = search rules
 
 returns : tie.Need-returns-then-there
 returns c =
-    let put = c.before.before.before in
-    let line = put.before.before.before.before in
-    let test = line.before.before.before in
-    let s = test.before.before in
+    let put = c in
+    let line = put in
+    let test = line in
+    let s = test.before.before.before.before.before.before.before.before.before.before.before.before.before in
     let a = s.args in (
       ap₂ (λ (k : ℕ) (l : List ℕ). some (take (a.n + 1 + k) l)) c.count_of.ensures
           (put.put_text.ensures ∙ ap (λ (l : List ℕ). sets l (a.n + 1) (bytes_of a.c)) line.put_at.ensures)
@@ -78,9 +78,9 @@ same-length-2 c = search rules
 
 returns-2 : tie.Need-returns
 returns-2 c =
-    let put = c.before.before.before in
-    let test = put.before.before in
-    let s = test.before.before in
+    let put = c in
+    let test = put in
+    let s = test.before.before.before.before.before.before.before in
     let a = s.args in (
       ap₂ (λ (k : ℕ) (l : List ℕ). some (take k l)) c.count_of-2.ensures put.put_text-2.ensures
           ∙ put_alone a.held.now (bytes_of a.c) (omega (arith, short s, s.requires))

@@ -60,8 +60,8 @@ add-j c = search rules
 
 loop-holds : tie.Need-loop-j-init invariant-loop decreases-loop
 loop-holds c =
-    let count = c.before in
-    let put = count.before.before.before.before.before in
+    let count = c in
+    let put = count.before.before.before.before.before.before in
     let s = start put in
     let part = s.args.part in (
       keep s.requires.0 s.args.comments.now s.requires.1 s.requires.2 (fits s) (bytes_fit part.comment (comment-array s))
@@ -85,9 +85,9 @@ returns c =
 
 next-comment-requires : tie.Need-next_comment-held-requires invariant-loop decreases-loop
 next-comment-requires c κs =
-    let told = c.before in
-    let inside = told.before in
-    let at = inside.before in
+    let told = c in
+    let inside = told in
+    let at = inside.before.before.before in
     let s = start (begun at) in
     let K = at.loop-j.invariant.0 in
     let on = told.in-On.is in
@@ -106,10 +106,10 @@ loop-less c = search rules
 
 loop-again : tie.Need-loop-j-preserved invariant-loop decreases-loop
 loop-again c =
-    let joined = c.before.before in
-    let told = joined.before.before in
-    let inside = told.before in
-    let at = inside.before in
+    let joined = c in
+    let told = joined in
+    let inside = told in
+    let at = inside.before.before.before.before.before.before in
     let s = start (begun at) in (
       keep_on s.pre.0 s.args.comments.now s.pre.1 at.loop-j.invariant.0 told.in-On.is inside.loop-j-test.true
           joined.next_comment-held.ensures,

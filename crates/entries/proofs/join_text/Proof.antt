@@ -32,7 +32,7 @@ slice-reshare-prefix-trim-end c = search rules
 
 slice-aggregate-trim-end : tie.Need-slice_bounds-trim_end-end-then-adds_nothing
 slice-aggregate-trim-end c =
-    let s = c.before.before.before.before in
+    let s = c in
     let a = s.args in
     sym (length-take-le (a.n - 1) a.held.now (omega (arith, s.requires.1)))
 
@@ -44,8 +44,8 @@ same_length c = search rules
 
 returns : tie.Need-returns-then-adds_nothing
 returns c =
-    let test = c.before.before.before in
-    let s = test.before.before in
+    let test = c in
+    let s = test in
     let a = s.args in
     let d = a.held.now in
     let cut : c.trim_end.result.now ≡ trim_end is_space (take (a.n - 1) d) = c.trim_end.ensures in
@@ -72,9 +72,9 @@ same-length-2 c = search rules
 
 returns-2 : tie.Need-returns
 returns-2 c =
-    let put = c.before.before.before in
-    let test = put.before.before.before in
-    let s = test.before.before in
+    let put = c in
+    let test = put in
+    let s = test.before.before.before.before.before.before.before.before in
     let a = s.args in
     let something = sym test.adds_nothing.ensures ∙ put.if-adds_nothing.false in (
       ap₂ take (ap (λ (k : ℕ). a.n - 1 + k) c.count_of.ensures) put.put_text.ensures

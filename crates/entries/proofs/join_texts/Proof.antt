@@ -70,9 +70,9 @@ returns c =
 
 next-text-requires : tie.Need-next_text-held-requires invariant-loop decreases-loop
 next-text-requires c κs =
-    let told = c.before in
-    let inside = told.before in
-    let at = inside.before in
+    let told = c in
+    let inside = told in
+    let at = inside.before.before.before in
     let G = at.loop-j.invariant.0 in
     let on = told.in-On.is in
     let next = inside.loop-j-test.true in
@@ -86,10 +86,10 @@ loop-less c = search rules
 
 loop-again : tie.Need-loop-j-preserved invariant-loop decreases-loop
 loop-again c =
-    let joined = c.before.before in
-    let told = joined.before.before in
-    let inside = told.before in
-    let at = inside.before in
+    let joined = c in
+    let told = joined in
+    let inside = told in
+    let at = inside.before.before.before.before.before.before in
     (on_text (wide at) at.loop-j.invariant.0 told.in-On.is inside.loop-j-test.true joined.next_text-held.ensures, search rules)
 
 same-length-2 : tie.Need-shape_of-texts invariant-loop decreases-loop

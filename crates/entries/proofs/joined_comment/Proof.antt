@@ -21,7 +21,7 @@ slice-aggregate-comment-within-2 c = search rules
 
 comment-within-requires-2 : tie.Need-comment_within-requires-2
 comment-within-requires-2 c κs =
-    let s = c.before.before.before.before.before in
+    let s = c in
     (s.requires.0, omega (arith, s.requires.0.few), s.requires.1)
 
 same-length-2 : tie.Need-shape_of-comment

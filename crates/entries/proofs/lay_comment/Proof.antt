@@ -29,7 +29,7 @@ returns c =
     let a = (start at).args in
     (λ j. comment_left (c.comment_half.ensures j) a.comment.now)
     ∙ laid_none a.comment.now
-    ∙ by at false (not-true _ c.if-not-there.true)
+    ∙ by at false c.if-not-there.true
 
 fault-of-requires : tie.Need-fault_of-requires
 fault-of-requires c κs = search rules
@@ -39,13 +39,13 @@ comment-half-requires-2 c κs = search rules
 
 returns-2 : tie.Need-returns-then-comment-n
 returns-2 c =
-    let test = c.before.before in
-    let other = test.before in
-    let a = (start other.before).args in
+    let test = c in
+    let other = test in
+    let a = (start other.before.before.before.before).args in
     (λ j. comment_left (c.comment_half-then-comment-n.ensures j) a.comment.now)
     ∙ ap (λ (f : Fault). comment_left (comment_half (C.Refused f) (length a.s.now)) a.comment.now) c.fault_of.ensures
     ∙ laid-short a.s.now a.comment.now test.if-comment-n.true
-    ∙ by other.before true (not-false _ other.if-not-there.false)
+    ∙ by other.before.before.before.before true other.if-not-there.false
 
 put-at-requires : tie.Need-put_at-requires
 put-at-requires c κs = search rules
@@ -58,13 +58,13 @@ same_length c = search rules
 
 returns-3 : tie.Need-returns
 returns-3 c =
-    let put = c.before.before.before in
-    let test = put.before.before in
-    let other = test.before in
-    let a = (start other.before).args in
+    let put = c in
+    let test = put in
+    let other = test in
+    let a = (start other.before.before.before.before.before.before.before).args in
     (λ j. comment_left (c.comment_half-2.ensures j) (put.put_at.ensures j))
     ∙ laid-whole a.s.now a.comment.now test.if-comment-n.false
-    ∙ by other.before true (not-false _ other.if-not-there.false)
+    ∙ by other.before.before.before.before.before.before.before true other.if-not-there.false
 
 pub lay_comment_spec : {M : Type 1} → statement M
 lay_comment_spec =

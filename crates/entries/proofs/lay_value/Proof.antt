@@ -39,7 +39,7 @@ no-value-requires c κs = search rules
 
 returns : tie.Need-returns-then-text-n
 returns c =
-    let short = c.before.before in
+    let short = c in
     let a = short.args in
     let s = a.s.now in
     (λ j. value_left (c.no_value.ensures j) a.text.now)
@@ -57,8 +57,8 @@ same_length c = search rules
 
 returns-2 : tie.Need-returns
 returns-2 c =
-    let put = c.before.before.before in
-    let whole = put.before.before in
+    let put = c in
+    let whole = put in
     let a = whole.args in
     let s = a.s.now in
     (λ j. value_left (record { answer = L.Found a.value; digits = c.digits_of.ensures j; text = length s }) (put.put_at.ensures j))

@@ -16,8 +16,8 @@ same_length c = search rules
 
 returns : tie.Need-returns
 returns c =
-    let read = c.before.before in
-    let found = read.before.before in
+    let read = c in
+    let found = read in
     let text = found.args.text.now in
     read.value_of.ensures ∙ ap (λ (x : Sought). value_in x text) found.find_name.ensures.is
 

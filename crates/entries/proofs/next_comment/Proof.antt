@@ -123,9 +123,9 @@ same_length c = search rules
 
 returns : tie.Need-returns-then-part
 returns c =
-    let join = c.before.before in
-    let test = join.before.before.before in
-    let reach = test.before in
+    let join = c in
+    let test = join in
+    let reach = test.before.before.before.before.before.before in
     let count = reach.before.before in
     let role = read count.before in
     let a = (start role).args in
@@ -169,9 +169,9 @@ returns-3 c =
 
 returns-4 : tie.Need-returns-in-Refused
 returns-4 c =
-    let stop = c.before in
-    let known = stop.before in
-    let role = known.before in
+    let stop = c in
+    let known = stop in
+    let role = known.before.before.before in
     let a = (start role).args in
     let f = known.in-Refused.fault in
     unjoined role (Refused f) known.in-Refused.is c.reached-in-Refused.result (Met (stop_at f a.j))

@@ -68,7 +68,7 @@ slice-reshare-prefix-ends-open c = search rules
 
 slice-aggregate-ends-open : tie.Need-slice_bounds-ends_open-end-in-More
 slice-aggregate-ends-open c =
-    let j = c.before.before.before in
+    let j = c.before.before in
     sym (length-take-le j.join-text.result j.join-text.new.0 (within j))
 
 ends-open-requires : tie.Need-ends_open-requires
@@ -91,7 +91,7 @@ same_length c = search rules
 
 returns : tie.Need-returns-in-More
 returns c =
-    let j = c.before.before.before.before.before in
+    let j = c.before.before.before.before in
     left (at j) More j.in-More.is _ j.join-text.new.0
     record {
       text = j.join-text.ensures.0;
@@ -107,8 +107,8 @@ returns-2 c =
 
 returns-3 : tie.Need-returns-in-Refused
 returns-3 c =
-    let known = c.before in
-    let at = known.before in
+    let known = c in
+    let at = known.before.before in
     let a = (start at).args in
     let f = known.in-Refused.fault in
     left at (Refused f) known.in-Refused.is (text_held a.n (Met c.stop_at.result)) a.texts.now

@@ -19,7 +19,7 @@ stop-at-requires c κs = search rules
 
 returns-2 : tie.Need-returns
 returns-2 c =
-    let known = c.before in
+    let known = c in
     let a = known.args in
     ap Stops c.stop_at.ensures ∙ ap (λ (t : Told). no_entry t a.i) (sym known.in-Refused.is)
 

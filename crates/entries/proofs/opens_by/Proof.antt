@@ -22,7 +22,7 @@ ends-open-requires c κs = search rules
 
 returns-2 : tie.Need-returns
 returns-2 c =
-    let other = c.before.before.before.before in
+    let other = c in
     rw (sym other.adds_nothing.ensures ∙ other.if-adds_nothing.false) (c.ends_open.ensures ∙ ap ends_open c.first_of.ensures)
 
 pub opens_by_spec : {M : Type 1} → statement M

@@ -23,7 +23,7 @@ comment-half-requires c κs = search rules
 
 returns : tie.Need-returns-in_default
 returns c =
-    let told = c.before.before in
+    let told = c in
     c.comment_half.ensures
     ∙ ap (λ (f : Fault). comment_half (C.Refused f) 0) c.fault_of.ensures
     ∙ sym (not_stopped comment_refused (comment_half (C.Refused (fault_of R.NameNotFound)) 0) (λ (i : ℕ). refl) refl

@@ -23,8 +23,8 @@ no-value-requires c κs = search rules
 
 returns : tie.Need-returns-in_default
 returns c =
-    let fault = c.before in
-    let other = fault.before in
+    let fault = c in
+    let other = fault in
     c.no_value.ensures
     ∙ ap (λ (f : Fault). no_value (L.Refused f) 0) fault.fault_of.ensures
     ∙ sym (not_stopped value_refused (no_value (L.Refused (fault_of R.NameNotFound)) 0) (λ (i : ℕ). refl) refl

@@ -10,7 +10,7 @@ use borrow.Author.Rules.{rules}
 use Rattle.entries.proofs.value_of.Statement.{statement}
 use Rattle.entries.proofs.value_of.Tie as tie
 
-abbrev start : tie.In-At-2 → tie.Start
+abbrev start : tie.In-At → tie.Start
 start c = c.before.before.before
 
 enum-known-spot : tie.Need-enum_known-spot
@@ -21,7 +21,7 @@ refuse-value-requires c κs = search rules
 
 returns : tie.Need-returns-in_default
 returns c =
-    let other = c.before in
+    let other = c in
     let a = other.args in
     ap (λ (v : ValueHalf). value_left v a.text.now) c.refuse_value.ensures
     ∙ refused-value (not_at a.spot other.in_default.keys2) a.header.now a.text.now
@@ -37,8 +37,8 @@ same_length c = search rules
 
 returns-2 : tie.Need-returns
 returns-2 c =
-    let entry = c.before.before in
-    let spot = entry.before.before in
+    let entry = c in
+    let spot = entry.before.before.before.before in
     let a = (start spot).args in
     entry.entry_value.ensures
     ∙ ap (λ (x : Spot). value_in (sought_at x a.header.now) a.text.now) (sym spot.in-At.is)

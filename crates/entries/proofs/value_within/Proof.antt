@@ -33,10 +33,10 @@ same-length-2 c = search rules
 
 returns : tie.Need-returns-in_default
 returns c =
-    let lay = c.before.before in
-    let front = lay.before.before in
-    let known = front.before.before in
-    let joined = known.before.before.before in
+    let lay = c in
+    let front = lay in
+    let known = front in
+    let joined = known.before.before.before.before.before.before.before.before in
     let text = (start joined).args.text.now in
     lay.lay_value.ensures
     ∙ ap (λ (s : List ℕ). value_laid String [] s text) front.first_of.ensures
@@ -50,8 +50,8 @@ same-length-3 c = search rules
 
 returns-2 : tie.Need-returns
 returns-2 c =
-    let known = c.before in
-    let joined = known.before.before.before in
+    let known = c in
+    let joined = known.before.before.before.before in
     let text = (start joined).args.text.now in
     ap (λ (v : ValueHalf). value_left v text) c.refuse_value.ensures
     ∙ string_refused_lem joined.join_texts-end.ensures text known.in-Met.stop known.in-Met.is

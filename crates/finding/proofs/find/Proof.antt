@@ -52,8 +52,8 @@ stop-at-requires c κs = search rules
 
 returns : tie.Need-returns-then-is_bad_length invariant-loop decreases-loop
 returns c =
-    let test = c.before.before in
-    let a = (start_of test.before).args in
+    let test = c in
+    let a = (start_of test.before.before.before).args in
     ap F.Refused (c.stop_at.ensures ∙ ap (λ (f : Fault). stop_at f 0) c.fault_of.ensures)
     ∙ bad_found a.header.now a.name.now (sym test.is_bad_length.ensures ∙ test.if-is_bad_length.true)
 
@@ -80,9 +80,9 @@ stopped-requires c κs = search rules
 
 returns-2 : tie.Need-returns-in_default invariant-loop decreases-loop
 returns-2 c =
-    let told = c.before in
-    let passed = told.before in
-    let role = passed.before in
+    let told = c in
+    let passed = told in
+    let role = passed.before.before.before in
     let l = at-loop role in
     c.stopped.ensures
     ∙ on_stop l.loop-i.invariant (read role).loop-i-test.true (read role).card_at-card.result role.role_of-role.result (card-is role)
@@ -97,8 +97,8 @@ loop-less c = search rules
 loop-again : tie.Need-loop-i-preserved invariant-loop decreases-loop
 loop-again c =
     let next = c in
-    let passed = next.before in
-    let role = passed.before in
+    let passed = next in
+    let role = passed.before.before in
     on_card (at-loop role).loop-i.invariant (read role).loop-i-test.true (read role).card_at-card.result role.role_of-role.result
     (card-is role) next.in-On.next (sym passed.pass_card.ensures ∙ next.in-On.is)
 
@@ -110,10 +110,10 @@ stop-at-requires-2 c κs = search rules
 
 returns-3 : tie.Need-returns invariant-loop decreases-loop
 returns-3 c =
-    let past = c.before.before in
-    let n = length (start_of past.before.before.before).args.header.now / 80 in
+    let past = c in
+    let n = length (start_of past.before.before.before.before.before).args.header.now / 80 in
     ap F.Refused (c.stop_at-2.ensures ∙ ap (λ (f : Fault). stop_at f n) c.fault_of-2.ensures)
-    ∙ at_end past.loop-i.invariant (good past.before.before) past.loop-i-test.false
+    ∙ at_end past.loop-i.invariant (good past.before.before.before.before) past.loop-i-test.false
 
 pub find_spec : {M : Type 1} → statement M
 find_spec =

@@ -22,8 +22,8 @@ by s t e =
 entry-so : (c : tie.After-bears) → let a = c.args in
     On (cond c.bears.result (At a.i) a.last) ≡ pass_of a.role (bytes_of a.own) a.name.now a.i a.last
 entry-so c =
-    let told = c.before in
-    let s = told.before.before in
+    let told = c in
+    let s = told.before.before.before in
     let a = s.args in
     ap (λ (b : Bool). On (cond b (At a.i) a.last)) c.bears.ensures
     ∙ by s (Entry told.in-Entry.value told.in-Entry.joins) told.in-Entry.is

@@ -18,14 +18,14 @@ enum-known-end c = search rules
 returns : tie.Need-returns-in-Refused
 returns c =
     let stop = c in
-    let found = stop.before in
+    let found = stop in
     let h = found.args.header.now in
     sym (header_refused h [] stop.in-Refused.stop (sym found.find.ensures ∙ stop.in-Refused.is))
 
 returns-2 : tie.Need-returns-in-Read
 returns-2 c =
     let end = c in
-    let found = end.before in
+    let found = end in
     let h = found.args.header.now in
     sym (header_read h [] end.in-Read.end _ (sym found.find.ensures ∙ end.in-Read.is)).0
 

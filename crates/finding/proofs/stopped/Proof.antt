@@ -33,7 +33,7 @@ stop-at-requires c κs = search rules
 
 returns-2 : tie.Need-returns
 returns-2 c =
-    let at = c.before in
+    let at = c in
     let a = at.args in
     ap F.Refused c.stop_at.ensures ∙ sym (ap (λ (r : Role). stopped_at r a.i a.last) at.in-Refused.is)
 

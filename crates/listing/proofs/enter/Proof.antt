@@ -39,7 +39,7 @@ module _ (c : tie.After-put_key) where
 
 -- when the number in the order is known
 abbrev storing : tie.After-count_before-at → tie.After-put_key
-storing c = c.before.before.before.before.before
+storing c = c.before.before.before
 
 parted : (c : tie.After-count_before-at) → let a = (start (storing c)).args in
     Parted (keys₁ (storing c)) a.order.now a.count c.count_before-at.result
@@ -70,7 +70,7 @@ put-key-requires c κs = search rules
 
 count-before-requires : tie.Need-count_before-at-requires
 count-before-requires c κs =
-    let stood = c.before.before.before.before in
+    let stood = c in
     (ordered stood, (ready stood).room)
 
 mul-k : tie.Need-offset_bounds-order-at
@@ -80,38 +80,38 @@ slice-read-k : tie.Need-bounds-order-at
 slice-read-k c = search rules
 
 cast-k : tie.Need-overflow_cast-k
-cast-k c = let t = c.before in omega (arith, below t, (ready (put t)).room)
+cast-k c = let t = c in omega (arith, below t, (ready (put t)).room)
 
 row-before-requires : tie.Need-row_before-requires
 row-before-requires c κs =
-    let t = c.before.before in
+    let t = c in
     let O = ordered (put t) in
     (omega (arith, (ready (put t)).room, O.keys-long), omega (arith, below t, (ready (put t)).room, O.keys-long))
 
 mul-last : tie.Need-offset_bounds-last-k
-mul-last c = let t = c.before.before.before.before in omega (arith, below t, (ready (put t)).room)
+mul-last c = let t = c in omega (arith, below t, (ready (put t)).room)
 
 slice-write-last : tie.Need-bounds-last-k
 slice-write-last c =
-    let t = c.before.before.before.before in
+    let t = c in
     omega (arith, below t, (ready (put t)).room, (ready (put t)).last-long)
 
 mul-times : tie.Need-offset_bounds-times-k
-mul-times c = let t = c.before.before.before.before in omega (arith, below t, (ready (put t)).room)
+mul-times c = let t = c in omega (arith, below t, (ready (put t)).room)
 
 slice-read-times : tie.Need-bounds-times-k
 slice-read-times c =
-    let t = c.before.before.before.before.before in
+    let t = c in
     omega (arith, below t, (ready (put t)).room, (ready (put t)).times_long)
 
 add_times : tie.Need-overflow_add-times
 add_times c =
-    let t = c.before.before.before.before.before in
+    let t = c in
     omega (arith, (ready (put t)).few-times (place t))
 
 slice-write-times : tie.Need-bounds-times-k-then-not-row_before
 slice-write-times c =
-    let t = c.before.before.before.before.before in
+    let t = c in
     omega (arith, below t, (ready (put t)).room, (ready (put t)).times_long)
 
 same_length : tie.Need-shape_of-last-then-not-row_before
@@ -128,10 +128,10 @@ same-length-4 c = search rules
 
 returns : tie.Need-returns-then-not-row_before
 returns c =
-    let t = c.before.before.before.before.before in
+    let t = c in
     let stood = put t in
-    enter_again (ready stood) (name stood) (start None).args.i (stored stood) (parted t.before) t.if1.true
-    (sym c.row_before.ensures ∙ not-true _ c.if-not-row_before.true)
+    enter_again (ready stood) (name stood) (start None).args.i (stored stood) (parted t.before.before.before.before.before) t.if1.true
+    (sym c.row_before.ensures ∙ c.if-not-row_before.true)
 
 cast-put-between : tie.Need-overflow_cast-count
 cast-put-between c = omega (arith, (ready (storing c.before.before)).room)
@@ -177,12 +177,12 @@ same-length-9 c = search rules
 
 returns-2 : tie.Need-returns
 returns-2 c =
-    let moved = c.before.before in
-    let joined = moved.before.before in
-    let told = joined.before in
+    let moved = c in
+    let joined = moved in
+    let told = joined.before.before.before.before.before in
     let stood = storing told in
     enter_new (ready stood) (name stood) (start stood).args.i (stored stood) (parted told)
-    (λ h. ⊎_elim (λ w. sym w.3.ensures ∙ not-false _ w.4.left) (λ w. absurd (omega (arith, w.left))) joined.if-at-count.branch)
+    (λ h. ⊎_elim (λ w. sym w.3.ensures ∙ w.4.left) (λ w. absurd (omega (arith, w.left))) joined.if-at-count.branch)
     moved.put_between.ensures
 
 pub enter_spec : {M : Type 1} → statement M

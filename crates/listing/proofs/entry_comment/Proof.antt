@@ -19,8 +19,8 @@ same_length c = search rules
 returns : tie.Need-returns
 unfolding place_of_comment
 returns c =
-    let read = c.before.before in
-    let found = read.before.before in
+    let read = c in
+    let found = read in
     let a = found.args in
     read.comment_at.ensures ∙ ap (λ (i : ℕ). comment_numbered a.header.now i a.comment.now) found.last_at.ensures
 

@@ -19,8 +19,8 @@ same_length c = search rules
 returns : tie.Need-returns
 unfolding place_of_value
 returns c =
-    let read = c.before.before in
-    let found = read.before.before in
+    let read = c in
+    let found = read in
     let a = found.args in
     read.value_at.ensures ∙ ap (λ (i : ℕ). value_numbered a.header.now i a.text.now) found.last_at.ensures
 

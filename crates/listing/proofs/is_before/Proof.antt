@@ -45,8 +45,8 @@ shared-slice-read-result-2 c = search rules
 
 returns : tie.Need-returns-then-s-q invariant-loop decreases-loop
 returns c =
-    let then1 = c.before.before.before.before.before in
-    let l = then1.before.before in
+    let then1 = c in
+    let l = then1 in
     let a = l.args in
     before_here a.s.now a.t.now l.loop-q.q then1.loop-q-test.true (then1.if-q-t.true)
     c.if-s-q.true
@@ -60,8 +60,8 @@ loop-less c = search rules
 
 loop-again : tie.Need-loop-q-preserved invariant-loop decreases-loop
 loop-again c =
-    let then1 = c.before.before.before in
-    let l = then1.before.before in
+    let then1 = c in
+    let l = then1 in
     let a = l.args in
     let more : l.loop-q.q < length a.t.now = then1.if-q-t.true in
     let next = before_next a.s.now a.t.now l.loop-q.q then1.loop-q-test.true more c.if-s-q.false in
@@ -69,13 +69,13 @@ loop-again c =
 
 returns-2 : tie.Need-returns-else-q-t invariant-loop decreases-loop
 returns-2 c =
-    let l = c.before.before in
+    let l = c in
     let a = l.args in
     before_right a.s.now a.t.now l.loop-q.q c.loop-q-test.true (c.if-q-t.false) ∙ l.loop-q.invariant.2
 
 returns-3 : tie.Need-returns-after-loop-q invariant-loop decreases-loop
 returns-3 c =
-    let l = c.before in
+    let l = c in
     let a = l.args in
     before-left a.s.now a.t.now l.loop-q.q c.loop-q-test.false ∙ l.loop-q.invariant.2
 

@@ -15,7 +15,7 @@ shared-slice-read-result c = search rules
 
 returns : tie.Need-returns-then-place-lasts
 returns c =
-    let inside = c.before in
+    let inside = c in
     let a = inside.args in
     at_within a.lasts.now a.place 0 free inside.if-place-lasts.true
 

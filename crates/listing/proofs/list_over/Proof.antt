@@ -142,8 +142,8 @@ refused-requires c κs = search rules
 
 returns : tie.Need-returns-then-cards-eq0 invariant-loop decreases-loop
 returns c =
-    let stop = c.before.before.before.before in
-    let test = stop.before.before in
+    let stop = c in
+    let test = stop in
     let h = test.args.header.now in
     c.refused.ensures
     ∙ refused-so (fault_of R.HeaderLength) 0 stop.stop_at-none.result
@@ -199,9 +199,9 @@ refused-requires-2 c κs = search rules
 
 returns-3 : tie.Need-returns-in_default invariant-loop decreases-loop
 returns-3 c =
-    let stop = c.before.before.before.before in
-    let known = stop.before in
-    let co = known.before.before in
+    let stop = c in
+    let known = stop in
+    let co = known.before.before.before.before.before.before.before in
     let f = known.in-Refused.fault in
     c.refused-in_default.ensures
     ∙ refused-so f (number co) stop.stop_at.result stop.stop_at.ensures
@@ -228,8 +228,8 @@ loop-less c = search rules
 loop-again : tie.Need-loop-i-preserved invariant-loop decreases-loop
 unfolding own
 loop-again c =
-    let known = c.before in
-    let co = known.before in
+    let known = c in
+    let co = known.before.before in
     let S = standing co in
     let course : (b : Bool) → known.in-On.entry ≡ b
     → co.course_of.result ≡ On b = λ b e. known.in-On.is ∙ ap On e in
@@ -255,9 +255,9 @@ refused-requires-3 c κs = search rules
 
 returns-4 : tie.Need-returns invariant-loop decreases-loop
 returns-4 c =
-    let stop = c.before.before.before.before in
-    let past = stop.before.before in
-    let at-loop = past.before in
+    let stop = c in
+    let past = stop in
+    let at-loop = past.before.before.before.before.before.before.before in
     let n = (counted at-loop).card_count-cards.result in
     c.refused-2.ensures
     ∙ refused-so (fault_of R.NoEnd) n stop.stop_at-none-2.result

@@ -37,7 +37,7 @@ loop-less c = search rules
 
 loop-again : tie.Need-loop-j-preserved invariant-loop decreases-loop
 loop-again c =
-    let l = c.before.before in
+    let l = c in
     slide_next l.loop-j.invariant l.requires.1 c.loop-j-test.true
 
 mul-order-3 : tie.Need-offset_bounds-order-at invariant-loop decreases-loop
@@ -51,7 +51,7 @@ same_length c = search rules
 
 returns : tie.Need-returns invariant-loop decreases-loop
 returns c =
-    let l = c.before in
+    let l = c in
     slide_end l.loop-j.invariant l.requires.1 l.args.place c.loop-j-test.false
 
 pub put_between_spec : {M : Type 1} → statement M

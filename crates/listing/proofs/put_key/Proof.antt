@@ -80,7 +80,7 @@ same_length c = search rules
 
 returns : tie.Need-returns invariant-loop decreases-loop
 returns c =
-    let l = c.before in
+    let l = c in
     let a = l.args in
     sym (key-end a.name.now l.loop-q.keys a.at l.loop-q.q l.loop-q.invariant.0 c.loop-q-test.false) ∙ l.loop-q.invariant.2
 

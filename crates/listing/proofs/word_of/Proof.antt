@@ -66,7 +66,7 @@ loop-again c = (omega arith, next c)
 
 returns : tie.Need-returns invariant-loop decreases-loop
 returns c =
-    let l = c.before in
+    let l = c in
     let none : l.loop-k.k ≡ 0 = omega (arith, c.loop-k-test.false) in
     l.loop-k.invariant.1 ∙ ap (λ (k : ℕ). word_of (drop k l.args.piece.now)) none
 

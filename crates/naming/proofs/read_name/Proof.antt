@@ -30,7 +30,7 @@ abbrev tested : tie.After-role_of-role → tie.Else-header-i
 tested c = (read c).before
 
 abbrev first : tie.After-role_of-role → tie.Start
-first c = start (tested c).before.before
+first c = start (tested c).before.before.before.before
 
 -- the answer by what the card is told to be
 abbrev byTold : tie.After-role_of-role → Told → NameOutcome
@@ -44,7 +44,7 @@ whole c t e =
     let within = (tested c).if-header-i.false in
     ap (byTold c) (sym e ∙ c.role_of-role.ensures)
     ∙ ap (λ r. name_by (role_read r) a.name.now) ((read c).card_at-card.ensures ∙ card-here a.header.now a.i within)
-    ∙ here a.header.now a.i a.name.now (good (tested c).before) within
+    ∙ here a.header.now a.i a.name.now (good (tested c).before.before) within
 
 -- a card that bears no name
 abbrev none-there : tie.After-role_of-role → Named → NameOutcome
@@ -58,8 +58,8 @@ fault-of-requires c κs = search rules
 
 returns : tie.Need-returns-then-is_bad_length
 returns c =
-    let test = c.before in
-    let a = (start test.before).args in
+    let test = c in
+    let a = (start test.before.before).args in
     ap (λ (f : Fault). unnamed f a.name.now) c.fault_of.ensures
     ∙ bad a.header.now a.i a.name.now (sym test.is_bad_length.ensures ∙ test.if-is_bad_length.true)
 
@@ -68,10 +68,10 @@ no-name-requires c κs = search rules
 
 returns-2 : tie.Need-returns-then-header-i
 returns-2 c =
-    let test = c.before in
-    let a = (start test.before.before).args in
+    let test = c in
+    let a = (start test.before.before.before).args in
     ap (λ (n : Named). naming_by n a.name.now) c.no_name.ensures
-    ∙ past a.header.now a.i a.name.now (good test.before) test.if-header-i.true
+    ∙ past a.header.now a.i a.name.now (good test.before.before) test.if-header-i.true
 
 card-at-requires : tie.Need-card_at-card-requires
 card-at-requires c κs = search rules
@@ -111,9 +111,9 @@ same_length c = search rules
 
 returns-3 : tie.Need-returns-in-Entry
 returns-3 c =
-    let wrote = c.before.before in
-    let known = wrote.before.before in
-    wrote.write_name.ensures ∙ whole known.before _ known.in-Entry.is
+    let wrote = c in
+    let known = wrote in
+    wrote.write_name.ensures ∙ whole known.before.before.before.before.before _ known.in-Entry.is
 
 returns-4 : tie.Need-returns-in-Refused
 returns-4 c =
@@ -122,20 +122,20 @@ returns-4 c =
 
 returns-5 : tie.Need-returns-in-More
 returns-5 c =
-    let known = c.before in
-    let r = known.before in
+    let known = c in
+    let r = known.before.before in
     ap (none-there r) c.no_name-in-More.ensures ∙ whole r T.More known.in-More.is
 
 returns-6 : tie.Need-returns-in-Neutral
 returns-6 c =
-    let known = c.before in
-    let r = known.before in
+    let known = c in
+    let r = known.before.before in
     ap (none-there r) c.no_name-in-Neutral.ensures ∙ whole r T.Neutral known.in-Neutral.is
 
 returns-7 : tie.Need-returns-in-Last
 returns-7 c =
-    let known = c.before in
-    let r = known.before in
+    let known = c in
+    let r = known.before.before in
     ap (none-there r) c.no_name-in-Last.ensures ∙ whole r T.Last known.in-Last.is
 
 pub read_name_spec : {M : Type 1} → statement M

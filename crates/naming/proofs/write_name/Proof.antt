@@ -43,9 +43,9 @@ same_length c = search rules
 
 returns-2 : tie.Need-returns
 returns-2 c =
-    let put = c.before.before in
-    let test = put.before.before in
-    let part = test.before in
+    let put = c in
+    let test = put in
+    let part = test.before.before.before.before.before in
     let a = (start part).args in
     let own = bytes_of a.own in
     let is = part.first_of-part.ensures in

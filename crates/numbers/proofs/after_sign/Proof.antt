@@ -35,7 +35,7 @@ returns-2 c =
 
 returns-3 : tie.Need-returns
 returns-3 c =
-    let f = c.before.before.before in
+    let f = c in
     sign_none f.args.s.now f.if-s-eq0.false (sym c.is_sign.ensures ∙ c.if-is_sign.false)
 
 pub after_sign_spec : {M : Type 1} → statement M

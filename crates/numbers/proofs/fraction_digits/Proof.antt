@@ -41,8 +41,7 @@ slice-aggregate-result c = search rules
 
 returns-3 : tie.Need-returns
 returns-3 c =
-    let f = c.before.before.before in
-    fraction_none f.args.s.now f.if1.false c.if-s-eq46.false
+    fraction_none c.args.s.now c.if-s-eq0.false c.if-s-eq46.false
 
 pub fraction_digits_spec : {M : Type 1} → statement M
 fraction_digits_spec =

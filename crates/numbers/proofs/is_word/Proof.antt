@@ -57,7 +57,7 @@ shared-slice-read-if2 c = search rules
 
 returns-2 : tie.Need-returns-then-lower-word invariant-loop decreases-loop
 returns-2 c =
-    let at-loop = c.before.before.before.before.before in
+    let at-loop = c in
     let a = at-loop.args in
     stops a.s.now a.word.now at-loop.loop-i.i (omega arith) (omega arith) c.lower.ensures c.if-lower-word.true
     ∙ at-loop.loop-i.invariant.1
@@ -70,7 +70,7 @@ loop-less c = search rules
 
 loop-again : tie.Need-loop-i-preserved invariant-loop decreases-loop
 loop-again c =
-    let at-loop = c.before.before.before.before.before in
+    let at-loop = c in
     let a = at-loop.args in
     let low = c.lower.ensures in
     let next = goes_on a.s.now a.word.now at-loop.loop-i.i (omega arith) (omega arith) low c.if-lower-word.false in
@@ -78,7 +78,7 @@ loop-again c =
 
 returns-3 : tie.Need-returns invariant-loop decreases-loop
 returns-3 c =
-    let at-loop = c.before in
+    let at-loop = c in
     let a = at-loop.args in
     let s = a.s.now in
     sym (same_end (small s) a.word.now at-loop.loop-i.i (omega (arith, length-map s lowered)) (omega arith))

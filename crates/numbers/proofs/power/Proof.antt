@@ -3,6 +3,7 @@ use mathlib.Core.Bool.{Bool}
 use mathlib.Core.Path.{sym, ap, ◌∙◌}
 use borrow.Author.Rules.{rules}
 use lib.IntN.{pos, ◌+ℤ◌, ◌-ℤ◌}
+use mir.Syntax.{w64}
 use mir.Facts.{to_z-of_z}
 use Rattle.numbers.specs.Signs.{signed_of}
 use Rattle.numbers.proofs.Signing.{power_minus, power_plus}
@@ -18,7 +19,7 @@ difference-requires c κs = search rules
 returns : tie.Need-returns-then-negative
 returns c =
     let a = c.args in
-    to_z-of_z (record { sfits = c.difference.type-inv })
+    to_z-of_z {w = w64} (record { sfits = c.difference.type_inv })
     ∙ c.difference.ensures
     ∙ power_minus a.e a.places a.zeros
     ∙ sym (ap (λ (t : Bool). signed_of t a.e -ℤ pos a.places +ℤ pos a.zeros) c.if-negative.true)
@@ -32,7 +33,7 @@ difference-requires-2 c κs = search rules
 returns-2 : tie.Need-returns
 returns-2 c =
     let a = c.args in
-    to_z-of_z (record { sfits = c.difference-2.type-inv })
+    to_z-of_z {w = w64} (record { sfits = c.difference-2.type_inv })
     ∙ c.difference-2.ensures
     ∙ power_plus a.e a.places a.zeros
     ∙ sym (ap (λ (t : Bool). signed_of t a.e -ℤ pos a.places +ℤ pos a.zeros) c.if-negative.false)

@@ -27,10 +27,10 @@ told a word e d = sym (e ∙ ap (is_word word) a.after_sign-t.ensures) ∙ d
 
 -- where the sign is off, from the second word's test and from the third's
 abbrev signless : tie.After-is_word-2 → tie.After-after_sign-t
-signless y = y.before.before.before.before.before
+signless y = y.before.before.before.before.before.before.before
 
 abbrev second : tie.After-is_word-3 → tie.After-is_word-2
-second n = n.before.before.before
+second n = n.before.before.before.before
 
 -- what was left behind on the way to them
 no-inf : (y : tie.After-is_word-2) → is_word (ascii "inf") (unsigned (text (signless y))) ≡ false
@@ -53,8 +53,8 @@ without-digits-requires c κs = search rules
 
 returns : tie.Need-returns-then-is_word
 returns c =
-    let i = c.before.before in
-    let a = i.before.before in
+    let i = c in
+    let a = i.before.before.before.before.before in
     c.without_digits.ensures
     ∙ ap (λ (t : Bool). decimal_number t Infinite []) a.is_negative-minus.ensures
     ∙ decimal_inf (text a) (told a (ascii "inf") i.is_word.ensures c.if-is_word.true)
@@ -85,12 +85,12 @@ returns-3 c =
     let a = signless (second n) in
     let nan = told a (ascii "nan") n.is_word-3.ensures c.if-is_word-3.true in
     c.without_digits-then-is_word-3.ensures
-    ∙ ap (λ (t : Bool). decimal_number t Nan []) a.before.is_negative.ensures
+    ∙ ap (λ (t : Bool). decimal_number t Nan []) a.is_negative-minus.ensures
     ∙ decimal_nan (text a) (no-inf (second n)) (no-infinity n) nan
 
 read-finite-requires : tie.Need-read_finite-requires
 read-finite-requires c κs =
-    let a = c.before.before.before.before.before.before.before.before.before in
+    let a = c.before.before.before.before.before.before.before.before.before.before.before.before in
     let same : length a.after_sign-t.result.now ≡ length (unsigned (text a)) = ap length a.after_sign-t.ensures in
     (omega (arith, sign_shorter (text a), a.requires), a.requires)
 
@@ -101,7 +101,7 @@ returns-4 c =
     let finite : Bool → List ℕ → Number = λ minus t. finite_of minus t (invalid (text a)) in
     let no_nan = told a (ascii "nan") n.is_word-3.ensures c.if-is_word-3.false in
     c.read_finite.ensures
-    ∙ ap₂ finite a.before.is_negative.ensures a.after-sign.ensures
+    ∙ ap₂ finite a.is_negative-minus.ensures a.after_sign-t.ensures
     ∙ decimal-finite (text a) (no-inf (second n)) (no-infinity n) no_nan
 
 pub read_decimal_spec : {M : Type 1} → statement M

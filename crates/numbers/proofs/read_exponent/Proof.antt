@@ -31,7 +31,7 @@ written-exponent-requires c κs = search rules
 
 returns-2 : tie.Need-returns-then-is_mark
 returns-2 c =
-    let m = c.before.before.before in
+    let m = c in
     let s = m.args.s.now in
     c.written_exponent.ensures
     ∙ ap written_of (take_rest s 1)
@@ -39,8 +39,8 @@ returns-2 c =
 
 returns-3 : tie.Need-returns
 returns-3 c =
-    let m = c.before in
-    let tested = m.before.before in
+    let m = c in
+    let tested = m in
     exponent_none tested.args.s.now tested.if-s-eq0.false (sym m.is_mark.ensures ∙ c.if-is_mark.false)
 
 pub read_exponent_spec : {M : Type 1} → statement M

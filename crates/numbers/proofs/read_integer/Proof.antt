@@ -2,8 +2,8 @@
 use Prim.Native.Nat.{ℕ, min}
 use mathlib.Core.List.{List}
 use mathlib.Core.Path.{◌≡◌, sym, ap, ap₂, ◌∙◌}
-use borrow.Author.Tests.{not-true, not-false}
 use borrow.Author.Rules.{rules}
+use mir.Syntax.{w64}
 use mir.Facts.{to_z-of_z}
 use Rattle.numbers.specs.Answers.{whole_of}
 use Rattle.numbers.specs.Digits.{is_digits, digits_value}
@@ -23,12 +23,12 @@ size-told c =
     c.value_up_to-n.ensures
     ∙ ap (λ (t : List ℕ). min (digits_value t) beyond) c.after_sign-digits.ensures
 
-fits_told : (c : tie.After-fits2)
+fits_told : (c : tie.After-fits)
     → let s = text c.before.before.before in
-    c.fits2.result ≡ fits64 (is_negative s) (min (digits_value (unsigned s)) beyond)
+    c.fits.result ≡ fits64 (is_negative s) (min (digits_value (unsigned s)) beyond)
 fits_told c =
-    c.fits2.ensures
-    ∙ ap₂ fits64 c.before.before.before.before.before.is_negative.ensures (size-told c.before)
+    c.fits.ensures
+    ∙ ap₂ fits64 c.is_negative-negative.ensures (size-told c.before)
 
 is-negative-requires : tie.Need-is_negative-negative-requires
 is-negative-requires c κs = search rules
@@ -45,7 +45,7 @@ invalid-of-requires c κs = search rules
 returns : tie.Need-returns-then-not-is_digits
 returns c =
     let d = c.before.before in
-    c.invalid_of.ensures ∙ integer-none (text d) (sym (digits-told d) ∙ not-true _ c.if-not-is_digits.true)
+    c.invalid_of.ensures ∙ integer-none (text d) (sym (digits-told d) ∙ c.if-not-is_digits.true)
 
 value-up-to-requires : tie.Need-value_up_to-n-requires
 value-up-to-requires c κs = search rules
@@ -54,7 +54,7 @@ fits-requires : tie.Need-fits-requires
 fits-requires c κs = search rules
 
 signed-requires : tie.Need-signed-requires
-signed-requires c κs = sym c.fits2.ensures ∙ c.if-fits.true
+signed-requires c κs = sym c.fits.ensures ∙ c.if-fits.true
 
 whole-requires : tie.Need-whole-requires
 whole-requires c κs = search rules
@@ -64,9 +64,9 @@ returns-2 c =
     let f = c.before.before.before in
     let d = f.before.before.before in
     let by = ap₂ signed_of d.is_negative-negative.ensures (size-told f.before) in
-    let digits = sym (digits-told d) ∙ not-false _ f.if-not-is_digits.false in
+    let digits = sym (digits-told d) ∙ f.if-not-is_digits.false in
     c.whole.ensures
-    ∙ ap whole_of (to_z-of_z (record { sfits = c.signed.type-inv }) ∙ c.signed.ensures ∙ by)
+    ∙ ap whole_of (to_z-of_z {w = w64} (record { sfits = c.signed.type_inv }) ∙ c.signed.ensures ∙ by)
     ∙ integer-fits (text d) digits (sym (fits_told f) ∙ c.if-fits.true)
 
 invalid-of-requires-2 : tie.Need-invalid_of-requires-2
@@ -76,7 +76,7 @@ returns-3 : tie.Need-returns
 returns-3 c =
     let f = c.before.before in
     let d = f.before.before.before in
-    let digits = sym (digits-told d) ∙ not-false _ f.if-not-is_digits.false in
+    let digits = sym (digits-told d) ∙ f.if-not-is_digits.false in
     c.invalid_of-2.ensures
     ∙ integer_beyond (text d) digits (sym (fits_told f) ∙ c.if-fits.false)
 

@@ -58,9 +58,9 @@ is-read-requires-2 c κs = search rules
 
 returns-2 : tie.Need-returns-then-is_read-2
 returns-2 c =
-    let d = c.before.before in
+    let d = c in
     d.read_decimal-second.ensures
-    ∙ second_try _ (sym (first-told d.before.before) ∙ d.if-is_read.false) (sym (second-told c.before) ∙ c.if-is_read-2.true)
+    ∙ second_try _ (sym (first-told d.before.before.before.before) ∙ d.if-is_read.false) (sym (second-told c.before) ∙ c.if-is_read-2.true)
 
 changed-text-requires : tie.Need-changed_text-altered-requires
 changed-text-requires c κs = search rules
@@ -82,11 +82,11 @@ returns-3 : tie.Need-returns
 returns-3 c =
     let a = c.before.before.before in
     let f = a.before.before in
-    let d = f.before in
+    let d = f in
     c.read_decimal.ensures
     ∙ ap decimal_of (text-bytes _ (altered-told a))
     ∙ third_try
-    (text (first a)) (sym (first-told d.before.before) ∙ d.if-is_read.false) (sym (second-told f) ∙ a.if-is_read-2.false)
+    (text (first a)) (sym (first-told d.before.before.before) ∙ d.if-is_read.false) (sym (second-told f) ∙ a.if-is_read-2.false)
 
 pub read_number_spec : {M : Type 1} → statement M
 read_number_spec =

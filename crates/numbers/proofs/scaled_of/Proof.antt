@@ -8,6 +8,7 @@ use borrow.Author.Rules.{rules}
 use lib.Seq.{take_all}
 use lib.ListN.{length}
 use lib.IntN.{ℤ, pos, ◌+ℤ◌, ◌-ℤ◌}
+use mir.Syntax.{w64}
 use mir.Facts.{to_z-of_z}
 use Rattle.text.specs.Text.{size, text_of}
 use Rattle.text.specs.Trim.{trim_start, trim_end}
@@ -68,7 +69,7 @@ returns-2 c =
     let exponent = signed_of a.negative a.e in
     let at : List ℕ → List ℕ → ℤ = λ r s. exponent -ℤ pos a.places +ℤ pos (length r - length s) in
     let power =
-    to_z-of_z (record { sfits = c.power-p.type-inv }) ∙ c.power-p.ensures ∙ ap₂ at f.trim_start-rest.ensures (cut f) in
+    to_z-of_z {w = w64} (record { sfits = c.power-p.type_inv }) ∙ c.power-p.ensures ∙ ap₂ at f.trim_start-rest.ensures (cut f) in
     (λ j. record { value = Float a.minus (Finite (power j)); text = (c.text_of.ensures ∙ ap text_of (all ∙ cut f)) j })
     ∙ scaled-some a.minus (text f) a.places exponent (λ e. c.if-significant-eq0.false (ap length (cut f) ∙ e))
 

@@ -36,7 +36,7 @@ loop-less c = search rules
 
 loop-again : tie.Need-loop-i-preserved invariant-loop decreases-loop
 loop-again c =
-    let at-loop = c.before.before.before.before in
+    let at-loop = c in
     let args = at-loop.args in
     let s = args.s.now in
     let i = at-loop.loop-i.i in
@@ -52,7 +52,7 @@ loop-again c =
 
 returns : tie.Need-returns invariant-loop decreases-loop
 returns c =
-    let at-loop = c.before in
+    let at-loop = c in
     value-end _ _ _ _ c.loop-i-test.false at-loop.loop-i.invariant.1 ∙ at-loop.loop-i.invariant.2
 
 pub value_up_to_spec : {M : Type 1} → statement M

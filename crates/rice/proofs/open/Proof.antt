@@ -67,7 +67,7 @@ returns-2 c =
     let s = c.before.before.before in
     open_at _ _ _ _ _ (plan s.before) _ _ (ap (λ (n : ℕ). n * 8) s.start_bytes-n.ensures)
     c.if-n-tile.true
-    (to_z-of_z {w = w32} (record { sfits = c.pixel-last.type-inv }) ∙ c.pixel-last.ensures
+    (to_z-of_z {w = w32} (record { sfits = c.pixel-last.type_inv }) ∙ c.pixel-last.ensures
     ∙ ap (pixel_of s.in-Of.width) c.field.ensures)
 
 fault-of-requires-2 : tie.Need-fault_of-requires-else-n-tile

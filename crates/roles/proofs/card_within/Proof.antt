@@ -41,8 +41,8 @@ read-card-requires c κs = search rules
 
 returns : tie.Need-returns
 returns c =
-    let put = c.before.before.before in
-    let start = put.before.before.before.before in
+    let put = c in
+    let start = put in
     let h = start.args.header.now in
     let at = start.args.i * 80 in
     let part : length (take 80 (drop at h)) ≡ 80 = omega (arith, length-take 80 (drop at h), length-drop at h, start.requires) in

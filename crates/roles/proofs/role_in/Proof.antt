@@ -43,12 +43,12 @@ enum-told-7 c = search rules
 
 returns : tie.Need-returns-in-Value
 returns c =
-    let at = c.before in
+    let at = c in
     ap (Entry at.in-Value.v) c.is_string.ensures ∙ sym (ap (λ (k : Card). role_by (Read k)) at.in-Value.is)
 
 returns-2 : tie.Need-returns-in-Hierarch
 returns-2 c =
-    let at = c.before in
+    let at = c in
     ap (Entry at.in-Hierarch.v) c.is_string-in-Hierarch.ensures ∙ sym (ap (λ (k : Card). role_by (Read k)) at.in-Hierarch.is)
 
 returns-3 : tie.Need-returns-in-Xtension

@@ -29,8 +29,8 @@ add-result c = search rules
 
 returns : tie.Need-returns-then-s-i-eq-QUOTE invariant-loop decreases-loop
 returns c =
-    let test = c.before.before in
-    let at = test.before in
+    let test = c in
+    let at = test in
     record {
       q = Closed;
       passed =
@@ -47,15 +47,15 @@ loop-less c = search rules
 
 loop-again : tie.Need-loop-i-preserved invariant-loop decreases-loop
 loop-again c =
-    let test = c.before.before in
-    let at = test.before in (
+    let test = c in
+    let at = test in (
       passed at.loop-i.invariant.0 test.loop-i-test.true at.requires.1 Inside (inside-other c.if-s-i-eq-QUOTE.false Inside refl),
       omega (arith, at.loop-i.invariant.1),
     )
 
 returns-2 : tie.Need-returns invariant-loop decreases-loop
 returns-2 c =
-    let at = c.before in
+    let at = c in
     record {
       q = Inside;
       passed = at.loop-i.invariant.0;

@@ -30,13 +30,13 @@ text c = (start c).args.s.now
 known : (c : tie.After-stretch_of) (x : Stretch) → c.stretch_of.result ≡ x → Stretches x (text c)
 known c x e = subst (λ (y : Stretch). Stretches y (text c)) e c.stretch_of.ensures
 
-abbrev place : tie.In-UpTo-2 → ℕ
+abbrev place : tie.In-UpTo → ℕ
 place c = c.in-UpTo.i
 
-abbrev at : tie.In-UpTo-2 → tie.After-stretch_of
+abbrev at : tie.In-UpTo → tie.After-stretch_of
 at c = c.before
 
-up_to : (c : tie.In-UpTo-2) → Stretches (UpTo (place c)) (text (at c))
+up_to : (c : tie.In-UpTo) → Stretches (UpTo (place c)) (text (at c))
 up_to c = known (at c) (UpTo (place c)) c.in-UpTo.is
 
 stretch-of-requires : tie.Need-stretch_of-requires
@@ -56,7 +56,7 @@ trimmed-requires c κs = search rules
 text-of-requires : tie.Need-text_of-requires
 text-of-requires c κs = search rules
 
-abbrev from-text : tie.After-text_of → tie.In-UpTo-2
+abbrev from-text : tie.After-text_of → tie.In-UpTo
 from-text c = c.before.before
 
 add-comment-of : tie.Need-overflow_add-i
@@ -116,10 +116,10 @@ returns c =
 
 returns-2 : tie.Need-returns-in-All
 returns-2 c =
-    let stored = c.before in
-    let cutting = stored.before in
-    let told = cutting.before in
-    let made = told.before in
+    let stored = c in
+    let cutting = stored in
+    let told = cutting in
+    let made = told.before.before.before.before in
     let s = text made in
     let value = stored.text_of-in-All.ensures ∙ cut s _ (start made).requires.0 cutting.trimmed-in-All.ensures in
     (λ j. record { answer = Bare; value = value j; comment = c.empty_text.ensures j })

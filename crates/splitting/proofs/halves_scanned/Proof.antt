@@ -34,10 +34,10 @@ found : (c : tie.After-scan-found) → ((scanned c).value.len ≤ length (text c
 found c = scanned_within (text c) (scanned c) c.scan-found.ensures
 
 -- the place after the scan that led to an arm
-abbrev scan-at : tie.In-At-2 → tie.After-scan-found
+abbrev scan-at : tie.In-At → tie.After-scan-found
 scan-at c = c.before.before.before.before
 
-below : (c : tie.In-At-2) → c.in-At.i < length (text (scan-at c))
+below : (c : tie.In-At) → c.in-At.i < length (text (scan-at c))
 below c = subst (Below _) c.in-At.is (found (scan-at c)).1
 
 -- the parts at the place that an arm knows are those of the text
@@ -106,17 +106,17 @@ returns c =
 
 returns-2 : tie.Need-returns-in-Nowhere
 returns-2 c =
-    let empty = c.before in
+    let empty = c in
     (λ j. record { answer = Bare; value = empty.spaces_off-value.ensures j; comment = empty.empty_text-none.ensures j })
-    ∙ by empty.before.before.before Nowhere c.in-Nowhere.is
+    ∙ by empty.before.before.before.before Nowhere c.in-Nowhere.is
 
 returns-3 : tie.Need-returns-in-Bad
 returns-3 c =
-    let place = c.before in
-    let empty = place.before in
+    let place = c in
+    let empty = place in
     let none = empty.empty_text-none.ensures in
     (λ j. record { answer = Refused (c.fault_at.ensures j); value = none j; comment = none j })
-    ∙ by empty.before.before.before (Bad place.in-Bad.i) place.in-Bad.is
+    ∙ by empty.before.before.before.before.before (Bad place.in-Bad.i) place.in-Bad.is
 
 pub halves_scanned_spec : {M : Type 1} → statement M
 halves_scanned_spec =

@@ -1,7 +1,5 @@
 use Prim.Native.Nat.{◌-◌}
-use mathlib.Core.Logic.{⊎_elim}
 use mathlib.Core.Path.{◌≡◌, sym, ap, ap₂, ◌∙◌}
-use borrow.Author.Tests.{not-true, not-false}
 use borrow.Author.Rules.{rules}
 use lib.ListN.{length, get_or}
 use Rattle.splitting.specs.declared.Quoting.TheVariants.{Inside}
@@ -11,6 +9,10 @@ use Rattle.text.proofs.Texts.{padded-none}
 use Rattle.splitting.proofs.Scanning.{class_quote, class_slash, class_plain, class_odd, inside-other}
 use Rattle.splitting.proofs.Scanning.{Reached, start, at_end, on_ends, on_refused, on_passes, on_puts}
 use Rattle.splitting.proofs.scan.Statement.{statement}
+use Rattle.splitting.proofs.scan.Lts.{in-Outside+then-b-eq-QUOTE, in-Inside+then-b-eq-QUOTE-2, in-Inside+else-b-eq-QUOTE-2}
+use Rattle.splitting.proofs.scan.Lts.{in-Outside+else-b-eq-QUOTE+else-b-eq-SLASH+else-not-is_printable}
+use Rattle.splitting.proofs.scan.Lts.{in-Closed+else-b-eq-QUOTE-3+else-b-eq-SLASH-2+then-is_printable}
+use Rattle.splitting.proofs.scan.Lts.{in-Closed+else-b-eq-QUOTE-3+else-b-eq-SLASH-2+else-is_printable}
 use Rattle.splitting.proofs.scan.Tie as tie
 
 abbrev invariant-scan : tie.invariant-scan
@@ -45,7 +47,7 @@ scan-less c = search rules
 
 scan-again : tie.Need-scan-preserved-then-b-eq-QUOTE-3 invariant-scan decreases-scan
 scan-again c =
-    let test = c.before.before.before in
+    let test = c in
     let moves = ap₂ move c.in-Closed.is (class_quote c.if-b-eq-QUOTE-3.true) in
     on_passes test.scan.invariant test.scan-test.true Inside moves
 
@@ -72,21 +74,31 @@ put-so : (c : tie.Joined-state invariant-scan decreases-scan)
     → let loop = c.before.before.before in
     move loop.scan.state (byte_class (get_or loop.args.s.now loop.scan.i 0)) ≡ puts c.match-state.state
 put-so c =
-    ⊎_elim (λ w. ap₂ move w.1.given.1 (class_quote w.2.taken) ∙ ap puts (sym w.3))
-    (⊎_elim (λ w. ap₂ move w.1.given.1 (class_plain w.2.left w.3.left (sym w.4.ensures ∙ not-false _ w.5.left))
-    ∙ ap puts (sym (w.6 ∙ w.1.given.1)))
-    (⊎_elim (λ w. ap₂ move w.1.given.1 (class_quote w.2.taken) ∙ ap puts (sym w.3))
-    (⊎_elim (λ w. inside-other w.2.left _ w.1.given.1 ∙ ap puts (sym (w.3 ∙ w.1.given.1)))
-    (⊎_elim (λ w. ap₂ move w.1.given.1 (class_plain w.2.left w.3.left (sym w.4.ensures ∙ w.5.taken))
-    ∙ ap puts (sym w.6))
-    (λ w. ap₂ move w.1.given.1 (class_odd w.2.left w.3.left (sym w.4.ensures ∙ w.5.left))
-    ∙ ap puts (sym (w.6 ∙ w.1.given.1)))))))
-    c.match-state.branch
+    elim c.match-state.branch [
+      | in-Outside+then-b-eq-QUOTE w ↦
+        ap₂ move w.in-Outside.is (class_quote w.if-b-eq-QUOTE.true) ∙ ap puts (sym w.state-is)
+      | in-Outside+else-b-eq-QUOTE+else-b-eq-SLASH+else-not-is_printable w ↦
+        ap₂ move w.in-Outside.is
+        (class_plain w.if-b-eq-QUOTE.false w.if-b-eq-SLASH.false (sym w.is_printable.ensures ∙ w.if-not-is_printable.false))
+        ∙ ap puts (sym (w.state-is ∙ w.in-Outside.is))
+      | in-Inside+then-b-eq-QUOTE-2 w ↦
+        ap₂ move w.in-Inside.is (class_quote w.if-b-eq-QUOTE-2.true) ∙ ap puts (sym w.state-is)
+      | in-Inside+else-b-eq-QUOTE-2 w ↦
+        inside-other w.if-b-eq-QUOTE-2.false _ w.in-Inside.is ∙ ap puts (sym (w.state-is ∙ w.in-Inside.is))
+      | in-Closed+else-b-eq-QUOTE-3+else-b-eq-SLASH-2+then-is_printable w ↦
+        ap₂ move w.in-Closed.is
+        (class_plain w.if-b-eq-QUOTE-3.false w.if-b-eq-SLASH-2.false (sym w.is_printable-in-Closed.ensures ∙ w.if-is_printable.true))
+        ∙ ap puts (sym w.state-is)
+      | in-Closed+else-b-eq-QUOTE-3+else-b-eq-SLASH-2+else-is_printable w ↦
+        ap₂ move w.in-Closed.is
+        (class_odd w.if-b-eq-QUOTE-3.false w.if-b-eq-SLASH-2.false (sym w.is_printable-in-Closed.ensures ∙ w.if-is_printable.false))
+        ∙ ap puts (sym (w.state-is ∙ w.in-Closed.is))
+    ]
 
 scan-again-2 : tie.Need-scan-preserved invariant-scan decreases-scan
 scan-again-2 c =
-    let test = c.before.before.before in
-    let loop = test.before in
+    let test = c in
+    let loop = test in
     on_puts loop.scan.invariant test.scan-test.true c.match-state.state c.replaced.result loop.requires
     (put-so c.before) c.replaced.ensures
 
@@ -95,24 +107,24 @@ returns c = at_end c.scan.invariant c.scan-test.false
 
 returns-2 : tie.Need-returns-then-b-eq-SLASH invariant-scan decreases-scan
 returns-2 c =
-    let told = c.before.before in
-    let test = told.before.before in
+    let told = c in
+    let test = told in
     let moves = ap₂ move told.in-Outside.is (class_slash c.if-b-eq-QUOTE.false c.if-b-eq-SLASH.true) in
     on_ends test.scan.invariant test.scan-test.true moves
 
 returns-3 : tie.Need-returns-then-not-is_printable invariant-scan decreases-scan
 returns-3 c =
-    let slash = c.before.before in
-    let told = slash.before.before in
-    let test = told.before.before in
-    let refuses = sym c.is_printable.ensures ∙ not-true _ c.if-not-is_printable.true in
+    let slash = c in
+    let told = slash in
+    let test = told in
+    let refuses = sym c.is_printable.ensures ∙ c.if-not-is_printable.true in
     let odd = class_odd slash.if-b-eq-QUOTE.false slash.if-b-eq-SLASH.false refuses in
     on_refused test.scan.invariant test.scan-test.true (ap₂ move told.in-Outside.is odd)
 
 returns-4 : tie.Need-returns-then-b-eq-SLASH-2 invariant-scan decreases-scan
 returns-4 c =
-    let told = c.before.before in
-    let test = told.before.before in
+    let told = c in
+    let test = told in
     let moves = ap₂ move told.in-Closed.is (class_slash c.if-b-eq-QUOTE-3.false c.if-b-eq-SLASH-2.true) in
     on_ends test.scan.invariant test.scan-test.true moves
 

@@ -39,7 +39,7 @@ text-of-requires c κs = search rules
 
 returns-2 : tie.Need-returns-then-t-eq0
 returns-2 c =
-    let cut = c.before.before.before in
+    let cut = c.before.before.before.before in
     let none = empty cut.trim_end-t.result.now c.if-t-eq0.true in
     c.text_of.ensures ∙ ap text_of (sym (all_of cut ∙ ap or_space none))
 

@@ -25,7 +25,7 @@ text-of-requires c κs = search rules
 
 returns : tie.Need-returns
 returns c =
-    let at_first = c.before.before in
+    let at_first = c in
     let t = at_first.args.t in
     let long : length t.bytes ≡ size = search rules in
     let cut = c.trimmed in

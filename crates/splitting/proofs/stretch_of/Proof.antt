@@ -30,7 +30,7 @@ abbrev text : tie.At-bytes invariant-bytes decreases-bytes → List ℕ
 text c = c.args.s.now
 
 all : (c : tie.At-bytes invariant-bytes decreases-bytes) → are_printable (text c) ≡ true
-all c = sym c.are_printable.ensures ∙ not-false _ c.if-not-are_printable.false
+all c = sym c.are_printable.ensures ∙ c.if-not-are_printable.false
 
 -- a slash is no quote
 slash-alone : (b : ℕ) → b ≡ code "/" → byte_class b ≡ slash
@@ -69,7 +69,7 @@ shared-slice-read-b c = search rules
 
 returns-2 : tie.Need-returns-then-b-eq-SLASH invariant-bytes decreases-bytes
 returns-2 c =
-    let test = c.before.before in
+    let test = c in
     let more = test.bytes-test.true in
     (more, at_slash test.bytes.invariant more (ap (move Outside) (slash-alone _ c.if-b-eq-SLASH.true)))
 
@@ -98,7 +98,7 @@ add-i c = search rules
 
 bytes-less : tie.Need-bytes-smaller-then-b-eq-QUOTE invariant-bytes decreases-bytes
 bytes-less c =
-    let end = c.before.before.before in
+    let end = c in
     omega (arith, end.behind_string-end.ensures.further, end.if-s-end.false)
 
 bytes-again : tie.Need-bytes-preserved-then-b-eq-QUOTE invariant-bytes decreases-bytes
@@ -116,8 +116,8 @@ bytes-less-2 c = search rules
 
 bytes-again-2 : tie.Need-bytes-preserved invariant-bytes decreases-bytes
 bytes-again-2 c =
-    let test = c.before.before.before in
-    let at = test.before in
+    let test = c in
+    let at = test.before.before.before.before in
     let more = test.bytes-test.true in
     let plain = class_plain c.if-b-eq-QUOTE.false c.if-b-eq-SLASH.false (printable_at (text at) at.bytes.i more (all at)) in
     passed at.bytes.invariant more (all at) Outside (ap (move Outside) plain)

@@ -39,7 +39,7 @@ refused-requires c κs = search rules
 
 returns-2 : tie.Need-returns-then-n-eq1
 returns-2 c =
-    let quote = c.before.before.before in
+    let quote = c in
     let a = quote.args in
     c.refused.ensures
     ∙ ap string_refused c.fault_at.ensures
@@ -68,8 +68,8 @@ settled-requires c κs = search rules
 
 returns-3 : tie.Need-returns-then-s-n-eq-QUOTE
 returns-3 c =
-    let last = c.before.before in
-    let quote = last.before.before.before in
+    let last = c in
+    let quote = last in
     let a = quote.args in
     ap a-string c.settled.ensures
     ∙ placed a.first a.s.now
@@ -83,8 +83,8 @@ refused-requires-2 c κs = search rules
 
 returns-4 : tie.Need-returns-then-s-eq-QUOTE
 returns-4 c =
-    let last = c.before.before in
-    let quote = last.before.before.before in
+    let last = c in
+    let quote = last in
     let a = quote.args in
     c.refused-then-s-eq-QUOTE.ensures
     ∙ ap string_refused c.fault_at-then-s-eq-QUOTE.ensures
@@ -105,7 +105,7 @@ refused-requires-3 c κs = search rules
 
 returns-5 : tie.Need-returns-then-s-n-eq-QUOTE-2
 returns-5 c =
-    let bare = c.before.before.before.before in
+    let bare = c in
     let a = bare.args in
     c.refused-then-s-n-eq-QUOTE-2.ensures
     ∙ ap string_refused c.fault_at-then-s-n-eq-QUOTE-2.ensures
@@ -117,7 +117,7 @@ settled-requires-2 c κs = search rules
 
 returns-6 : tie.Need-returns
 returns-6 c =
-    let bare = c.before.before.before in
+    let bare = c in
     let a = bare.args in
     ap a-string c.settled-2.ensures
     ∙ placed a.first a.s.now (plain_text_lem a.s.now bare.if-n-eq0.false bare.if-s-eq-QUOTE.false c.if-s-n-eq-QUOTE-2.false)

@@ -15,7 +15,7 @@ read-as-requires c κs = search rules
 returns : tie.Need-returns
 unfolding of_number
 returns c =
-    let at-number = c.before.before in
+    let at-number = c in
     let a = at-number.args in
     c.read_as.ensures
     ∙ ap (λ (r : Number). value_as r.value r.text a.commented a.comment) at-number.parse_number-number.ensures

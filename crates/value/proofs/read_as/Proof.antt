@@ -20,7 +20,7 @@ empty-text-requires c κs = search rules
 
 returns-2 : tie.Need-returns
 returns-2 c =
-    let test = c.before.before in
+    let test = c in
     let a = test.args in
     (λ j. record { answer = Read a.value; text = a.text; commented = false; comment = c.empty_text.ensures j })
     ∙ comment_dropped a.value a.text a.commented a.comment (sym test.keeps_comment.ensures ∙ c.if-keeps_comment.false)

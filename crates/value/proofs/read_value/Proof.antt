@@ -81,20 +81,20 @@ refused-requires c κs = search rules
 
 returns : tie.Need-returns-in-Bare
 returns c =
-    let told = c.before in
-    let split = told.before in
+    let told = c in
+    let split = told.before.before in
     c.value_with.ensures ∙ raw-is split Bare ∙ by split Bare told.in-Bare.is
 
 returns-2 : tie.Need-returns-in-Commented
 returns-2 c =
-    let told = c.before in
-    let split = told.before in
+    let told = c in
+    let split = told.before.before in
     c.value_with-in-Commented.ensures ∙ raw-is split Commented ∙ by split Commented told.in-Commented.is
 
 returns-3 : tie.Need-returns-in-Refused
 returns-3 c =
-    let told = c.before in
-    c.refused.ensures ∙ by told.before (Refused told.in-Refused.fault) told.in-Refused.is
+    let told = c in
+    c.refused.ensures ∙ by told.before.before (Refused told.in-Refused.fault) told.in-Refused.is
 
 pub read_value_spec : {M : Type 1} → statement M
 read_value_spec =

@@ -16,7 +16,7 @@ returns-3 c = start_false c.if-b-eq39.false c.if-b-eq84.false c.if-b-eq70.true
 
 returns-4 : tie.Need-returns-then-b-eq40
 returns-4 c =
-    let second = c.before.before in
+    let second = c in
     start_complex second.if-b-eq39.false second.if-b-eq84.false c.if-b-eq70.false c.if-b-eq40.true
 
 starts-number-requires : tie.Need-starts_number-requires
@@ -24,15 +24,15 @@ starts-number-requires c κs = search rules
 
 returns-5 : tie.Need-returns-then-starts_number
 returns-5 c =
-    let last = c.before.before in
-    let second = last.before.before in
+    let last = c in
+    let second = last in
     start-number second.if-b-eq39.false second.if-b-eq84.false last.if-b-eq70.false last.if-b-eq40.false
     (sym c.starts_number.ensures ∙ c.if-starts_number.true)
 
 returns-6 : tie.Need-returns
 returns-6 c =
-    let last = c.before.before in
-    let second = last.before.before in
+    let last = c in
+    let second = last in
     start_else second.if-b-eq39.false second.if-b-eq84.false last.if-b-eq70.false last.if-b-eq40.false
     (sym c.starts_number.ensures ∙ c.if-starts_number.false)
 

@@ -19,7 +19,7 @@ is-digit-requires c κs = search rules
 
 returns-4 : tie.Need-returns
 returns-4 c =
-    let third = c.before in
+    let third = c in
     c.is_digit.ensures ∙ digit_starts third.if-b-eq43.false third.if-b-eq45.false third.if-b-eq46.false
 
 pub starts_number_spec : {M : Type 1} → statement M

@@ -45,8 +45,8 @@ returns c = c.read_as.ensures ∙ by c.before.before.before Str c.in-Str.is
 
 returns-2 : tie.Need-returns-in-Refused
 returns-2 c =
-    let answer = c.before in
-    c.refused.ensures ∙ by answer.before.before (Refused answer.in-Refused.fault) answer.in-Refused.is
+    let answer = c in
+    c.refused.ensures ∙ by answer.before.before.before (Refused answer.in-Refused.fault) answer.in-Refused.is
 
 pub string_value_spec : {M : Type 1} → statement M
 string_value_spec =

@@ -25,7 +25,7 @@ found c = c.find_byte.ensures ∙ ap (place_of (code "]")) (take_rest (comment c
 -- the place that an arm knows gives the unit
 by : (c : tie.After-find_byte) (p : Place) → c.find_byte.result ≡ p → unit_of (comment c) ≡ closed_at p
 by c p e =
-    let bracket = c.before.before in
+    let bracket = c in
     unit_some (comment c) bracket.if-comment-eq0.false bracket.if-comment-ne91.false ∙ ap closed_at (sym (found c) ∙ e)
 
 returns : tie.Need-returns-then-comment-eq0
@@ -64,8 +64,7 @@ add-t3 : tie.Need-overflow_add-result
 add-t3 c =
     let find = c.before in
     let s = comment find in
-    let place = c.in-At.i.given in
-    omega (arith, found_within (code "]") (drop 1 s) place.0.0 (sym (found find) ∙ place.1), length-drop 1 s)
+    omega (arith, found_within (code "]") (drop 1 s) c.in-At.i (sym (found find) ∙ c.in-At.is), length-drop 1 s)
 
 returns-4 : tie.Need-returns
 returns-4 c = sym (by c.before (At c.in-At.i) c.in-At.is)

@@ -22,12 +22,12 @@ behind c = c.unit-2.ensures ∙ ap unit_of (take_rest (comment c) 1)
 -- the unit behind the space, as an arm knows it, gives the comment's
 by : (c : tie.After-unit-2) (p : UnitPlace) → c.unit-2.result ≡ p → behind_one p ≡ unit_past_space (comment c)
 by c p e =
-    let space = c.before.before in
+    let space = c in
     ap behind_one (sym e ∙ behind c) ∙ sym (past_some (comment c) space.if-comment-eq0.false space.if-comment-ne32.false)
 
 -- the unit that an arm knows starts and ends within the comment
-within : (c : tie.In-Between) → let place = c.in-Between.from.given.0 in
-    (place.0 ≤ place.1.0) × (place.1.0 < length (comment c.before))
+within : (c : tie.In-Between) → 
+    (c.in-Between.from ≤ c.in-Between.to) × (c.in-Between.to < length (comment c.before))
 within c =
     let s = comment c.before in
     let told = unit_within (drop 1 s) _ _ (sym (behind c.before) ∙ c.in-Between.is) in
@@ -44,7 +44,7 @@ unit-requires c κs = search rules
 
 returns-2 : tie.Need-returns-then-comment-ne32
 returns-2 c =
-    let first = c.before.before in
+    let first = c in
     let s = first.args.comment.now in
     c.unit.ensures ∙ sym (past_none s first.if-comment-eq0.false c.if-comment-ne32.true)
 
@@ -77,8 +77,7 @@ add-t12 c = omega (arith, within c)
 
 returns-4 : tie.Need-returns
 returns-4 c =
-    let place = c.in-Between.from.given in
-    by c.before (Between place.0.0 place.0.1.0) place.1
+    by c.before (Between c.in-Between.from c.in-Between.to) c.in-Between.is
 
 pub unit_past_space_spec : {M : Type 1} → statement M
 unit_past_space_spec =

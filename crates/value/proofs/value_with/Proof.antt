@@ -39,7 +39,7 @@ read-as-requires c κs = search rules
 
 returns : tie.Need-returns-then-n-eq0
 returns c =
-    let empty = c.before.before in
+    let empty = c in
     let a = empty.args in
     c.read_as.ensures
     ∙ ap (λ (t : Text). value_as Undefined t a.commented a.comment) empty.empty_text-none.ensures
@@ -92,8 +92,8 @@ returns-2 c = c.string_value.ensures ∙ chosen c.before.before Quote c.in-Quote
 
 returns-3 : tie.Need-returns-in-Truth
 returns-3 c =
-    let at-t = c.before in
-    let start = at-t.before in
+    let at-t = c in
+    let start = at-t.before.before in
     let a = (began start).args in
     let truth = at-t.in-Truth.t in
     c.read_as-in-Truth.ensures
@@ -106,15 +106,15 @@ returns-4 c = c.number_value.ensures ∙ chosen c.before.before Number c.in-Numb
 
 returns-5 : tie.Need-returns-in-Complex
 returns-5 c =
-    let told = c.before.before in
+    let told = c in
     c.refused.ensures
     ∙ ap value_refused c.fault_at.ensures
-    ∙ chosen told.before Complex told.in-Complex.is
+    ∙ chosen told.before.before.before Complex told.in-Complex.is
 
 returns-6 : tie.Need-returns-in-Else
 returns-6 c =
-    let told = c.before.before in
-    let start = told.before in
+    let told = c in
+    let start = told.before.before.before in
     let a = (began start).args in
     let raw = c.text_of.ensures ∙ whole-text a.raw.now (began start).requires.1 in
     c.read_as-in-Else.ensures

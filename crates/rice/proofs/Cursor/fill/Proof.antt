@@ -99,7 +99,7 @@ returns-2 c =
     let came = whole k in
     let end = k.in-To.at.bit in
     let all = coded_as a.width a.code a.tile.now a.self a.part.now l.level_of.result _ (level-is l) came.0 in
-    let last = to_z-of_z {w = w32} (record { sfits = c.pixel_by.type-inv }) ∙ c.pixel_by.ensures in (
+    let last = to_z-of_z {w = w32} (record { sfits = c.pixel_by.type_inv }) ∙ c.pixel_by.ensures in (
       ap₂ (λ (n : ℕ) (z : ℤ). Next (record { bit = end; done = a.self.done + n; last = z })) came.2 last
           ∙ sym (ap (λ (o : StepOutcome). o.answer) all),
       sym (ap (λ (o : StepOutcome). o.content) all),

@@ -109,7 +109,7 @@ returns : tie.Need-returns invariant-ones decreases-ones
 returns c =
     let l = c.before.before in
     onto-end (start l.before).args.self l.level_of-level.result (first l.before) l.ones.invariant _
-    (to_z-of_z {w = w32} (record { sfits = c.pixel_by.type-inv }) ∙ c.pixel_by.ensures)
+    (to_z-of_z {w = w32} (record { sfits = c.pixel_by.type_inv }) ∙ c.pixel_by.ensures)
 
 pub ones_spec : {M : Type 1} → statement M
 ones_spec =

@@ -239,7 +239,7 @@ returns : tie.Need-returns invariant-raws decreases-raws
 returns c =
     let l = c.before.before in
     onto-end (start l.before).args.self l.level_of-level.result (first l.before) l.raws.invariant _
-    (to_z-of_z {w = w32} (record { sfits = c.pixel_by.type-inv }) ∙ c.pixel_by.ensures)
+    (to_z-of_z {w = w32} (record { sfits = c.pixel_by.type_inv }) ∙ c.pixel_by.ensures)
 
 pub raws_spec : {M : Type 1} → statement M
 raws_spec =

@@ -218,7 +218,7 @@ returns : tie.Need-returns invariant-splits decreases-splits
 returns c =
     let a = c.before.before.before in
     onto-end (start a).args.self a.level_of-level.result (first a) (onto-left c.before) _
-    (to_z-of_z {w = w32} (record { sfits = c.pixel_by.type-inv }) ∙ c.pixel_by.ensures)
+    (to_z-of_z {w = w32} (record { sfits = c.pixel_by.type_inv }) ∙ c.pixel_by.ensures)
 
 pub splits_spec : {M : Type 1} → statement M
 splits_spec =

@@ -30,7 +30,7 @@ returns c =
     let m = c.before in
     let n = m.before in
     let a = n.args in
-    to_z-of_z {w = w32} (record { sfits = c.pixel_by.type-inv }) ∙ c.pixel_by.ensures
+    to_z-of_z {w = w32} (record { sfits = c.pixel_by.type_inv }) ∙ c.pixel_by.ensures
     ∙ ap (raised a.self) (and_width a.self (a.v + n.negatives-below.result) _ m.mask.ensures)
     ∙ turned_raised a.self _ n.negatives-below.ensures a.v n.requires
 

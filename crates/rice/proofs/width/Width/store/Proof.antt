@@ -28,7 +28,7 @@ returns c =
     let n = c.before in
     let a = n.args in (
       n.next_by-next.ensures,
-      ap (λ (z : ℤ). set a.part.now a.i z) (to_z-of_z {w = w32} (record { sfits = c.pixel_by-pixel.type-inv }) ∙ c.pixel_by-pixel.ensures),
+      ap (λ (z : ℤ). set a.part.now a.i z) (to_z-of_z {w = w32} (record { sfits = c.pixel_by-pixel.type_inv }) ∙ c.pixel_by-pixel.ensures),
     )
 
 pub store_spec : {M : Type 1} → statement M
