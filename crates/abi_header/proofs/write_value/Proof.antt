@@ -122,7 +122,7 @@ returns-3 c =
     (record {
       said = refl;
       in_digits = copied.put_at.ensures ∙ sets_all a.read.digits.bytes a.digits.now (long copied.before.before.before.before);
-      in_numbers = put.put_numbers.ensures ∙ numbered.Numbers-of.ensures ∙ ap (λ (t : Told). numbers_of t a.read) same;
+      in_numbers = put.put_numbers.ensures ∙ numbered.numbers_of-numbers.ensures ∙ ap (λ (t : Told). numbers_of t a.read) same;
       in_number = number_fits told ∙ ap (λ (t : Told). t.number) same;
       in_column = refl;
     })
