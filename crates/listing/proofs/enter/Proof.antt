@@ -23,7 +23,7 @@ module _ (c : tie.After-put_key) where
   name = bytes_of (start c).args.text
 
   abbrev keys₁ : List ℕ
-  keys₁ = c.put_key.new.1.0
+  keys₁ = c.put_key.new.keys
 
   ready : let a = (start c).args in Ready a.count a.first.now a.last.now a.times.now a.keys.now a.order.now
   ready = (start c).requires
@@ -51,10 +51,10 @@ module _ (c : tie.Then1) where
   put = storing c.before
 
   abbrev place : ℕ
-  place = get_or (start put).args.order.now c.before.count-before.result 0
+  place = get_or (start put).args.order.now c.before.count_before-at.result 0
 
   below : place < (start put).args.count
-  below = (ordered put).within c.before.count-before.result c.if1.true
+  below = (ordered put).within c.before.count_before-at.result c.if1.true
 
 slice-aggregate-first-of : tie.Need-slice_bounds-first_of-end
 slice-aggregate-first-of c = search rules
