@@ -52,10 +52,10 @@ first-within : (s : tie.Start) → s.args.k < length s.args.first.now
 first-within s = let l = s.requires.0 in within s l.first-cards (first-long s.args.header.now l.end l.accepted)
 
 last_within : (s : tie.Start) → s.args.k < length s.args.last.now
-last_within s = let l = s.requires.0 in within s l.last-entries (naming.last-long s.args.header.now l.end l.accepted)
+last_within s = let l = s.requires.0 in within s l.last_entries (naming.last-long s.args.header.now l.end l.accepted)
 
 times-within : (s : tie.Start) → s.args.k < length s.args.times.now
-times-within s = let l = s.requires.0 in within s l.how-often (naming.times_long s.args.header.now l.end l.accepted)
+times-within s = let l = s.requires.0 in within s l.how_often (naming.times_long s.args.header.now l.end l.accepted)
 
 -- what was read of it
 abbrev card : tie.After-value_at-looked → tie.After-card_at-card
@@ -76,8 +76,8 @@ read_is c =
     let l = s.pre.0 in
     c.value_at-looked.ensures
     ∙ ap (λ (i : ℕ). value_numbered a.header.now i a.text.now)
-    (at_within a.last.now a.k 0 free (last_within s) ∙ ap (λ (x : List ℕ). get_or x a.k free) l.last-entries)
-    ∙ naming.read_whole a.header.now l.end l.accepted a.k s.pre.1 a.text.now s.pre.2.for-text
+    (at_within a.last.now a.k 0 free (last_within s) ∙ ap (λ (x : List ℕ). get_or x a.k free) l.last_entries)
+    ∙ naming.read_whole a.header.now l.end l.accepted a.k s.pre.1 a.text.now s.pre.2.for_text
 
 looked-is : (c : tie.After-value_at-looked) → c.value_at-looked.result ≡ half_of (value (start (card c)))
 looked-is c = ap (λ (o : ValueOutcome). o.answer) (read_is c)
@@ -159,12 +159,12 @@ returns-2 c =
     let digits : bytes_of looked.value_at-looked.result.digits ≡ v.digits =
     ap (λ (r : ValueHalf). bytes_of r.digits) (looked-is looked) ∙ bytes-text v.digits in
     let fits : length t ≤ length a.text.now =
-    omega (arith, naming.text-fits a.header.now l.end l.accepted a.k s.pre.1, s.pre.2.for-text) in
+    omega (arith, naming.text-fits a.header.now l.end l.accepted a.k s.pre.1, s.pre.2.for_text) in
     let words : shown.first_of-shown.result.now ≡ t =
     shown.first_of-shown.ensures
     ∙ ap (λ (o : ValueOutcome). take o.answer.text o.text) (read_is looked)
     ∙ front t a.text.now fits in
-    let times = ap (λ (x : List ℕ). get_or x a.k 0) l.how-often
+    let times = ap (λ (x : List ℕ). get_or x a.k 0) l.how_often
     ∙ naming.number_is a.header.now l.end l.accepted a.k s.pre.1 in
     let line : entry_line (bytes_of (card looked).card_at-card.result.name) _ (bytes_of looked.value_at-looked.result.digits)
     shown.first_of-shown.result.now (get_or a.times.now a.k 0)
@@ -178,7 +178,7 @@ returns-2 c =
       ap length words,
       naming.text-fits a.header.now l.end l.accepted a.k
           s.pre.1,
-      s.pre.2.for-line,
+      s.pre.2.for_line,
     )))
 
 pub name_part_spec : {M : Type 1} → statement M
