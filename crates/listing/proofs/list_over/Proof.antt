@@ -237,11 +237,11 @@ loop-again c =
     → course_of (told co) ≡ On false = λ e. sym co.course_of.ensures ∙ course false e in
     elim c.if-entry.branch [
       | then-entry w ↦
-        standing_as w.first-is w.last-is w.times-is w.keys-is w.order-is w.count-is
-        (on_entry_lem S (more co) (own co (course true w.if-entry.true)) w.enter-count.ensures)
+          standing_as w.first-is w.last-is w.times-is w.keys-is w.order-is w.count-is
+          (on_entry_lem S (more co) (own co (course true w.if-entry.true)) w.enter-count.ensures)
       | else-entry w ↦
-        standing_as w.first-is w.last-is w.times-is w.keys-is w.order-is w.count-is
-        (passed S (more co) (read co) (told co) (other w.if-entry.false) (role_so co (told co) refl))
+          standing_as w.first-is w.last-is w.times-is w.keys-is w.order-is w.count-is
+          (passed S (more co) (read co) (told co) (other w.if-entry.false) (role_so co (told co) refl))
     ]
 
 fault-of-requires-2 : tie.Need-fault_of-requires-2 invariant-loop decreases-loop
