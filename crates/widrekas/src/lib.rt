@@ -1,6 +1,7 @@
 // The functions of the C boundary, over slices and numbers, which take anything. The crate widrekas_c exports each under its name to C,
 // where a slice is a pointer and a length.
 #![tactic(auto)]
+
 ghost use Rattle.std.specs.Prelude.{◌≡◌};
 ghost use Rattle.value.specs.Units.{unit_of, unit_past_space};
 ghost use Rattle.abi_value.specs.Telling.{unit_end, UnitLeft};
@@ -28,12 +29,7 @@ pub fn widrekas_version() -> u32
 // Reads a card of 80 bytes into a record of 248 bytes and a number, and answers 0.
 // Otherwise it answers the refusal's number, 1 to 8, with the byte at which the card is refused as the column; or 255 where a slice has
 // another length. All else stays as it is.
-pub fn widrekas_card(
-    card: &[u8],
-    out: &mut [u8],
-    number: &mut i64,
-    column: &mut usize,
-) -> u8
+pub fn widrekas_card(card: &[u8], out: &mut [u8], number: &mut i64, column: &mut usize) -> u8
     ensures { CardLeft card.now (lent_of out) (lent_of number) (lent_of column) result }
 {
     abi_card::read_into(card, out, number, column)

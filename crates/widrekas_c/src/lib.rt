@@ -1,5 +1,6 @@
 // The C exports: each calls the function of its name in the crate widrekas, and says the same of it.
 #![tactic(auto)]
+
 ghost use Rattle.std.specs.Prelude.{◌≡◌};
 ghost use Rattle.value.specs.Units.{unit_of, unit_past_space};
 ghost use Rattle.abi_value.specs.Telling.{unit_end, UnitLeft};
@@ -196,7 +197,9 @@ pub extern "C" fn widrekas_write(
     ensures { WriteLeft (write_of name.now (value_asked kind (is_set flag) number) text.now
         (comment_of (is_set commented) comment.now)) (lent_of block) (lent_of count) result }
 {
-    widrekas::widrekas_write(name, kind, flag, number, text, commented, comment, block, count)
+    widrekas::widrekas_write(
+        name, kind, flag, number, text, commented, comment, block, count,
+    )
 }
 
 // ---- tiles
