@@ -2,10 +2,14 @@
 // and reading, and their count. The command ./cards gives it arguments: how lines are shown, and then files. It reads the header with
 // which each file begins, tells on standard error why one is refused, and says on descriptor 3 as its last act how all of it went.
 #![tactic(auto)]
+
 use finding::{Header, Stop};
-use libc::{STDERR_FILENO, STDIN_FILENO, STDOUT_FILENO};
 use output::Printed;
 use refusal::{Column, Refusal};
+use std::env::{Env, FillError};
+use std::fs::{File, OpenOptions};
+use std::io::{IsTerminal, Read, Stderr, Stdout, Write};
+use std::{fmt, io};
 
 // How it went, as the digit of the command's exit status: each header was read and written; one was refused; a file could not be read;
 // standard output could not be written.
@@ -17,8 +21,8 @@ const UNREADABLE: u8 = b'3';
 
 const UNWRITTEN: u8 = b'4';
 
-// Where that is said.
-const SAYS: i32 = 3;
+// Where that is said: descriptor 3.
+const SAYS: &str = "/dev/fd/3";
 
 // The first argument says how lines are shown; files follow.
 const SHOWN: usize = 1;
@@ -29,6 +33,11 @@ const FILES: usize = 2;
 const CARD: usize = 80;
 
 const LONGEST: usize = 57600;
+
+// What the system says of a name that is too long, and of one that is no text.
+const ENAMETOOLONG: i32 = 36;
+
+const EILSEQ: i32 = 84;
 
 // What the program is asked for: a header on standard input, bare; or files, of which there may be several, with lines made visible or not.
 #[derive(Clone, Copy)]
@@ -45,52 +54,93 @@ pub enum Got {
     Failed,
 }
 
-fn main() {
+// Standard output, and the last error of a write to it.
+#[derive(Clone, Copy, Drop)]
+struct Paper {
+    to: Stdout,
+    error: io::Error,
+}
+
+impl Write for Paper {
+    fn write(&mut self, buf: &[u8]) -> io::Result<usize> {
+        match self.to.write(buf) {
+            Ok(n) => Ok(n),
+            Err(e) => {
+                self.error = e;
+                Err(e)
+            }
+        }
+    }
+
+    fn flush(&mut self) -> io::Result<()> {
+        self.to.flush()
+    }
+}
+
+fn main(rt: HostRuntime) {
     // One byte more than the longest header, so that a longer one is seen to be longer.
     let mut buffer = [0u8; 57601];
-    let count = os::arg_count();
-    let asked = asked_for(count);
+    let mut paper = Paper {
+        to: rt.stdout(),
+        error: io::Error::from_raw_os_error(0),
+    };
+    let count = arg_count(&rt);
+    let asked = asked_for(&rt, count);
     let end = inputs_end(count);
     let mut worst = READ;
-    let mut i = FILES;
-    while i < end {
-        worst = larger(worst, print_input(i, asked, &mut buffer));
+    for i in FILES..end {
+        worst = larger(worst, print_input(&rt, &mut paper, i, asked, &mut buffer));
         if worst == UNWRITTEN {
             break;
         }
-        i += 1;
     }
     if !asked.bare {
-        output::write(SAYS, &[worst]);
+        say(&rt, worst);
     }
+}
+
+// Says on descriptor 3 how it went.
+fn say(rt: &HostRuntime, how: u8) {
+    let mut options = OpenOptions::new();
+    options.write(true);
+    let Ok(mut file) = options.open(rt, SAYS) else {
+        return;
+    };
+    let _ = file.write_all(&[how]);
 }
 
 // ---- one file
 
 // Prints the lines of an input, behind its name where there are several, and says how that went. A path is fetched where it is used: it
 // takes no room beside the buffers of printing.
-fn print_input(i: usize, asked: Asked, buffer: &mut [u8]) -> u8 {
-    let Got::Bytes(n) = read_input(i, asked.bare, buffer) else {
+fn print_input(
+    rt: &HostRuntime,
+    paper: &mut Paper,
+    i: usize,
+    asked: Asked,
+    buffer: &mut [u8],
+) -> u8 {
+    let Got::Bytes(n) = read_input(rt, i, asked.bare, buffer) else {
         return UNREADABLE;
     };
     if asked.several {
-        if !print_name(i, asked.escaped) {
-            return unwritten();
+        if !print_name(rt, paper, i, asked.escaped) {
+            return unwritten(rt, paper.error);
         }
     }
     let header = text::first_of(buffer, taken(n, asked.bare));
-    let report = printing::print_header(header, asked.escaped);
+    let report = printing::print_header(paper, header, asked.escaped);
     let printed = report.printed;
     let Printed::Whole(_) = printed else {
-        return unwritten();
+        return unwritten(rt, paper.error);
     };
     let answer = report.header;
     let Header::Refused(stop) = answer else {
         return READ;
     };
     if !asked.bare {
-        tell_input(i);
-        tell_refusal(stop, header, LONGEST < n);
+        tell_input(rt, i);
+        tell_refusal(&mut rt.stderr(), stop, header, LONGEST < n);
     }
     REFUSED
 }
@@ -107,8 +157,10 @@ fn taken(n: usize, bare: bool) -> usize {
 }
 
 // Standard output could not be written: tells why.
-fn unwritten() -> u8 {
-    os::fail(b"cards: standard output cannot be written");
+fn unwritten(rt: &HostRuntime, error: io::Error) -> u8 {
+    let mut told = rt.stderr();
+    tell(&mut told, b"cards: standard output cannot be written: ");
+    tell_error(rt, error);
     UNWRITTEN
 }
 
@@ -119,13 +171,24 @@ fn larger(a: u8, b: u8) -> u8 {
 
 // ---- arguments
 
+// How many arguments there are, the program's name among them.
+fn arg_count(rt: &HostRuntime) -> usize {
+    let mut none = [0u8; 0];
+    for i in 0..usize::MAX {
+        if let Err(FillError::NotPresent) = rt.arg(i, &mut none) {
+            return i;
+        }
+    }
+    usize::MAX
+}
+
 // What is asked for, by the number of arguments, the program's name among them.
-fn asked_for(count: usize) -> Asked {
+fn asked_for(rt: &HostRuntime, count: usize) -> Asked {
     let bare = count <= FILES;
     Asked {
         bare: bare,
         several: FILES + 1 < count,
-        escaped: !bare && is_escaped(),
+        escaped: !bare && is_escaped(rt),
     }
 }
 
@@ -138,75 +201,80 @@ fn inputs_end(count: usize) -> usize {
 }
 
 // Whether lines are made visible: where the first argument says so, and on a terminal.
-fn is_escaped() -> bool {
+fn is_escaped(rt: &HostRuntime) -> bool {
     let mut word = [0u8; 16];
-    let n = os::arg(SHOWN, &mut word);
-    if text::same_bytes(&word[..n], b"escaped") {
-        return true;
+    if let Ok(n) = rt.arg(SHOWN, &mut word) {
+        if text::same_bytes(&word[..n], b"escaped") {
+            return true;
+        }
     }
-    libc::isatty(STDOUT_FILENO) == 1
+    rt.stdout().is_terminal()
 }
 
 // Reads the front of an input: of standard input for a bare header and for a minus sign, of a file otherwise. Tells why where that fails.
-fn read_input(i: usize, bare: bool, buffer: &mut [u8]) -> Got {
+fn read_input(rt: &HostRuntime, i: usize, bare: bool, buffer: &mut [u8]) -> Got {
     let mut path = [0u8; 4096];
-    let n = os::arg(i, &mut path);
-    if !bare && os::errno() != 0 {
-        return unread(&path[..n]);
+    let mut n = 0;
+    if !bare {
+        let Ok(len) = rt.arg(i, &mut path) else {
+            return unread(rt, b"", io::Error::from_raw_os_error(ENAMETOOLONG));
+        };
+        n = len;
     }
-    let fd = open_path(&path[..n], bare);
-    if fd < 0 {
-        return unread(&path[..n]);
+    match front_of(rt, &path[..n], bare, buffer) {
+        Ok(got) => Got::Bytes(got),
+        Err(e) => unread(rt, &path[..n], e),
     }
-    let Got::Bytes(got) = read_front(fd, buffer) else {
-        return unread(&path[..n]);
-    };
-    if fd != STDIN_FILENO {
-        libc::close(fd);
-    }
-    Got::Bytes(got)
 }
 
-// A descriptor of a file, or -1.
-fn open_path(path: &[u8], bare: bool) -> i32 {
+// The same of a path: how many bytes were read. A path that is not UTF-8 names no file here.
+fn front_of(rt: &HostRuntime, path: &[u8], bare: bool, buffer: &mut [u8]) -> io::Result<usize> {
     if bare || text::same_bytes(path, b"-") {
-        return STDIN_FILENO;
+        return read_front(&mut rt.stdin(), buffer);
     }
-    os::open_read(path)
+    let Ok(name) = std::str::from_utf8(path) else {
+        return Err(io::Error::from_raw_os_error(EILSEQ));
+    };
+    let mut file = File::open(rt, name)?;
+    read_front(&mut file, buffer)
 }
 
 // Reads until a buffer is full or the input ends.
-fn read_front(fd: i32, buffer: &mut [u8]) -> Got {
+fn read_front(from: &mut impl Read, buffer: &mut [u8]) -> io::Result<usize> {
     let mut done = 0;
     while done < buffer.len() {
-        let got = libc::read(fd, &mut buffer[done..]);
-        if got < 0 {
-            return Got::Failed;
-        }
-        let n = io::count(got, &buffer[done..]);
+        let n = from.read(&mut buffer[done..])?;
         if n == 0 {
             break;
         }
         done += n;
     }
-    Got::Bytes(done)
+    Ok(done)
 }
 
 // ---- what is told
 
 // Prints a file's name and a colon on a line of its own. Says whether that was written.
-fn print_name(i: usize, escaped: bool) -> bool {
+fn print_name(rt: &HostRuntime, paper: &mut Paper, i: usize, escaped: bool) -> bool {
     let mut path = [0u8; 4096];
-    let n = os::arg(i, &mut path);
-    put_shown(&path[..n], escaped) && put_shown(b":\n", false)
+    let n = name_len(rt, i, &mut path);
+    put_shown(paper, text::first_of(&path, n), escaped) && put_shown(paper, b":\n", false)
+}
+
+// Puts the argument of an input at the front of a buffer. Answers how long it is; 0 where it is longer than the buffer.
+fn name_len(rt: &HostRuntime, i: usize, path: &mut [u8]) -> usize {
+    match rt.arg(i, path) {
+        Ok(n) => n,
+        Err(_) => 0,
+    }
 }
 
 // Writes a text to standard output as it stands, or made visible. Says whether it was written.
-fn put_shown(s: &[u8], escaped: bool) -> bool {
+fn put_shown(paper: &mut Paper, s: &[u8], escaped: bool) -> bool {
     let printed = if escaped {
-        output::write_visibly(STDOUT_FILENO, s)
+        output::write_visibly(paper, s)
     } else {
-        output::write(STDOUT_FILENO, s)
+        output::write(paper, s)
     };
     match printed {
         Printed::Whole(_) => true,
@@ -215,77 +283,115 @@ fn put_shown(s: &[u8], escaped: bool) -> bool {
 }
 
 // Begins a line on standard error with a file's name.
-fn tell_name(path: &[u8]) {
-    tell(b"cards: ");
-    output::write_visibly(STDERR_FILENO, path);
-    tell(b": ");
+fn tell_name(told: &mut impl Write, path: &[u8]) {
+    tell(told, b"cards: ");
+    output::write_visibly(told, path);
+    tell(told, b": ");
 }
 
 // The same by the input's number.
-fn tell_input(i: usize) {
+fn tell_input(rt: &HostRuntime, i: usize) {
     let mut path = [0u8; 4096];
-    let n = os::arg(i, &mut path);
-    tell_name(&path[..n]);
+    let n = name_len(rt, i, &mut path);
+    tell_name(&mut rt.stderr(), text::first_of(&path, n));
 }
 
-// A file could not be read: tells why, by errno, which the writes before leave as it is.
-fn unread(path: &[u8]) -> Got {
-    tell_name(path);
-    os::fail(b"cannot be read");
+// A file could not be read: tells why.
+fn unread(rt: &HostRuntime, path: &[u8], error: io::Error) -> Got {
+    let mut told = rt.stderr();
+    tell_name(&mut told, path);
+    tell(&mut told, b"cannot be read: ");
+    tell_error(rt, error);
     Got::Failed
 }
 
+// Ends a line on standard error with what the system says of an error.
+fn tell_error(rt: &HostRuntime, error: io::Error) {
+    let mut words = Words {
+        told: rt.stderr(),
+        over: false,
+    };
+    let _ = fmt::Write::write(&mut words, error);
+    tell(&mut rt.stderr(), b"\n");
+}
+
+// The words of an error, told on standard error without the number that std puts behind them.
+#[derive(Clone, Copy, Drop)]
+struct Words {
+    told: Stderr,
+    over: bool,
+}
+
+impl fmt::Write for Words {
+    fn write_str(&mut self, s: &str) -> fmt::Result {
+        if s == " (os error " {
+            self.over = true;
+        }
+        if !self.over {
+            tell(&mut self.told, s.as_bytes());
+        }
+        Ok(())
+    }
+}
+
 // Tells in one line why a header is refused, and shows the card. `more` says that bytes follow behind 720 cards.
-fn tell_refusal(stop: Stop, header: &[u8], more: bool) {
-    tell(b"refused ");
+fn tell_refusal(told: &mut impl Write, stop: Stop, header: &[u8], more: bool) {
+    tell(told, b"refused ");
     let fault = stop.fault;
-    io::print_decimal(STDERR_FILENO, fault.number() as u64);
+    tell_number(told, fault.number() as usize);
     let why = fault.why;
     match why {
-        Refusal::HeaderLength => tell(b": there is no whole card of 80 bytes"),
-        Refusal::NoEnd => tell_no_end(stop.card, more),
-        _ => tell_card(stop, header),
+        Refusal::HeaderLength => tell(told, b": there is no whole card of 80 bytes"),
+        Refusal::NoEnd => tell_no_end(told, stop.card, more),
+        _ => tell_card(told, stop, header),
     }
-    tell(b"\n");
+    tell(told, b"\n");
 }
 
 // Writes to standard error.
-fn tell(s: &[u8]) {
-    output::write(STDERR_FILENO, s);
+fn tell(told: &mut impl Write, s: &[u8]) {
+    output::write(told, s);
+}
+
+fn tell_number(told: &mut impl Write, n: usize) {
+    let _ = write!(told, "{n}");
 }
 
 // Tells of a header without END, by the number of its cards.
-fn tell_no_end(cards: usize, more: bool) {
+fn tell_no_end(told: &mut impl Write, cards: usize, more: bool) {
     if more {
-        tell(b": there is no END among the first 720 cards, and a header has no more");
+        tell(
+            told,
+            b": there is no END among the first 720 cards, and a header has no more",
+        );
         return;
     }
-    tell(b": there is no END among the cards, of which there are ");
-    io::print_decimal(STDERR_FILENO, cards as u64);
+    tell(told, b": there is no END among the cards, of which there are ");
+    tell_number(told, cards);
 }
 
 // Tells of a refused card: its number, its byte where the refusal has one, what is wrong in words, and its 80 bytes made visible.
-fn tell_card(stop: Stop, header: &[u8]) {
+fn tell_card(told: &mut impl Write, stop: Stop, header: &[u8]) {
     let card = stop.card;
-    tell(b" at card ");
-    io::print_decimal(STDERR_FILENO, card as u64);
+    tell(told, b" at card ");
+    tell_number(told, card);
     let fault = stop.fault;
     let column = fault.column;
-    let byte = tell_byte(column);
-    tell(b": ");
+    let byte = tell_byte(told, column);
+    tell(told, b": ");
     let words = meanings::meaning(fault);
     let bytes = words.bytes;
-    tell(text::first_of(&bytes, words.len));
-    tell(b": ");
-    tell_parts(text::first_of(card_bytes(header, card), CARD), byte);
+    tell(told, text::first_of(&bytes, words.len));
+    tell(told, b": ");
+    tell_parts(told, text::first_of(card_bytes(header, card), CARD), byte);
 }
 
 // Tells the byte of a card. Answers where the card is parted: at its front where there is no such byte.
-fn tell_byte(column: Column) -> usize {
+fn tell_byte(told: &mut impl Write, column: Column) -> usize {
     match column {
         Column::At(byte) => {
-            tell(b", byte ");
-            io::print_decimal(STDERR_FILENO, byte as u64);
+            tell(told, b", byte ");
+            tell_number(told, byte);
             byte
         }
         Column::Absent => 0,
@@ -293,19 +399,19 @@ fn tell_byte(column: Column) -> usize {
 }
 
 // Shows the bytes of a card before the one where it is refused, and those from it on; at its front there are none before.
-fn tell_parts(card: &[u8], byte: usize) {
+fn tell_parts(told: &mut impl Write, card: &[u8], byte: usize) {
     if 0 < byte {
-        tell_quoted(text::first_of(card, byte));
-        tell(b" then ");
+        tell_quoted(told, text::first_of(card, byte));
+        tell(told, b" then ");
     }
-    tell_quoted(text::rest_of(card, byte));
+    tell_quoted(told, text::rest_of(card, byte));
 }
 
 // Shows bytes in double quotes, made visible.
-fn tell_quoted(s: &[u8]) {
-    tell(b"\"");
-    output::write_visibly(STDERR_FILENO, s);
-    tell(b"\"");
+fn tell_quoted(told: &mut impl Write, s: &[u8]) {
+    tell(told, b"\"");
+    output::write_visibly(told, s);
+    tell(told, b"\"");
 }
 
 // A header from a card on; nothing where it has no such card.

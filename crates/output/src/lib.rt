@@ -1,9 +1,11 @@
-// Bytes handed to a descriptor, as they stand or made visible, and how that went. What arrives is outside every contract: one says how
+// Bytes handed to a writer, as they stand or made visible, and how that went. What arrives is outside every contract: one says how
 // many bytes were handed on where no write failed.
 #![tactic(auto)]
 ghost use Rattle.std.specs.Prelude.{◌≡◌, ◌-◌};
 ghost use Rattle.escaping.specs.Escaping.{escaped};
 ghost use Rattle.output.specs.Shown.{printed_line, IsWhole};
+
+use std::io::Write;
 
 // All bytes were taken, so many; or a write failed, and some may be missing.
 #[derive(Clone, Copy)]
@@ -16,13 +18,14 @@ pub enum Printed {
 const MOST_VISIBLE: usize = 65536;
 
 // Writes a text as it stands. A write that takes nothing has failed.
-pub fn write(fd: i32, s: &[u8]) -> Printed
+pub fn write(to: &mut impl Write, s: &[u8]) -> Printed
     ensures { IsWhole result s.now }
 {
     let mut done = 0;
     while done < s.len() {
-        let rest = text::rest_of(s, done);
-        let n = io::count(libc::write(fd, rest), rest);
+        let Ok(n) = to.write(text::rest_of(s, done)) else {
+            return Printed::Cut;
+        };
         if n == 0 {
             return Printed::Cut;
         }
@@ -32,7 +35,7 @@ pub fn write(fd: i32, s: &[u8]) -> Printed
 }
 
 // Writes a text made visible, piece by piece. One that is longer than 65,536 bytes is not written.
-pub fn write_visibly(fd: i32, s: &[u8]) -> Printed
+pub fn write_visibly(to: &mut impl Write, s: &[u8]) -> Printed
     ensures { IsWhole result (escaped s.now) }
 {
     if MOST_VISIBLE < s.len() {
@@ -43,7 +46,7 @@ pub fn write_visibly(fd: i32, s: &[u8]) -> Printed
     let mut at = 0;
     while at < s.len() {
         let made = escaping::escape(text::rest_of(s, at), &mut piece);
-        let Printed::Whole(n) = write(fd, text::first_of(&piece, made.put)) else {
+        let Printed::Whole(n) = write(to, text::first_of(&piece, made.put)) else {
             return Printed::Cut;
         };
         written += n;
@@ -54,19 +57,19 @@ pub fn write_visibly(fd: i32, s: &[u8]) -> Printed
 
 // Writes a line, which ends in a line feed: as it stands, or made visible up to there. One that is longer than 65,536 bytes is not
 // made visible.
-pub fn write_line(fd: i32, line: &[u8], escaped: bool) -> Printed
+pub fn write_line(to: &mut impl Write, line: &[u8], escaped: bool) -> Printed
     ensures { IsWhole result (printed_line escaped line.now) }
 {
     if !escaped {
-        return write(fd, line);
+        return write(to, line);
     }
     if MOST_VISIBLE < line.len() {
         return Printed::Cut;
     }
-    let Printed::Whole(n) = write_visibly(fd, text::first_of(line, one_less(line.len()))) else {
+    let Printed::Whole(n) = write_visibly(to, text::first_of(line, one_less(line.len()))) else {
         return Printed::Cut;
     };
-    let Printed::Whole(end) = write(fd, b"\n") else {
+    let Printed::Whole(end) = write(to, b"\n") else {
         return Printed::Cut;
     };
     let written = n + end;

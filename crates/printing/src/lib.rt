@@ -12,9 +12,9 @@ ghost use Rattle.printing.specs.Ready.{IsListed, IsWide, Front, length_of};
 
 use entries::LookupAnswer;
 use finding::{Header, Stop};
-use libc::STDOUT_FILENO;
 use lines::Line;
 use output::Printed;
+use std::io::Write;
 
 // What became of a header: whether it is accepted, and whether its lines were written.
 #[derive(Clone, Copy)]
@@ -23,8 +23,8 @@ pub struct Report {
     pub printed: Printed,
 }
 
-// Prints a header's lines to standard output, as they stand or made visible, and says how that went.
-pub fn print_header(header: &[u8], escaped: bool) -> Report
+// Prints a header's lines to a writer, as they stand or made visible, and says how that went.
+pub fn print_header(to: &mut impl Write, header: &[u8], escaped: bool) -> Report
     ensures { (result.header ≡ header_of header.now)
         × IsWhole result.printed (printed_of escaped header.now) }
 {
@@ -36,26 +36,27 @@ pub fn print_header(header: &[u8], escaped: bool) -> Report
     match answer {
         Header::Accepted(_) => Report {
             header: answer,
-            printed: print_names(header, &first, &last, &times, listed.count, escaped),
+            printed: print_names(to, header, &first, &last, &times, listed.count, escaped),
         },
         Header::Refused(stop) => Report {
             header: answer,
-            printed: print_refusal(stop, escaped),
+            printed: print_refusal(to, stop, escaped),
         },
     }
 }
 
 // The line of a refusal.
-fn print_refusal(stop: Stop, escaped: bool) -> Printed
+fn print_refusal(to: &mut impl Write, stop: Stop, escaped: bool) -> Printed
     ensures { IsWhole result (printed_line escaped (refused_line stop.fault stop.card)) }
 {
     let mut line = [0u8; 321];
     let n = refused_part(stop, &mut line);
-    output::write_line(STDOUT_FILENO, text::first_of(&line, n), escaped)
+    output::write_line(to, text::first_of(&line, n), escaped)
 }
 
 // The lines of the names in their order, then that of their count. The first write that fails ends it.
 fn print_names<'a>(
+    to: &mut impl Write,
     header: &[u8],
     first: &'a [usize],
     last: &'a [usize],
@@ -74,7 +75,7 @@ fn print_names<'a>(
     while k < count {
         let n = name_part(header, first, last, times, k, &mut text, &mut line);
         let Printed::Whole(written) = output::write_line(
-            STDOUT_FILENO,
+            to,
             text::first_of(&line, n),
             escaped,
         ) else {
@@ -85,7 +86,7 @@ fn print_names<'a>(
     }
     let n = count_part(count, &mut line);
     let Printed::Whole(written) = output::write_line(
-        STDOUT_FILENO,
+        to,
         text::first_of(&line, n),
         escaped,
     ) else {

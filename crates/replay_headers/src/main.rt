@@ -11,11 +11,11 @@ ghost use Rattle.std.specs.Prelude.{◌≡◌, ◌+◌, ◌≤◌, ◌<◌, leng
 use card::CARD;
 use entries::{CommentAnswer, LookupAnswer};
 use finding::Header;
-use libc::{STDIN_FILENO, STDOUT_FILENO};
 use lines::Line;
 use listing::{Listing, PLACES};
 use numbers::{Size, Value};
 use roles::MOST_CARDS;
+use std::io::Read;
 use test_output::{put, put_integer};
 use text::Text;
 use value::UnitPlace;
@@ -30,15 +30,16 @@ enum Next {
     End,
 }
 
-fn main() {
+fn main(rt: HostRuntime) {
+    let mut input = rt.stdin();
     let mut buffer = [0u8; 57600];
     let mut left = HEADERS;
     'headers: while 0 < left {
         left -= 1;
-        let Next::Cards(n) = next_header(&mut buffer) else {
+        let Next::Cards(n) = next_header(&mut input, &mut buffer) else {
             break 'headers;
         };
-        put_header(text_of_cards(&buffer, n));
+        put_header(&rt, text_of_cards(&buffer, n));
     }
 }
 
@@ -53,23 +54,23 @@ fn text_of_cards(buffer: &[u8], n: usize) -> &[u8] {
 // ---- what is printed
 
 // The lines of a header, or its refusal.
-fn put_header(header: &[u8]) {
+fn put_header(rt: &impl Print, header: &[u8]) {
     let listing = listing::list(header);
     let answer = listing.header;
     match answer {
-        Header::Accepted(_) => put_names(header, listing),
+        Header::Accepted(_) => put_names(rt, header, listing),
         Header::Refused(stop) => {
             let fault = stop.fault;
             // Longer than "refused", two numbers and the words between them.
             let mut line = [0u8; 64];
             let written = lines::refused_line(fault, stop.card, &mut line);
-            put_line(written, &line);
+            put_line(rt, written, &line);
         }
     }
 }
 
 // The lines of the names in their order, then that of their count.
-fn put_names(header: &[u8], listing: Listing) {
+fn put_names(rt: &impl Print, header: &[u8], listing: Listing) {
     let first = listing.first;
     let last = listing.last;
     let times = listing.times;
@@ -82,6 +83,7 @@ fn put_names(header: &[u8], listing: Listing) {
     let mut k = 0;
     while k < count && k < PLACES {
         put_entry(
+            rt,
             header,
             first[k],
             last[k],
@@ -93,11 +95,12 @@ fn put_names(header: &[u8], listing: Listing) {
         k += 1;
     }
     let written = lines::count_line(count, &mut line);
-    put_line(written, &line);
+    put_line(rt, written, &line);
 }
 
 // The two lines of an entry: its name stands on the first card that bears it, its reading on the last.
 fn put_entry(
+    rt: &impl Print,
     header: &[u8],
     first: usize,
     last: usize,
@@ -112,58 +115,58 @@ fn put_entry(
     let answer = looked.answer;
     let said = remark.answer;
     let LookupAnswer::Found(value) = answer else {
-        put(b"no entry\n");
+        put(rt, b"no entry\n");
         return;
     };
     let CommentAnswer::Found(commented) = said else {
-        put(b"no comment\n");
+        put(rt, b"no comment\n");
         return;
     };
     let name = entry.name;
     let digits = looked.digits;
     let shown = text::first_of(text, looked.text);
     let written = lines::entry_line(name, value, digits, shown, times, line);
-    put_line(written, line);
-    put_comment(commented, text::first_of(comment, remark.comment));
-    put_record(value, digits);
-    put(b"\n");
+    put_line(rt, written, line);
+    put_comment(rt, commented, text::first_of(comment, remark.comment));
+    put_record(rt, value, digits);
+    put(rt, b"\n");
 }
 
 // The front of a buffer, as far as a line reaches.
-fn put_line(written: Line, line: &[u8]) {
+fn put_line(rt: &impl Print, written: Line, line: &[u8]) {
     let Line::Written(n) = written else {
-        put(b"no room\n");
+        put(rt, b"no room\n");
         return;
     };
-    put(text::first_of(line, n));
+    put(rt, text::first_of(line, n));
 }
 
 // A comment, and its unit by both readings.
-fn put_comment(commented: bool, comment: &[u8]) {
+fn put_comment(rt: &impl Print, commented: bool, comment: &[u8]) {
     if !commented {
-        put(b" comment none unit none past none");
+        put(rt, b" comment none unit none past none");
         return;
     }
-    put(b" comment ");
-    put_quoted(comment);
-    put(b" unit ");
-    put_unit(comment, value::unit(comment));
-    put(b" past ");
-    put_unit(comment, value::unit_past_space(comment));
+    put(rt, b" comment ");
+    put_quoted(rt, comment);
+    put(rt, b" unit ");
+    put_unit(rt, comment, value::unit(comment));
+    put(rt, b" past ");
+    put_unit(rt, comment, value::unit_past_space(comment));
 }
 
 // The unit of a comment by its place.
-fn put_unit(comment: &[u8], place: UnitPlace) {
+fn put_unit(rt: &impl Print, comment: &[u8], place: UnitPlace) {
     match place {
         UnitPlace::Between(from, to) => {
-            put_quoted(text::rest_of(text::first_of(comment, to), from))
+            put_quoted(rt, text::rest_of(text::first_of(comment, to), from))
         }
-        UnitPlace::Nowhere => put(b"none"),
+        UnitPlace::Nowhere => put(rt, b"none"),
     }
 }
 
 // The digits and the power of a finite decimal.
-fn put_record(value: Value, digits: Text) {
+fn put_record(rt: &impl Print, value: Value, digits: Text) {
     let Value::Float { minus: _, size } = value else {
         return;
     };
@@ -171,31 +174,29 @@ fn put_record(value: Value, digits: Text) {
         return;
     };
     let own = digits.bytes;
-    put(b" digits ");
-    put_quoted(text::first_of(&own, digits.len));
-    put(b" power ");
-    put_integer(power);
+    put(rt, b" digits ");
+    put_quoted(rt, text::first_of(&own, digits.len));
+    put(rt, b" power ");
+    put_integer(rt, power);
 }
 
 // Bytes in double quotes.
-fn put_quoted(s: &[u8]) {
-    put(b"\"");
-    let mut i = 0;
-    while i < s.len() {
-        put_byte(s[i]);
-        i += 1;
+fn put_quoted(rt: &impl Print, s: &[u8]) {
+    put(rt, b"\"");
+    for b in s {
+        put_byte(rt, *b);
     }
-    put(b"\"");
+    put(rt, b"\"");
 }
 
-fn put_byte(b: u8) {
+fn put_byte(rt: &impl Print, b: u8) {
     if is_plain(b) {
         let one = [b; 1];
-        put(&one);
+        put(rt, &one);
         return;
     }
-    put(b"\\x");
-    io::print_hex(STDOUT_FILENO, long(b), 2);
+    put(rt, b"\\x");
+    let _ = print!(rt; "{b:02x}");
 }
 
 // Whether a byte stands for itself.
@@ -209,24 +210,19 @@ fn is_plain(b: u8) -> bool {
     text::is_printable(b)
 }
 
-fn long(b: u8) -> u64 {
-    b as u64
-}
-
 // ---- what is read
 
-fn next_header(buffer: &mut [u8]) -> Next
+fn next_header(input: &mut impl Read, buffer: &mut [u8]) -> Next
     requires { length buffer.old ≡ 57600 }
 {
     let mut two = [0u8; 2];
-    let got = io::read_full(STDIN_FILENO, &mut two);
-    if got < 2 {
+    if input.read_exact(&mut two).is_err() {
         return Next::End;
     }
     let n = wide(two[0]) * 256 + wide(two[1]);
     let mut i = 0;
     while i < n && i < MOST_CARDS {
-        next_card(buffer, i);
+        next_card(input, buffer, i);
         i += 1;
     }
     Next::Cards(n)
@@ -239,16 +235,16 @@ fn wide(b: u8) -> usize
 }
 
 // The next card put at its place.
-fn next_card(buffer: &mut [u8], i: usize)
+fn next_card(input: &mut impl Read, buffer: &mut [u8], i: usize)
     requires { (i < 720) × (length buffer.old ≡ 57600) }
 {
     let mut one = [0u8; 1];
-    io::read_full(STDIN_FILENO, &mut one);
+    let _ = input.read_exact(&mut one);
     let n = text::at_most_all(wide(one[0]));
     let at = i * CARD;
     let end = at + n;
     put_spaces(buffer, at);
-    io::read_full(STDIN_FILENO, &mut buffer[at..end]);
+    let _ = input.read_exact(&mut buffer[at..end]);
 }
 
 fn put_spaces(buffer: &mut [u8], at: usize)

@@ -6,9 +6,9 @@
 #![tactic(auto)]
 ghost use Rattle.std.specs.Prelude.{◌≡◌, true, ◌+◌, ◌/◌, ◌<◌};
 
-use libc::STDIN_FILENO;
 use refusal::Fault;
 use rice::{Cursor, Decoded, Opened, Stepped};
+use std::io::Read;
 use test_output::{put, put_number, put_pixels, put_space};
 
 // The most pixels of a stored tile.
@@ -39,21 +39,21 @@ enum Next {
     End,
 }
 
-fn main() {
+fn main(rt: HostRuntime) {
+    let mut input = rt.stdin();
     let mut left = TILES;
     'tiles: while 0 < left {
         left -= 1;
-        let Next::Tile(t) = next_tile() else {
+        let Next::Tile(t) = next_tile(&mut input) else {
             break 'tiles;
         };
-        replay(t);
+        replay(&rt, &mut input, t);
     }
 }
 
-fn next_tile() -> Next {
-    let mut head = [0u8; 10];
-    let got = io::read_full(STDIN_FILENO, &mut head);
-    if got < HEAD {
+fn next_tile(input: &mut impl Read) -> Next {
+    let mut head = [0u8; HEAD];
+    if input.read_exact(&mut head).is_err() {
         return Next::End;
     }
     Next::Tile(Stored {
@@ -76,64 +76,71 @@ fn wide(b: u8) -> usize
 }
 
 // A stored tile and its pixels, in fresh memory.
-fn replay(t: Stored) {
+fn replay(rt: &impl Print, input: &mut impl Read, t: Stored) {
     let mut bytes = [0u8; 2000];
     let mut whole = [UNTOUCHED; 256];
     let mut parts = [UNTOUCHED; 256];
-    put_tile(t, &mut bytes, &mut whole, &mut parts);
+    put_tile(rt, input, t, &mut bytes, &mut whole, &mut parts);
 }
 
 // Reads a tile into lent memory and prints its three lines.
-fn put_tile(t: Stored, bytes: &mut [u8], whole: &mut [i32], parts: &mut [i32]) {
+fn put_tile(
+    rt: &impl Print,
+    input: &mut impl Read,
+    t: Stored,
+    bytes: &mut [u8],
+    whole: &mut [i32],
+    parts: &mut [i32],
+) {
     let len = t.len;
     let nx = t.nx;
     if bytes.len() < len {
-        put(b"too long\n");
+        put(rt, b"too long\n");
         return;
     }
     if whole.len() < nx {
-        put(b"too many pixels\n");
+        put(rt, b"too many pixels\n");
         return;
     }
     if parts.len() < nx {
-        put(b"too many pixels\n");
+        put(rt, b"too many pixels\n");
         return;
     }
-    io::read_full(STDIN_FILENO, &mut bytes[..len]);
+    let _ = input.read_exact(&mut bytes[..len]);
     let tile = &bytes[..len];
-    put_whole(tile, t, &mut whole[..nx]);
-    put_blocks(tile, t, &mut parts[..nx]);
+    put_whole(rt, tile, t, &mut whole[..nx]);
+    put_blocks(rt, tile, t, &mut parts[..nx]);
     if !same(whole, parts) {
-        put(b" apart");
+        put(rt, b" apart");
     }
-    put(b"\n");
+    put(rt, b"\n");
 }
 
 // ---- whole
 
-fn put_whole(tile: &[u8], t: Stored, pixels: &mut [i32]) {
-    put(b"whole");
+fn put_whole(rt: &impl Print, tile: &[u8], t: Stored, pixels: &mut [i32]) {
+    put(rt, b"whole");
     match rice::decode(tile, t.nx, t.nblock, t.bits, pixels) {
-        Decoded::Whole(used) => put_bytes(used),
-        Decoded::Refused { fault, written } => put_refused(fault, written),
+        Decoded::Whole(used) => put_bytes(rt, used),
+        Decoded::Refused { fault, written } => put_refused(rt, fault, written),
     }
-    put(b"\npixels");
-    put_pixels(pixels);
-    put(b"\n");
+    put(rt, b"\npixels");
+    put_pixels(rt, pixels);
+    put(rt, b"\n");
 }
 
 // ---- block by block
 
-fn put_blocks(tile: &[u8], t: Stored, pixels: &mut [i32]) {
-    put(b"blocks");
+fn put_blocks(rt: &impl Print, tile: &[u8], t: Stored, pixels: &mut [i32]) {
+    put(rt, b"blocks");
     match rice::open(tile, t.nx, t.nblock, t.bits) {
-        Opened::Refused(fault) => put_refused(fault, 0),
-        Opened::At(start) => put_steps(start, tile, t, pixels),
+        Opened::Refused(fault) => put_refused(rt, fault, 0),
+        Opened::At(start) => put_steps(rt, start, tile, t, pixels),
     }
 }
 
 // Step after step: a tile has no more blocks than pixels.
-fn put_steps(start: Cursor, tile: &[u8], t: Stored, pixels: &mut [i32]) {
+fn put_steps(rt: &impl Print, start: Cursor, tile: &[u8], t: Stored, pixels: &mut [i32]) {
     let mut c = start;
     let mut left = PIXELS + 1;
     while 0 < left {
@@ -143,11 +150,11 @@ fn put_steps(start: Cursor, tile: &[u8], t: Stored, pixels: &mut [i32]) {
                 return;
             }
             Stepped::Refused { fault, written } => {
-                put_refused(fault, written);
+                put_refused(rt, fault, written);
                 return;
             }
             Stepped::Next(next) => {
-                put_bytes(next.bit);
+                put_bytes(rt, next.bit);
                 c = next;
             }
         }
@@ -173,9 +180,9 @@ fn same(a: &[i32], b: &[i32]) -> bool
 
 // ---- numbers
 
-fn put_bytes(bits: usize) {
-    put_space();
-    put_number(whole_bytes(bits));
+fn put_bytes(rt: &impl Print, bits: usize) {
+    put_space(rt);
+    put_number(rt, whole_bytes(bits));
 }
 
 // The bytes that hold so many bits.
@@ -189,9 +196,9 @@ fn whole_bytes(bits: usize) -> usize
     }
 }
 
-fn put_refused(fault: Fault, written: usize) {
-    put(b" refused ");
-    put_number(fault.number() as usize);
-    put_space();
-    put_number(written);
+fn put_refused(rt: &impl Print, fault: Fault, written: usize) {
+    put(rt, b" refused ");
+    put_number(rt, fault.number() as usize);
+    put_space(rt);
+    put_number(rt, written);
 }

@@ -20,8 +20,8 @@ both-of-requires c κs = search rules
 
 returns : tie.Need-returns
 returns c =
-    let number = c.before in
-    let front = number.before in
+    let number = c in
+    let front = number in
     let n = front.args.byte in
     c.both_of.ensures
     ∙ both_whole (ascii ":") (decimal_digits n) front.text_of.ensures number.natural_text.ensures

@@ -24,8 +24,8 @@ same_length c = search rules
 
 returns : tie.Need-returns
 returns c =
-    let put = c.before.before in
-    let texts = put.before.before.before in
+    let put = c in
+    let texts = put in
     let a = texts.args in
     let e = count_segments a.n texts.natural_text-count.ensures texts.empty_text-none.ensures in
     (put.put_line.ensures.0 ∙ ap (λ (l : List ℕ). laid l a.out.now) e, omega (arith, put.put_line.ensures.1, ap length e))

@@ -43,7 +43,7 @@ tail-told : (m : tie.After-middle_of) → let a = (start m).args in
 tail-told m =
     let a = (start m).args in
     let shown = (tails m).is_empty-2.ensures ∙ ap is_empty (heads m).first_of-shown.ensures in
-    let tail = (tails m).Tail-of.ensures in
+    let tail = (tails m).tail_of.ensures in
     m.both_of-tail.ensures
     ∙ both_whole (reading_tail a.value (tails m).is_empty-2.result) (times_part a.times) tail.made
     m.times_text.ensures
@@ -61,7 +61,7 @@ line-told m k x e f =
     (tail-told m)
 
 -- the digits fill their array at most
-few-digits : (d : tie.After-first_of-shown) → length d.first_of-shown.result.now ≤ 80
+few-digits : (d : tie.After-head_of-head) → length d.first_of-shown.result.now ≤ 80
 few-digits d =
     let own = d.args.digits in
     let long : length own.bytes ≡ size = search rules in
@@ -125,21 +125,21 @@ same_length c = search rules
 
 returns : tie.Need-returns-in-Digits
 returns c =
-    let put = c.before.before in
-    let told = put.before.before in
-    let m = told.before in
+    let put = c in
+    let told = put in
+    let m = told.before.before.before.before.before in
     let e = line-told m _ _ told.in-Digits.is (heads m).first_of-shown.ensures in
     said m (heads m).first_of-shown.result.now _ put.put_line.ensures.0 put.put_line.ensures.1 e
-    (omega (arith, few-digits (heads m).before.before))
+    (omega (arith, few-digits (heads m)))
 
 same-length-2 : tie.Need-shape_of-out-in-Words
 same-length-2 c = search rules
 
 returns-2 : tie.Need-returns-in-Words
 returns-2 c =
-    let put = c.before.before in
-    let told = put.before.before in
-    let m = told.before in
+    let put = c in
+    let told = put in
+    let m = told.before.before.before.before.before in
     let e = line-told m _ _ told.in-Words.is refl in
     said m (start m).args.text.now _ put.put_line-in-Words.ensures.0 put.put_line-in-Words.ensures.1 e (omega arith)
 
@@ -148,9 +148,9 @@ same-length-3 c = search rules
 
 returns-3 : tie.Need-returns-in-Nothing
 returns-3 c =
-    let put = c.before.before in
-    let told = put.before.before.before in
-    let m = told.before in
+    let put = c in
+    let told = put in
+    let m = told.before.before.before.before.before.before.before in
     let e = line-told m _ _ told.in-Nothing.is refl in
     said m [] _ put.put_line-in-Nothing.ensures.0 put.put_line-in-Nothing.ensures.1 e (omega arith)
 

@@ -49,28 +49,28 @@ one-of-requires-3 : tie.Need-one_of-requires-in-Invalid
 one-of-requires-3 c κs = search rules
 
 returns : tie.Need-returns-in-Integer
-returns c = c.text_of.ensures ∙ by_kind c.before.before.before c.in-Integer.is
+returns c = c.text_of.ensures ∙ by_kind c.before.before.before.before c.in-Integer.is
 
 returns-2 : tie.Need-returns-in-Float
 returns-2 c =
-    let known = c.before.before.before.before in
-    c.one_of.ensures ∙ by_kind known.before known.in-Float.is
+    let known = c in
+    c.one_of.ensures ∙ by_kind known.before.before.before.before.before.before known.in-Float.is
 
 returns-3 : tie.Need-returns-in-Logical
-returns-3 c = c.text_of-in-Logical.ensures ∙ by_kind c.before.before.before c.in-Logical.is
+returns-3 c = c.text_of-in-Logical.ensures ∙ by_kind c.before.before.before.before c.in-Logical.is
 
 returns-4 : tie.Need-returns-in-String
 returns-4 c =
-    let told = c.before.before.before in
-    c.one_of-in-String.ensures ∙ by_kind told.before.before told.in-String.is
+    let told = c in
+    c.one_of-in-String.ensures ∙ by_kind told.before.before.before.before.before.before told.in-String.is
 
 returns-5 : tie.Need-returns-in-Undefined
-returns-5 c = c.text_of-in-Undefined.ensures ∙ by_kind c.before.before.before c.in-Undefined.is
+returns-5 c = c.text_of-in-Undefined.ensures ∙ by_kind c.before.before.before.before c.in-Undefined.is
 
 returns-6 : tie.Need-returns-in-Invalid
 returns-6 c =
-    let told = c.before.before.before in
-    c.one_of-in-Invalid.ensures ∙ by_kind told.before.before told.in-Invalid.is
+    let told = c in
+    c.one_of-in-Invalid.ensures ∙ by_kind told.before.before.before.before.before.before told.in-Invalid.is
 
 pub head_of_spec : {M : Type 1} → statement M
 head_of_spec =

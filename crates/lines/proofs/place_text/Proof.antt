@@ -35,22 +35,22 @@ enum_told c = search rules
 
 returns : tie.Need-returns-in-At
 returns c =
-    let part = c.before in
-    let known = part.before in
-    let number = known.before in
+    let part = c in
+    let known = part in
+    let number = known in
     let card = number.args.card in
     let byte = known.in-At.byte in
     c.both_of.ensures
     ∙ both_whole (decimal_digits card) (column_part (At byte)) number.natural_text-number.ensures part.column_text.ensures
     (omega (arith, few-digits card (omega arith), few-digits byte (omega arith)))
-    ∙ by-column number.before known.in-At.is
+    ∙ by-column number.before.before.before.before known.in-At.is
 
 returns-2 : tie.Need-returns-in-Absent
 returns-2 c =
-    let number = c.before in
+    let number = c in
     let card = number.args.card in
     number.natural_text-number.ensures ∙ sym (ap text_of (append-nil (decimal_digits card)))
-    ∙ by-column number.before c.in-Absent.is
+    ∙ by-column number.before.before c.in-Absent.is
 
 pub place_text_spec : {M : Type 1} → statement M
 place_text_spec =

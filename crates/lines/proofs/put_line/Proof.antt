@@ -92,12 +92,12 @@ same_length c = search rules
 
 returns-3 : tie.Need-returns
 returns-3 c =
-    let at_f = c.before.before in
-    let at-d = at_f.before.before.before.before.before in
-    let at-m = at-d.before.before.before.before in
-    let at_b = at-m.before.before.before.before in
-    let at_a = at_b.before.before.before.before in
-    let h = at_a.before.before.before.before in
+    let at_f = c in
+    let at-d = at_f in
+    let at-m = at-d in
+    let at_b = at-m in
+    let at_a = at_b in
+    let h = at_a.before.before.before.before.before.before.before.before.before.before.before.before.before.before.before.before.before.before.before.before.before.before.before.before in
     let s = start h in
     let d = s.args.out.now in
     let x = bytes_of s.args.a in

@@ -19,7 +19,7 @@ same_length c = search rules
 
 returns : tie.Need-returns
 returns c =
-    let put = c.before.before in
+    let put = c in
     let a = put.args in
     put.put_at.ensures ∙ ap (sets a.out.now a.at) put.first_of.ensures
 

@@ -35,9 +35,9 @@ same_length c = search rules
 
 returns : tie.Need-returns
 returns c =
-    let put = c.before.before in
-    let place = put.before.before.before in
-    let texts = place.before in
+    let put = c in
+    let place = put in
+    let texts = place in
     let a = texts.args in
     let number = texts.natural_text-number.ensures ∙ ap (λ (n : ℕ). text_of (decimal_digits n)) texts.number.ensures in
     let word = texts.text_of-word.ensures in

@@ -49,7 +49,7 @@ text-of-requires-3 c κs = search rules
 
 returns-2 : tie.Need-returns-else-empty
 returns-2 c =
-    let told = c.before.before in
+    let told = c in
     let power = told.in-Finite.power in
     let fits : SFits w64 power = record { sfits = told.in-Finite.known_told-1-own.given.0.1 } in
     by_both told.in-Finite.is c.if-empty.false

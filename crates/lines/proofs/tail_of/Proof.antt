@@ -70,10 +70,10 @@ empty-text-requires-3 c κs = search rules
 
 returns : tie.Need-returns-in-Integer
 returns c =
-    let told = c.before in
+    let told = c in
     let z = told.in-Integer.z in
     let fits : SFits w64 z = record { sfits = told.in-Integer.known_told-1-own.given.0.1 } in
-    by_kind told.before told.in-Integer.is
+    by_kind told.before.before told.in-Integer.is
     (record {
       made = c.integer_text.ensures ∙ ap (λ (z : ℤ). text_of (signed_digits z)) (to_z-of_z fits);
       short = omega (arith, few_signed z fits);
@@ -81,13 +81,13 @@ returns c =
 
 returns-2 : tie.Need-returns-in-Float
 returns-2 c =
-    let known = c.before in
-    by_kind known.before known.in-Float.is c.tail_at.ensures
+    let known = c in
+    by_kind known.before.before known.in-Float.is c.tail_at.ensures
 
 returns-3 : tie.Need-returns-in-Logical
 returns-3 c =
-    let known = c.before.before.before.before in
-    by_kind known.before known.in-Logical.is
+    let known = c in
+    by_kind known.before.before.before.before.before.before known.in-Logical.is
     (record { made = c.one_of.ensures; short = short-logical known.in-Logical.t })
 
 returns-4 : tie.Need-returns-in-String

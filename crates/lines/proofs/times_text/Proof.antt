@@ -29,8 +29,8 @@ both-of-requires c κs = search rules
 
 returns-2 : tie.Need-returns
 returns-2 c =
-    let number = c.before in
-    let front = number.before in
+    let number = c in
+    let front = number in
     let n = front.args.times in
     c.both_of.ensures
     ∙ both_whole (ascii " x") (decimal_digits n) front.text_of.ensures number.natural_text.ensures
