@@ -1,5 +1,6 @@
 // A card as the C boundary gives it: a record of bytes and a number.
 #![tactic(auto)]
+
 ghost use Rattle.std.specs.Prelude.{◌≡◌, ◌++◌, false, pos, length};
 ghost use Rattle.laws.specs.Lending.{lent_of};
 ghost use Rattle.abi_value.specs.Telling.{told};

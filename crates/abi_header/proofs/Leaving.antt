@@ -56,10 +56,10 @@ module _ (read : List ℕ → ValueOutcome) (text digits out : Lent (List ℕ)) 
       (λ j. record {
         answer = w.said j;
         text = text.left;
-        digits = w.in-digits j;
-        numbers = w.in-numbers j;
-        number = w.in-number j;
-        column = w.in-column j;
+        digits = w.in_digits j;
+        numbers = w.in_numbers j;
+        number = w.in_number j;
+        column = w.in_column j;
       })
       ∙ ap (λ (x : ValueOutcome). value_stored x digits.was out.was number.was column.was) g
       ∙ sym (ap into e)

@@ -1,5 +1,6 @@
 // A header as the C boundary gives it: where END stands, an entry's value and its comment, the list of its names, and a name.
 #![tactic(auto)]
+
 ghost use Rattle.std.specs.Prelude.{◌≡◌, length};
 ghost use Rattle.laws.specs.Lending.{lent_of};
 ghost use Rattle.finding.specs.Finding.{header_of};

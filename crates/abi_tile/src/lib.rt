@@ -1,5 +1,6 @@
 // A tile as the C boundary gives it: its cursor and its counts in numbers.
 #![tactic(auto)]
+
 ghost use Rattle.laws.specs.Lending.{lent_of};
 ghost use Rattle.abi_tile.specs.Tiles.{cursor_in, OpenLeft, StepLeft, DecodeLeft};
 

@@ -1,5 +1,6 @@
 // A value as the C boundary gives it, in numbers, and what its records share.
 #![tactic(auto)]
+
 ghost use Rattle.std.specs.Prelude.{◌≡◌};
 ghost use Rattle.laws.specs.Lending.{lent_of};
 ghost use Rattle.value.specs.Units.{unit_of, unit_past_space};

@@ -1,5 +1,6 @@
 // A value as the C boundary asks for it to be written: a kind, a flag and a number, as it tells them of one that was read.
 #![tactic(auto)]
+
 ghost use Rattle.std.specs.Prelude.{◌≡◌};
 ghost use Rattle.laws.specs.Lending.{lent_of};
 ghost use Rattle.roles.specs.Roles.{comment_of};

@@ -2,10 +2,9 @@
 use Prim.Native.Char.{code}
 use Prim.Native.Nat.{ℕ, ◌+◌, ◌-◌, ◌≤◌}
 use native.Mathlib.Omega.{arith}
-use mathlib.Core.Path.{◌≡◌, refl, ap, subst, sym, ◌∙◌}
+use mathlib.Core.Path.{◌≡◌, refl}
 use mathlib.Core.Bool.{Bool, true, false, cond}
 use mathlib.Core.List.{List, [], ◌∷◌}
-use mathlib.Core.Option.{none, some}
 use lib.ListN.{length, take, drop, length-drop, length-take}
 use Rattle.refusal.specs.declared.Column.{Column}
 use Rattle.refusal.specs.declared.Fault.{Fault}
@@ -22,7 +21,6 @@ use Rattle.text.specs.Trim.{trim}
 use Rattle.text.specs.Text.{text_of, bytes_of}
 use Rattle.text.proofs.Trimming.{shorter}
 use Rattle.numbers.specs.declared.Value.{Value}
-use Rattle.numbers.specs.declared.Value.TheVariants as Val
 use Rattle.splitting.specs.declared.SplitAnswer.{SplitAnswer}
 use Rattle.splitting.specs.declared.SplitAnswer.TheVariants.{Bare, Commented, Refused as Refused-split}
 use Rattle.splitting.specs.declared.Quoted.{Quoted}
@@ -34,7 +32,6 @@ use Rattle.value.specs.declared.ValueAnswer.{ValueAnswer}
 use Rattle.value.specs.declared.ValueAnswer.TheVariants.{Read as Read-value, Refused as Refused-value}
 use Rattle.value.specs.declared.ValueRead.{ValueRead}
 use Rattle.value.specs.Values.{value_of}
-use Rattle.card.specs.declared.Card.{Card}
 use Rattle.card.specs.declared.Card.TheVariants as C
 use Rattle.card.specs.declared.CardAnswer.{CardAnswer}
 use Rattle.card.specs.declared.CardAnswer.TheVariants as A
@@ -47,8 +44,8 @@ use Rattle.card.specs.Cards.{string_card, continued, continuation_of, quoted_car
 use Rattle.card.specs.Cards.{extension_of, card_with, of_answer, of_value, named, by_equals, hierarch_of, other_of, by_class}
 use Rattle.card.specs.Cards.{card_answer_placed, card_placed, unplaced_of, card_of}
 use Rattle.card.specs.Columns.{column_of}
-use Rattle.roles.specs.Roles.{Comment, Words, Role, entry, more, neutral, last}
-use Rattle.roles.specs.Roles.{refused, has_text, is_string, comment_of, role_by, role_in, role_read, role_of}
+use Rattle.roles.specs.Roles.{Comment, Role, entry, more, neutral, last}
+use Rattle.roles.specs.Roles.{refused, has_text, comment_of, role_by, role_in, role_of}
 use Rattle.entries.specs.Answers.{bytes_in}
 use Rattle.bounds.specs.Longest.{card_words}
 use Rattle.bounds.proofs.Parts.{shown_len, ValueShort, split_short, bytes_len, string-short, value-short}

@@ -1,7 +1,7 @@
 -- How long joined words can be, and what a name is answered with.
 use Prim.Native.Nat.{ℕ, zero, suc, ◌+◌, ◌-◌, ◌*◌, ◌/◌, ◌≤◌}
 use native.Mathlib.Omega.{arith}
-use mathlib.Core.Path.{◌≡◌, refl, ap, subst, sym, ◌∙◌}
+use mathlib.Core.Path.{◌≡◌, refl, subst, sym, ◌∙◌}
 use mathlib.Core.Bool.{Bool, true, false, cond, true≢false}
 use mathlib.Core.List.{List, [], ◌∷◌, ◌++◌, map}
 use mathlib.Core.Option.{Option, none, some}
@@ -13,14 +13,14 @@ use Rattle.text.specs.Ends.{stem, ends_with}
 use Rattle.text.specs.Same.{same}
 use Rattle.text.proofs.Trimming.{end_shorter}
 use Rattle.roles.specs.Roles.{Comment, Words, Held, Role, entry, more, neutral, last, refused, role_of}
-use Rattle.roles.specs.Cards.{cards_in, roles_of, is_bad_length}
+use Rattle.roles.specs.Cards.{cards_in, roles_of}
 use Rattle.roles.proofs.Cards.{role_count}
 use Rattle.roles.proofs.Counting.{good_cards}
 use Rattle.joining.specs.Words.{ends_open, opens, adds_nothing, join_text, join_comment, join_words}
-use Rattle.joining.specs.Lookup.{or_else, if_same, join_on, whole, lookup}
+use Rattle.joining.specs.Lookup.{or_else, join_on, whole, lookup}
 use Rattle.entries.specs.Answers.{bytes_in}
-use Rattle.bounds.specs.Longest.{card_words, longest_text, longest_remark, Short, EachShort}
-use Rattle.bounds.proofs.Cards.{WordsShort, RoleShort, role_short}
+use Rattle.bounds.specs.Longest.{card_words, EachShort}
+use Rattle.bounds.proofs.Cards.{RoleShort, role_short}
 
 -- each of the roles is short
 abbrev AllShort : List Role → Type 0

@@ -2,24 +2,21 @@
 use Prim.Native.Char.{code}
 use Prim.Native.Nat.{ℕ, suc, ◌-◌, ◌≤◌}
 use native.Mathlib.Omega.{arith}
-use mathlib.Core.Path.{◌≡◌, refl, ap, subst, sym, ◌∙◌}
+use mathlib.Core.Path.{◌≡◌, subst}
 use mathlib.Core.Bool.{Bool, true, false, cond}
 use mathlib.Core.List.{List, [], ◌∷◌, map}
-use lib.ListN.{length, take, drop, length-drop, length-map, length-take}
+use lib.ListN.{length, drop, length-drop, length-map, length-take}
 use Rattle.refusal.specs.declared.Fault.{Fault}
 use Rattle.refusal.specs.declared.Refusal.TheVariants as R
 use Rattle.refusal.specs.Numbers.{fault_of}
 use Rattle.text.specs.declared.Text.{Text}
-use Rattle.text.specs.declared.Place.{Place}
-use Rattle.text.specs.declared.Place.TheVariants.{At, Nowhere}
-use Rattle.text.specs.Bytes.{is_space, is_blank, shown, d_to_e}
+use Rattle.text.specs.Bytes.{is_space, is_blank, shown}
 use Rattle.text.specs.Trim.{trim, trim_end}
 use Rattle.text.specs.Ends.{stem, ends_with}
 use Rattle.text.specs.Text.{text_of, bytes_of}
 use Rattle.text.proofs.Trimming.{shorter, end_shorter}
 use Rattle.numbers.specs.declared.Value.{Value}
 use Rattle.numbers.specs.declared.Value.TheVariants as Val
-use Rattle.numbers.specs.declared.Number.{Number}
 use Rattle.numbers.specs.Numbers.{read_number}
 use Rattle.numbers.proofs.Lengths.{held_len, number_short}
 use Rattle.splitting.specs.declared.Slash.{Slash}
@@ -35,7 +32,6 @@ use Rattle.splitting.specs.Scan.{Scan, scan_from}
 use Rattle.splitting.specs.Split.{parts_at, split_of}
 use Rattle.splitting.specs.Strings.{is_quote, or_space, settled_of, reads, string_refused, opened, unopened, string_of}
 use Rattle.splitting.proofs.Splitting.{scan_within}
-use Rattle.value.specs.declared.ValueAnswer.{ValueAnswer}
 use Rattle.value.specs.declared.ValueAnswer.TheVariants.{Read as Read-value, Refused as Refused-value}
 use Rattle.value.specs.declared.ValueRead.{ValueRead}
 use Rattle.value.specs.declared.Start.{Start}

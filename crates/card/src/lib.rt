@@ -1,5 +1,6 @@
 // One card of a header: 80 bytes read as one of its classes, with its name, its text and its comment.
 #![tactic(auto)]
+
 ghost use Rattle.std.specs.Prelude.{◌≡◌, ◌≤◌, length};
 ghost use Rattle.text.specs.Text.{size, text_of};
 ghost use Rattle.splitting.specs.Columns.{at_byte};

@@ -124,7 +124,7 @@ halves_of both x is =
     record {
       paired = λ text lent a b. in-x.paired text lent a b ∙ sym (is text lent);
       short = λ text lent. ap (λ (o : LookupOutcome). is_short o.answer.answer) (is text lent) ∙ in-x.short text lent;
-      text_room_lem = in-x.text-room;
+      text_room_lem = in-x.text_room_lem;
       comment-room = in-x.comment-room;
     }
 

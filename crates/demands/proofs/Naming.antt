@@ -9,7 +9,7 @@ use Rattle.text.specs.Text.{filled}
 use Rattle.text.proofs.Comparing.{same_self, same_eq}
 use Rattle.roles.specs.Roles.{Role, entry, more, neutral, last, refused}
 use Rattle.joining.specs.Lookup.{is_open, joined}
-use Rattle.joining.specs.Belonging.{Entry, Open, idle, held, Effect, gives, nothing, stops, does, leaves, effects, bears}
+use Rattle.joining.specs.Belonging.{Entry, Open, ended, idle, held, Effect, gives, nothing, stops, does, leaves, effects, bears}
 use Rattle.entries.proofs.Looking.{drop_next}
 use Rattle.listing.specs.Listing.{name_of}
 use Rattle.agreeing.specs.Firsts.{is_among, firsts_from}
@@ -112,16 +112,21 @@ unfolding first_names names_from effects to_end_lem
 by_effects [] seen q s = refl
 by_effects (entry n v ∷ h) seen idle free = entered seen idle (record { name = n; value = v }) h (by_effects h)
 by_effects (entry n v ∷ h) seen (held e) (known k) = entered seen (held e) (record { name = n; value = v }) h (by_effects h)
+by_effects (entry n v ∷ h) seen ended s = elim s [ ]
 by_effects (more t c ∷ h) seen idle free = by_effects h seen idle free
 by_effects (more t c ∷ h) seen (held e) (known k) =
     let d : Entry = record { name = e.name; value = joined e.value t c } in
     rw k (by_effects h seen (leaves (held e) (gives d)) (seen-after seen (held e) d k))
+by_effects (more t c ∷ h) seen ended s = elim s [ ]
 by_effects (neutral ∷ h) seen idle free = by_effects h seen idle free
 by_effects (neutral ∷ h) seen (held e) (known k) = by_effects h seen (held e) (known k)
+by_effects (neutral ∷ h) seen ended s = elim s [ ]
 by_effects (last ∷ h) seen idle free = refl
 by_effects (last ∷ h) seen (held e) (known k) = refl
+by_effects (last ∷ h) seen ended s = elim s [ ]
 by_effects (refused f ∷ h) seen idle free = by_effects h seen idle free
 by_effects (refused f ∷ h) seen (held e) (known k) = by_effects h seen (held e) (known k)
+by_effects (refused f ∷ h) seen ended s = elim s [ ]
 
 -- ---- cards that bear K or do the same, one by one, give the same names
 names_with : List ℕ → List (List ℕ) → List Effect → List (List ℕ)

@@ -1,5 +1,6 @@
 // Bytes made visible: what is not printable is shown as \xNN (SPECIFICATION 13).
 #![tactic(auto)]
+
 ghost use Rattle.std.specs.Prelude.{◌≡◌, ◌<◌, length};
 ghost use Rattle.std.proofs.lemmas.List.Edits.{sets};
 ghost use Rattle.escaping.specs.Escaping.{escape_outcome, hex_digit, escaped_byte, escape_of};

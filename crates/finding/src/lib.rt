@@ -1,5 +1,6 @@
 // Where a name stands in a header: the cards read up to END, and the last of them that bears the name.
 #![tactic(auto)]
+
 ghost use Rattle.std.specs.Prelude.{◌≡◌};
 ghost use Rattle.text.specs.Same.{same};
 ghost use Rattle.text.specs.Text.{bytes_of};

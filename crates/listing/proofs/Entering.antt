@@ -24,7 +24,7 @@ module _ {count : ℕ} {first last times keys order : List ℕ} (R : Ready count
   own_so : row_at keys₁ count ≡ key_of name
   own_so =
       ap (λ (l : List ℕ). row_at l count) stored
-      ∙ row_own keys (key_of name) count (length-key name) (omega (arith, R.room, R.ordered.keys-long))
+      ∙ row_own keys (key_of name) count (length-key name) (omega (arith, R.room, R.ordered.keys_long))
 
   module _ {at : ℕ} (P : Parted keys₁ order count at) where
     -- at the place that has the key

@@ -316,9 +316,9 @@ module _ {h first last times keys order : List ℕ} {count i : ℕ} (S : Standin
           t = S.t;
           within = omega arith;
           good = S.good;
-          first_in = S.first-in;
-          last_in = S.last-in;
-          times_in_lem = S.times-in;
+          first_in = S.first_in;
+          last_in = S.last_in;
+          times_in_lem = S.times_in_lem;
           few-times = few-more;
           small = omega (arith, S.small);
           rowed = S.rowed;
@@ -337,9 +337,9 @@ module _ {h first last times keys order : List ℕ} {count i : ℕ} (S : Standin
     ready =
         record {
           ordered = S.ordered;
-          first-long = long_in S.first-in;
-          last-long = long_in S.last-in;
-          times_long = long_in S.times-in;
+          first-long = long_in S.first_in;
+          last-long = long_in S.last_in;
+          times_long = long_in S.times_in_lem;
           few-times = λ k. omega (arith, S.few-times k, at_most);
           room = room;
         }
@@ -352,7 +352,7 @@ module _ {h first last times keys order : List ℕ} {count i : ℕ} (S : Standin
       -- the place by the keys is the table's
       place_so : key_place (key_of own.name) keys count 0 ≡ own_place
       place_so =
-          ap (λ (n : ℕ). key_place (key_of own.name) keys n 0) (sym S.first-in.long)
+          ap (λ (n : ℕ). key_place (key_of own.name) keys n 0) (sym S.first_in.long)
           ∙ place_is own S.rowed
 
       -- the table then, by the place
@@ -381,27 +381,27 @@ module _ {h first last times keys order : List ℕ} {count i : ℕ} (S : Standin
         rowed_so =
             rowed_by S.rowed
             (λ j p. ap (λ (l : List ℕ). row_at l j) E.rows
-            ∙ row_other keys (key_of own.name) count j (omega (arith, S.first-in.long)))
+            ∙ row_other keys (key_of own.name) count j (omega (arith, S.first_in.long)))
 
         own_row : row_at keys₁ count ≡ key_of own.name
         own_row =
             ap (λ (l : List ℕ). row_at l count) E.rows
-            ∙ row_own keys (key_of own.name) count (length-key own.name) (omega (arith, room, S.ordered.keys-long))
+            ∙ row_own keys (key_of own.name) count (length-key own.name) (omega (arith, room, S.ordered.keys_long))
 
         at_place : (k : ℕ) → own_place ≡ At k → Next (arrays_at (At k) i count first last times)
         at_place k e =
             let under : k < 0 + length S.t.first =
             subst (Under (0 + length S.t.first)) e (place_under roles own.name S.t.first 0) in
-            let below : k < count = omega (arith, S.first-in.long) in
+            let below : k < count = omega (arith, S.first_in.long) in
             let one_more : get_or times k 0 + 1 ≡ suc (get_or S.t.times k 0) =
-            ap (λ (n : ℕ). n + 1) (marked_at S.times-in k below) ∙ add-one (get_or S.t.times k 0) in
+            ap (λ (n : ℕ). n + 1) (marked_at S.times_in_lem k below) ∙ add-one (get_or S.t.times k 0) in
             record {
               t = put_again S.t k i;
               within = omega arith;
               good = S.good;
-              first_in = S.first-in;
-              last_in = marked_again S.last-in k refl below;
-              times_in_lem = marked_again S.times-in k one_more below;
+              first_in = S.first_in;
+              last_in = marked_again S.last_in k refl below;
+              times_in_lem = marked_again S.times_in_lem k one_more below;
               few-times = most-put times k (get_or times k 0 + 1) (i + 1) few-more (omega (arith, S.few-times k));
               small = omega (arith, S.small);
               rowed = rowed_so;
@@ -411,14 +411,14 @@ module _ {h first last times keys order : List ℕ} {count i : ℕ} (S : Standin
 
         at_free : own_place ≡ Nowhere → Next (arrays_at Nowhere i count first last times)
         at_free e =
-            let behind : 0 + length S.t.first ≡ count = omega (arith, S.first-in.long) in
+            let behind : 0 + length S.t.first ≡ count = omega (arith, S.first_in.long) in
             record {
               t = put_new S.t i;
               within = omega arith;
               good = S.good;
-              first_in = marked_new S.first-in i room;
-              last_in = marked_new S.last-in i room;
-              times_in_lem = marked_new S.times-in 1 room;
+              first_in = marked_new S.first_in i room;
+              last_in = marked_new S.last_in i room;
+              times_in_lem = marked_new S.times_in_lem 1 room;
               few-times = most-put times count 1 (i + 1) few-more (omega arith);
               small = omega (arith, S.small);
               rowed = rowed_put rowed_so own (ap (row_at keys₁) behind ∙ own_row);

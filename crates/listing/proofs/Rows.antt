@@ -129,7 +129,7 @@ module _ {keys order : List ℕ} {count : ℕ} (O : Ordered keys order count) wh
           true≢false (sym less ∙ ap (is_before (row_in keys order b)) rows ∙ before_self (row_in keys order b))
 
   row-long : (k : ℕ) → k < places → length (row_at keys k) ≡ words_of_key
-  row-long k h = length-row keys k (omega (arith, O.keys-long))
+  row-long k h = length-row keys k (omega (arith, O.keys_long))
 
   -- a key stored behind the places leaves them in order
   module _ (key : List ℕ) where
@@ -137,7 +137,7 @@ module _ {keys order : List ℕ} {count : ℕ} (O : Ordered keys order count) wh
     ordered-behind =
         record {
           few = O.few;
-          keys_long = length-sets keys (count * 9) key ∙ O.keys-long;
+          keys_long = length-sets keys (count * 9) key ∙ O.keys_long;
           order-long = O.order-long;
           within = O.within;
           numbered = O.numbered;
@@ -256,7 +256,7 @@ module _ {keys order : List ℕ} {count : ℕ} (O : Ordered keys order count) wh
         ordered-put =
             record {
               few = omega (arith, room);
-              keys_long = O.keys-long;
+              keys_long = O.keys_long;
               order-long = S.long ∙ O.order-long;
               within = λ j p. within_by j (then_by j p);
               numbered = λ k p. numbered_by_lem k p (ltb k count) refl;

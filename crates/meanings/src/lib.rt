@@ -1,5 +1,6 @@
 // What each refusal says in words.
 #![tactic(auto)]
+
 ghost use Rattle.std.specs.Prelude.{◌≡◌};
 ghost use Rattle.text.specs.Text.{text_of};
 ghost use Rattle.meanings.specs.Meanings.{meaning_of};

@@ -1,5 +1,6 @@
 // The name that the entry at a card's number bears.
 #![tactic(auto)]
+
 ghost use Rattle.std.specs.Prelude.{◌≡◌};
 ghost use Rattle.refusal.specs.Numbers.{fault_of};
 ghost use Rattle.text.specs.Text.{bytes_of};

@@ -15,7 +15,7 @@ use Rattle.numbers.specs.declared.Number.{Number}
 use Rattle.numbers.specs.declared.Size.TheVariants.{Infinite, Nan}
 use Rattle.numbers.specs.Signs.{is_negative, unsigned, signed_of, fits64}
 use Rattle.numbers.specs.Digits.{is_empty, is_digits, digits_value}
-use Rattle.numbers.specs.Answers.{whole_of, decimal_number, is_read, ◌or_else◌, invalid}
+use Rattle.numbers.specs.Answers.{whole_of, decimal_number, is_read, invalid}
 use Rattle.numbers.specs.Integers.{integer_of}
 use Rattle.numbers.specs.Decimals.{fraction_of, after_fraction, digits_of, exponent_of}
 use Rattle.numbers.specs.Decimals.{scaled, with_exponent, finite_of, is_word, decimal_of}

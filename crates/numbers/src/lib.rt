@@ -1,5 +1,6 @@
 // Numbers: an integer that fits 64 signed bits, or a decimal by its digits and a power of ten (SPECIFICATION 7).
 #![tactic(auto)]
+
 ghost use Rattle.std.specs.Prelude.{◌≡◌, true, [], ◌+◌, ◌*◌, ◌≤◌, ◌<◌, ◌^◌, min, pos, ◌+ℤ◌, ◌-ℤ◌, length};
 ghost use Rattle.text.specs.Text.{size, bytes_of};
 ghost use Rattle.numbers.specs.Signs.{is_sign, is_negative, unsigned, signed_of, fits64};

@@ -1,5 +1,6 @@
 // Numbers as text: integers, and what stands behind the digits of a decimal.
 #![tactic(auto)]
+
 ghost use Rattle.std.specs.Prelude.{◌≡◌, ◌<◌, nat_abs};
 ghost use Rattle.text.specs.Text.{text_of};
 ghost use Rattle.numerals.specs.Numerals.{digit_byte, decimal_digits, signed_digits, power_text};

@@ -1,6 +1,7 @@
 // A reader over a tile's bytes that remembers its bit. Its functions are thin: each takes the struct apart and calls a function on the
 // slice and the numbers.
 #![tactic(auto)]
+
 ghost use Rattle.std.specs.Prelude.{◌≡◌};
 ghost use Rattle.reader.specs.Fields.{at_place, behind, field_of, zeros_of};
 

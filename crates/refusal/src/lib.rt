@@ -1,5 +1,6 @@
 // The refusals, one case for each row of SPECIFICATION 2.1, and the fault that carries one up through every layer.
 #![tactic(auto)]
+
 ghost use Rattle.std.specs.Prelude.{◌≡◌};
 ghost use Rattle.refusal.specs.Numbers.{number_of, fault_of, fault_at};
 

@@ -6,7 +6,7 @@ use mathlib.Core.Bool.{Bool, true, false, cond, true≢false}
 use mathlib.Core.List.{List, [], ◌∷◌, map}
 use lib.ListN.{length, get_or}
 use Rattle.roles.specs.Roles.{Role, neutral}
-use Rattle.joining.specs.Belonging.{Open, ended, gives, does, leaves, effects, bears}
+use Rattle.joining.specs.Belonging.{Entry, Open, ended, gives, does, leaves, effects, bears}
 use Rattle.joining.proofs.Owning.{Own, own_after}
 use Rattle.demands.proofs.Ending.{belongs-after}
 use Rattle.rereading.proofs.Owning.{Owns, at_end, gives_one}
@@ -19,6 +19,16 @@ unfolding effects
 its_within k q [] p b = absurd (true≢false (sym b))
 its_within k q (c ∷ h) zero b = omega arith
 its_within k q (c ∷ h) (suc p) b = omega (arith, its_within k (leaves q (does q c)) h p b)
+
+-- the first of some cards that a name owns: the entry that it gives, and that the name owns the others behind it
+record FirstOwned (k : List ℕ) (q : Open) (r : Role) (rs : List Role) : Type 0 where
+  pub entry : Entry
+  pub is : does q r ≡ gives entry
+  pub named : entry.name ≡ k
+  pub behind : Owns k (leaves q (gives entry)) rs
+
+first_owned : (k : List ℕ) (q : Open) (r : Role) (rs : List Role) → Owns k q (r ∷ rs) → FirstOwned k q r rs
+first_owned k q r rs (gives_one e is named w) = record { entry = e; is = is; named = named; behind = w }
 
 module _ (k : List ℕ) (role : List ℕ → Role) where
   -- where q stands open before the cards, place p belongs to K
@@ -129,8 +139,9 @@ module _ (k : List ℕ) (role : List ℕ → Role) where
       go : (b : Bool) → bears k (does q (role c)) ≡ b → Owns k r (map role (cond b (d ∷ picked q₁ g h) (picked q₁ g h)))
           → Later
           → Walk k q r (role c ∷ map role g) (role d ∷ map role h) (map role (cond b (d ∷ picked q₁ g h) (picked q₁ g h)))
-      go true b (gives_one e is named w) later =
-          both e b is named (later (leaves r (gives e)) (own_after k q (does q (role c)) b) w)
+      go true b w later =
+          let x = first_owned k r (role d) (map role (picked q₁ g h)) w in
+          both x.entry b x.is x.named (later (leaves r (gives x.entry)) (own_after k q (does q (role c)) b) x.behind)
       go false b w later = passed (picked q₁ g h) refl b (ap role (kept zero b)) w later
 
   -- ---- from the first card on
@@ -153,10 +164,11 @@ module _ (k : List ℕ) (role : List ℕ → Role) where
 
       start : bears k (does q (role c)) ≡ true → Owns k q (map role (d ∷ picked q₁ g h))
           → Begins k q (role c ∷ map role g) (role d ∷ map role h) (map role (d ∷ picked q₁ g h))
-      start b (gives_one e is named w) =
-          first b (both e b is named
-          (walks q₁ (leaves q (gives e)) (own_after k q (does q (role c)) b) g h (omega arith) (λ (p : ℕ). kept (suc p))
-          (λ x y l. grouped zero (suc x) (suc y) (omega arith) (omega (arith, l)) b) w))
+      start b w =
+          let x = first_owned k q (role d) (map role (picked q₁ g h)) w in
+          first b (both x.entry b x.is x.named
+          (walks q₁ (leaves q (gives x.entry)) (own_after k q (does q (role c)) b) g h (omega arith) (λ (p : ℕ). kept (suc p))
+          (λ x y l. grouped zero (suc x) (suc y) (omega arith) (omega (arith, l)) b) x.behind))
 
       go : (b : Bool) → bears k (does q (role c)) ≡ b → OwnsAll (cond b (d ∷ picked q₁ g h) (picked q₁ g h))
           → 1 ≤ length (cond b (d ∷ picked q₁ g h) (picked q₁ g h))

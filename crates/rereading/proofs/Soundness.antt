@@ -11,7 +11,7 @@ use Rattle.card.specs.declared.Card.{Card}
 use Rattle.card.specs.declared.CardAnswer.{CardAnswer}
 use Rattle.card.specs.Cards.{card_of}
 use Rattle.roles.specs.Roles.{Comment, refused, role_by, role_in, role_of}
-use Rattle.joining.specs.Belonging.{Open, ended, idle, held, Effect, gives, nothing, stops, does}
+use Rattle.joining.specs.Belonging.{Open, ended, idle, held, Effect, gives, nothing, stops, does, leaves}
 use Rattle.writing.specs.Pieces.{piece_text}
 use Rattle.writing.specs.Written.{name_front, continue_front, plain_text, written_cards}
 use Rattle.writing.specs.Rules.{every, is_name}
@@ -63,7 +63,7 @@ read_by q card e = go (card_of card).answer refl e
 
 owned_read : (name : List ℕ) (q : Open) (cs : List (List ℕ)) → Owns name q (map role_of cs) → All IsRead cs
 owned_read name q [] o = no_more
-owned_read name q (c ∷ cs) (gives_one e d is o) = also (read_by q c (ap is_gift d)) (owned_read name _ cs o)
+owned_read name q (c ∷ cs) (gives_one e d is o) = also (read_by q c (ap is_gift d)) (owned_read name (leaves q (gives e)) cs o)
 
 pub each_is_sound : EachIsSound
 each_is_sound name v text c may p less =

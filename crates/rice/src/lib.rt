@@ -1,5 +1,6 @@
 // One tile of Rice-coded pixels, decoded whole or block by block (SPECIFICATION 12; FITS Standard 10.4.1).
 #![tactic(auto)]
+
 ghost use Rattle.std.specs.Prelude.{◌≡◌, true, ◌+◌, ◌^◌, ◌<◌, ◌≤◌, min, suc, length};
 ghost use Rattle.refusal.specs.Numbers.{fault_of};
 ghost use Rattle.rice.specs.Tile.{bits_in};

@@ -1,5 +1,6 @@
 // What each card is to its header, and the cards of a header by their numbers.
 #![tactic(auto)]
+
 ghost use Rattle.std.specs.Prelude.{◌≡◌, ◌*◌, ◌/◌, ◌<◌, length, take, drop};
 ghost use Rattle.card.specs.Cards.{card_of};
 ghost use Rattle.roles.specs.Roles.{is_string, role_by};

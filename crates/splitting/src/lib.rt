@@ -1,5 +1,6 @@
 // A card's text taken apart into value text and comment, and value texts read as strings.
 #![tactic(auto)]
+
 ghost use Rattle.std.specs.Prelude.{◌≡◌, true, ◌+◌, ◌-◌, ◌≤◌, ◌<◌, map, length, drop};
 ghost use Rattle.text.specs.Bytes.{is_space, shown, are_printable};
 ghost use Rattle.text.specs.Trim.{trim, trim_end};

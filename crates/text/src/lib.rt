@@ -1,5 +1,6 @@
 // Bytes and texts: classes of bytes, trimming, comparing, laying bytes over lent memory, and texts held in arrays.
 #![tactic(auto)]
+
 ghost use Rattle.std.specs.Prelude.{◌≡◌, ◌+◌, ◌<◌, min, [], ◌++◌, map, take, drop};
 ghost use Rattle.std.proofs.lemmas.List.Edits.{sets};
 ghost use Rattle.text.specs.Bytes.{is_blank, is_printable, are_printable, is_digit, shown, d_to_e};

@@ -1,5 +1,6 @@
 // A value card's text as one of the six kinds of value, and the unit that a comment names, by two readings.
 #![tactic(auto)]
+
 ghost use Rattle.std.specs.Prelude.{◌≡◌, ◌≤◌, length, drop};
 ghost use Rattle.text.specs.Text.{size};
 ghost use Rattle.splitting.specs.Columns.{at_byte};

@@ -1,5 +1,7 @@
-// The C boundary: functions over slices and numbers, which take anything. A slice is a pointer and a length there.
+// The functions of the C boundary, over slices and numbers, which take anything. The crate widrekas_c exports each under its name to C,
+// where a slice is a pointer and a length.
 #![tactic(auto)]
+
 ghost use Rattle.std.specs.Prelude.{◌≡◌};
 ghost use Rattle.value.specs.Units.{unit_of, unit_past_space};
 ghost use Rattle.abi_value.specs.Telling.{unit_end, UnitLeft};
@@ -16,8 +18,7 @@ ghost use Rattle.abi_writing.specs.Asking.{is_set, value_asked, WriteLeft};
 ghost use Rattle.abi_tile.specs.Tiles.{cursor_in, OpenLeft, StepLeft, DecodeLeft};
 
 // The version of this boundary.
-#[unsafe(no_mangle)]
-pub extern "C" fn widrekas_version() -> u32
+pub fn widrekas_version() -> u32
     ensures { result ≡ 4 }
 {
     4
@@ -28,21 +29,14 @@ pub extern "C" fn widrekas_version() -> u32
 // Reads a card of 80 bytes into a record of 248 bytes and a number, and answers 0.
 // Otherwise it answers the refusal's number, 1 to 8, with the byte at which the card is refused as the column; or 255 where a slice has
 // another length. All else stays as it is.
-#[unsafe(no_mangle)]
-pub extern "C" fn widrekas_card(
-    card: &[u8],
-    out: &mut [u8],
-    number: &mut i64,
-    column: &mut usize,
-) -> u8
+pub fn widrekas_card(card: &[u8], out: &mut [u8], number: &mut i64, column: &mut usize) -> u8
     ensures { CardLeft card.now (lent_of out) (lent_of number) (lent_of column) result }
 {
     abi_card::read_into(card, out, number, column)
 }
 
 // The end of the unit that a comment names as fitsrs reads it, which starts at byte 1; 0 where it names none.
-#[unsafe(no_mangle)]
-pub extern "C" fn widrekas_unit(comment: &[u8]) -> usize
+pub fn widrekas_unit(comment: &[u8]) -> usize
     ensures { result ≡ unit_end (unit_of comment.now) }
 {
     abi_value::unit_end(comment)
@@ -50,8 +44,7 @@ pub extern "C" fn widrekas_unit(comment: &[u8]) -> usize
 
 // The end of the unit that a comment names, with one space in front passed over, and where it starts; 0 where it names none, and the start
 // stays as it is.
-#[unsafe(no_mangle)]
-pub extern "C" fn widrekas_unit_past_space(comment: &[u8], start: &mut usize) -> usize
+pub fn widrekas_unit_past_space(comment: &[u8], start: &mut usize) -> usize
     ensures { UnitLeft (unit_past_space comment.now) (lent_of start) result }
 {
     abi_value::unit_past_space_end(comment, start)
@@ -61,8 +54,7 @@ pub extern "C" fn widrekas_unit_past_space(comment: &[u8], start: &mut usize) ->
 
 // Says where END stands. Answers 0, with the card's number of END; or the refusal's number, with the number of the card at which the
 // header is refused and, if that card is, its byte as the column.
-#[unsafe(no_mangle)]
-pub extern "C" fn widrekas_header(header: &[u8], card: &mut usize, column: &mut usize) -> u8
+pub fn widrekas_header(header: &[u8], card: &mut usize, column: &mut usize) -> u8
     ensures { HeaderLeft (header_of header.now) (lent_of card) (lent_of column) result }
 {
     abi_header::header_into(header, card, column)
@@ -73,8 +65,7 @@ pub extern "C" fn widrekas_header(header: &[u8], card: &mut usize, column: &mut 
 // or the power of ten. Otherwise it answers the refusal's number, or 255 where digits or numbers have another length. Nothing is written
 // then, except that a refusal of the header stores the card's number in the first of the five, and a refused card's byte in the column;
 // and that 12 and 13 store the room that is wanted in the number of the text's length.
-#[unsafe(no_mangle)]
-pub extern "C" fn widrekas_lookup_value(
+pub fn widrekas_lookup_value(
     header: &[u8],
     name: &[u8],
     text: &mut [u8],
@@ -92,8 +83,7 @@ pub extern "C" fn widrekas_lookup_value(
 // Looks a name's comment up in a header. Answers 0, with whether there is one (1, or 0), its length, and the comment at the front of its
 // buffer. Otherwise it answers the refusal's number: a refusal of the header stores the card's number, and a refused card's byte in the
 // column; 12 and 13 store the room that is wanted in the length. All else stays as it is.
-#[unsafe(no_mangle)]
-pub extern "C" fn widrekas_lookup_comment(
+pub fn widrekas_lookup_comment(
     header: &[u8],
     name: &[u8],
     comment: &mut [u8],
@@ -109,8 +99,7 @@ pub extern "C" fn widrekas_lookup_comment(
 }
 
 // Reads the value of the entry at a card's number, whatever stands elsewhere in the header, and answers as a lookup does.
-#[unsafe(no_mangle)]
-pub extern "C" fn widrekas_entry_value(
+pub fn widrekas_entry_value(
     header: &[u8],
     card: usize,
     text: &mut [u8],
@@ -126,8 +115,7 @@ pub extern "C" fn widrekas_entry_value(
 }
 
 // Reads the comment of the entry at a card's number, whatever stands elsewhere in the header, and answers as a lookup does.
-#[unsafe(no_mangle)]
-pub extern "C" fn widrekas_entry_comment(
+pub fn widrekas_entry_comment(
     header: &[u8],
     number: usize,
     comment: &mut [u8],
@@ -146,8 +134,7 @@ pub extern "C" fn widrekas_entry_comment(
 // card that bears it, that of the last, and how many cards bear it; the places behind them hold 720, 720 and 0. Otherwise it answers the
 // refusal's number, with the card's number as the count and a refused card's byte as the column; or 255 where a slice has another length
 // than 720. All else stays as it is.
-#[unsafe(no_mangle)]
-pub extern "C" fn widrekas_list(
+pub fn widrekas_list(
     header: &[u8],
     first: &mut [usize],
     last: &mut [usize],
@@ -163,8 +150,7 @@ pub extern "C" fn widrekas_list(
 
 // Reads the name that the entry at a card's number bears, whatever stands elsewhere in the header. Answers 0, with the name at the
 // front of the lent bytes and its length; or the refusal's number, with a refused card's byte as the column. All else stays as it is.
-#[unsafe(no_mangle)]
-pub extern "C" fn widrekas_name(
+pub fn widrekas_name(
     header: &[u8],
     card: usize,
     name: &mut [u8],
@@ -181,8 +167,7 @@ pub extern "C" fn widrekas_name(
 // Writes the cards of a name and its value at the front of a block. Answers 0, with the number of cards as the count; what follows them
 // stays. Otherwise it answers 19, 20 or 21, in that order, and block and count stay as they are. The value is a kind with its flag and
 // number, as a lookup gives them, and the text is a decimal's digits or a string; a flag is false where it is 0.
-#[unsafe(no_mangle)]
-pub extern "C" fn widrekas_write(
+pub fn widrekas_write(
     name: &[u8],
     kind: usize,
     flag: usize,
@@ -205,8 +190,7 @@ pub extern "C" fn widrekas_write(
 
 // Opens a tile of nx pixels in blocks of nblock, of 8, 16 or 32 bits each. Answers 0, with the cursor at the first block; or the
 // refusal's number, and the cursor stays as it is.
-#[unsafe(no_mangle)]
-pub extern "C" fn widrekas_open(
+pub fn widrekas_open(
     tile: &[u8],
     nx: usize,
     nblock: usize,
@@ -223,8 +207,7 @@ pub extern "C" fn widrekas_open(
 // One block, from a cursor, into the pixels from the cursor's place on. Answers 0, with the cursor at the next block; 254 where
 // nothing is left; or the refusal's number, with the number of pixels of the step that were written. Whatever is not named stays
 // as it is.
-#[unsafe(no_mangle)]
-pub extern "C" fn widrekas_step(
+pub fn widrekas_step(
     tile: &[u8],
     nx: usize,
     nblock: usize,
@@ -241,8 +224,7 @@ pub extern "C" fn widrekas_step(
 }
 
 // Decodes a tile whole. Answers 0, and the count is the bits used; or the refusal's number, and the count is the pixels written.
-#[unsafe(no_mangle)]
-pub extern "C" fn widrekas_decode(
+pub fn widrekas_decode(
     tile: &[u8],
     nx: usize,
     nblock: usize,

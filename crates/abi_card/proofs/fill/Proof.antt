@@ -25,11 +25,11 @@ same_length c = search rules
 
 returns : tie.Need-returns
 returns c =
-    let fourth = c.before.before in
-    let third = fourth.before.before.before.before.before in
-    let second = third.before.before.before.before.before in
-    let first = second.before.before.before.before.before in
-    let start = first.before.before.before.before in
+    let fourth = c in
+    let third = fourth in
+    let second = third in
+    let first = second in
+    let start = first in
     let o = start.args.out.now in
     let a = start.args.front.now in
     let b = start.args.name.now in

@@ -48,10 +48,10 @@ same_length c = search rules
 
 returns-3 : tie.Need-returns
 returns-3 c =
-    let written = c.before.before in
-    let reading = written.before.before.before.before in
-    let copied = reading.before.before.before in
-    let tested = copied.before in
+    let written = c in
+    let reading = written in
+    let copied = reading in
+    let tested = copied in
     let a = tested.args in
     let s = a.card.now in
     let long = tested.if-card-ne-CARD.false in

@@ -37,25 +37,25 @@ card-told-requires c κs = search rules
 
 returns : tie.Need-returns-in-Refused
 returns c =
-    let kept = c.before in
-    let known = kept.before.before in
+    let kept = c in
+    let known = kept in
     let a = known.args in
     (λ j. card_outcome (c.number.ensures j) a.out.now a.number.now (kept.column_after.ensures j))
-    ∙ by_answer known.before.before known.in-Refused.is
+    ∙ by_answer known.before.before.before.before.before known.in-Refused.is
 
 same_length : tie.Need-shape_of-out
 same_length c = search rules
 
 returns-2 : tie.Need-returns-in-Read
 returns-2 c =
-    let written = c.before.before.before.before in
-    let known = written.before.before in
+    let written = c in
+    let known = written in
     let a = known.args in
     let z = c.card_told-value.result.number in
     let fits : to_z w64 (of_z w64 z) ≡ z = search rules in
     let stored = fits ∙ ap (λ (t : Told). t.number) c.card_told-value.ensures in
     (λ j. card_outcome 0 (written.write_record.ensures j) (stored j) a.column.now)
-    ∙ by_answer known.before.before known.in-Read.is
+    ∙ by_answer known.before.before.before.before.before.before.before.before known.in-Read.is
 
 pub write_card_spec : {M : Type 1} → statement M
 write_card_spec =

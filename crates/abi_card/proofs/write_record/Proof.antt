@@ -24,10 +24,10 @@ same_length c = search rules
 
 returns : tie.Need-returns
 returns c =
-    let filled = c.before.before in
-    let front = filled.before.before.before.before.before.before.before.before.before.before.before.before in
-    let value = front.before in
-    let class = value.before in
+    let filled = c in
+    let front = filled in
+    let value = front in
+    let class = value in
     let r = class.args.read in
     let e = front.head-front.ensures ∙ ap₂ (record_head r) class.class_number.ensures value.card_told.ensures in
     filled.fill.ensures ∙ ap (λ (f : List ℕ). f ++ r.name.bytes ++ r.text.bytes ++ r.comment.bytes) e

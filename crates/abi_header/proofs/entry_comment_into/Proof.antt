@@ -16,7 +16,7 @@ same_length c = search rules
 
 returns : tie.Need-returns
 returns c =
-    let got = c.before.before.before.before.before.before.before in
+    let got = c in
     let a = got.args in
     let read = comment_numbered a.header.now a.number in
     commented read _ _ _ _ _ c.write_comment.result got.comment_at-read.ensures c.write_comment.ensures

@@ -37,7 +37,7 @@ returns c =
     let w = c.before.before.before.before in
     let a = (start (tested (got w))).args in
     told (value_numbered a.header.now a.card) _ _ _ _ _ w.write_value.result
-    (tested (got w)).if1.true (got w).value_at-read.ensures w.write_value.ensures
+    (tested (got w)).if-digits-out.true (got w).value_at-read.ensures w.write_value.ensures
 
 returns-2 : tie.Need-returns
 returns-2 c =

@@ -22,16 +22,16 @@ enum-known-end c = search rules
 
 returns : tie.Need-returns-in-Refused
 returns c =
-    let kept = c.before in
-    let known = kept.before.before.before in
-    let read = known.before in
+    let kept = c in
+    let known = kept in
+    let read = known in
     header_by_lem read.args.column.now known.in-Refused.is read.read_header.ensures
     (λ j. record { answer = c.number.ensures j; card = known.in-Refused.stop.card; column = kept.column_after.ensures j })
 
 returns-2 : tie.Need-returns-in-Accepted
 returns-2 c =
     let known = c in
-    let read = known.before in
+    let read = known in
     header_by_lem read.args.column.now known.in-Accepted.is read.read_header.ensures refl
 
 pub header_into_spec : {M : Type 1} → statement M

@@ -52,8 +52,8 @@ same-length-3 c = search rules
 
 returns : tie.Need-returns-then-first-last
 returns c =
-    let written = c.before.before.before.before.before.before in
-    let made = written.before.before.before.before.before.before.before.before.before in
+    let written = c in
+    let made = written.before.before.before.before.before.before.before.before.before.before.before.before.before.before.before in
     listed (list_of (header made)) _ _ _ _ _ written.write_listing.result (tested made).if-first-last.true made.list_over-read.ensures
     written.write_listing.ensures
 

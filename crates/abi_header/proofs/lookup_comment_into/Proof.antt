@@ -16,7 +16,7 @@ same_length c = search rules
 
 returns : tie.Need-returns
 returns c =
-    let got = c.before.before.before.before.before.before.before in
+    let got = c in
     let a = got.args in
     let read = comment_named a.header.now a.name.now in
     commented read _ _ _ _ _ c.write_comment.result got.lookup_comment-read.ensures c.write_comment.ensures

@@ -37,7 +37,7 @@ returns c =
     let w = c.before.before.before.before in
     let a = (start (tested (got w))).args in
     told (value_named a.header.now a.name.now) _ _ _ _ _ w.write_value.result
-    (tested (got w)).if1.true (got w).lookup_value-read.ensures w.write_value.ensures
+    (tested (got w)).if-digits-out.true (got w).lookup_value-read.ensures w.write_value.ensures
 
 returns-2 : tie.Need-returns
 returns-2 c =

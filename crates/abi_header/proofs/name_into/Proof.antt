@@ -26,7 +26,7 @@ same_length c = search rules
 returns : tie.Need-returns-in-Bears
 returns c =
     let known = c in
-    let read = known.before.before.before in
+    let read = known in
     let a = read.args in
     named (name_at a.header.now a.card) _ a.length.now a.column.now known.in-Bears.is read.read_name-read.ensures
 
@@ -35,9 +35,9 @@ same-length-2 c = search rules
 
 returns-2 : tie.Need-returns-in-Refused
 returns-2 c =
-    let kept = c.before in
-    let known = kept.before.before in
-    let read = known.before.before.before in
+    let kept = c in
+    let known = kept in
+    let read = known in
     let a = read.args in
     unnamed (name_at a.header.now a.card) _ a.length.now _ known.in-Refused.is read.read_name-read.ensures
     c.number.ensures kept.column_after.ensures

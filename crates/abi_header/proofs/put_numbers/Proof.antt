@@ -46,7 +46,7 @@ loop-less c = search rules
 
 loop-again : tie.Need-loop-i-preserved invariant-loop decreases-loop
 loop-again c =
-    let at-loop = c.before.before in
+    let at-loop = c in
     let s = at-loop.args.s.now in
     let i = at-loop.loop-i.i in
     let d = at-loop.loop-i.out in (
@@ -60,7 +60,7 @@ same_length c = search rules
 
 returns : tie.Need-returns invariant-loop decreases-loop
 returns c =
-    let at-loop = c.before in
+    let at-loop = c in
     let a = at-loop.args in
     let s = a.s.now in
     let d = at-loop.loop-i.out in

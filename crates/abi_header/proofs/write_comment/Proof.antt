@@ -33,8 +33,8 @@ cast-commented c = search rules
 
 returns : tie.Need-returns-in-Header
 returns c text =
-    let kept = c.before in
-    let known = kept.before.before.before in
+    let kept = c in
+    let known = kept in
     let a = known.args in
     comment_by_lem a.read.comment text a.commented.now a.length.now a.card.now a.column.now known.in-Header.is
     (λ j. record {
@@ -48,8 +48,8 @@ returns c text =
 
 returns-2 : tie.Need-returns-in-Refused
 returns-2 c text =
-    let kept = c.before in
-    let known = kept.before.before in
+    let kept = c in
+    let known = kept in
     let a = known.args in
     comment_by_lem a.read.comment text a.commented.now a.length.now a.card.now a.column.now known.in-Refused.is
     (λ j. record {
@@ -63,7 +63,7 @@ returns-2 c text =
 
 returns-3 : tie.Need-returns-in-Found
 returns-3 c text =
-    let known = c.before in
+    let known = c in
     let a = known.args in
     comment_by_lem a.read.comment text a.commented.now a.length.now a.card.now a.column.now known.in-Found.is
     (λ j. record {

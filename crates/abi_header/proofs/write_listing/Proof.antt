@@ -36,10 +36,10 @@ put-numbers-requires-3 c κs = search rules
 
 returns : tie.Need-returns-in-Refused
 returns c =
-    let kept = c.before in
-    let stopped = kept.before.before.before in
-    let l = listing stopped.before in
-    let a = (start stopped.before).args in
+    let kept = c in
+    let stopped = kept in
+    let l = listing stopped.before.before.before.before.before in
+    let a = (start stopped.before.before.before.before.before).args in
     list_by l a.first.now a.last.now a.times.now a.column.now stopped.in-Refused.is
     (λ j. record {
       answer = c.number.ensures j;
@@ -61,12 +61,12 @@ same-length-3 c = search rules
 
 returns-2 : tie.Need-returns-in-Accepted
 returns-2 c =
-    let third = c.before.before in
-    let second = third.before.before.before.before in
-    let first = second.before.before.before.before in
-    let read = first.before.before in
-    let l = listing read.before in
-    let a = (start read.before).args in
+    let third = c in
+    let second = third in
+    let first = second in
+    let read = first in
+    let l = listing read.before.before.before.before.before.before.before.before.before.before.before.before.before in
+    let a = (start read.before.before.before.before.before.before.before.before.before.before.before.before.before).args in
     list_by l a.first.now a.last.now a.times.now a.column.now read.in-Accepted.is
     (λ j. record {
       answer = 0;

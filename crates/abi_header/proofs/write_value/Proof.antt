@@ -74,8 +74,8 @@ number_fits c = search rules
 
 returns : tie.Need-returns-in-Header
 returns c =
-    let kept = c.before in
-    let known = kept.before.before.before in
+    let kept = c in
+    let known = kept in
     let a = known.args in
     value_by a.read _ _ _ _ _ known.in-Header.is
     (record {
@@ -91,8 +91,8 @@ same-length-2 c = search rules
 
 returns-2 : tie.Need-returns-in-Refused
 returns-2 c =
-    let kept = c.before in
-    let known = kept.before.before in
+    let kept = c in
+    let known = kept in
     let a = known.args in
     value_by a.read _ _ _ _ _ known.in-Refused.is
     (record {
@@ -111,18 +111,18 @@ same-length-4 c = search rules
 
 returns-3 : tie.Need-returns-in-Found
 returns-3 c =
-    let copied = c.before.before.before in
-    let put = copied.before.before.before.before.before.before.before in
-    let numbered = put.before.before.before in
-    let told = numbered.before in
-    let known = told.before in
+    let copied = c in
+    let put = copied in
+    let numbered = put in
+    let told = numbered.before.before.before.before.before.before.before.before.before.before.before.before.before.before in
+    let known = told in
     let a = known.args in
     let same = told.value_told-value.ensures in
     value_by a.read _ _ _ _ _ known.in-Found.is
     (record {
       said = refl;
-      in_digits = copied.put_at.ensures ∙ sets_all a.read.digits.bytes a.digits.now (long copied.before);
-      in_numbers = put.put_numbers.ensures ∙ numbered.Numbers-of.ensures ∙ ap (λ (t : Told). numbers_of t a.read) same;
+      in_digits = copied.put_at.ensures ∙ sets_all a.read.digits.bytes a.digits.now (long copied.before.before.before.before);
+      in_numbers = put.put_numbers.ensures ∙ numbered.numbers_of-numbers.ensures ∙ ap (λ (t : Told). numbers_of t a.read) same;
       in_number = number_fits told ∙ ap (λ (t : Told). t.number) same;
       in_column = refl;
     })

@@ -22,7 +22,7 @@ same_length c = search rules
 
 returns : tie.Need-returns-in-Whole
 returns c =
-    let d = c.before.before in
+    let d = c in
     let e = sym c.in-Whole.is ∙ d.decode.ensures.0 in
     record { answer = ap decode_said e; content = d.decode.ensures.1; told = ap count_of e }
 
@@ -31,7 +31,7 @@ same-length-2 c = search rules
 
 returns-2 : tie.Need-returns-in-Refused
 returns-2 c =
-    let d = c.before.before.before in
+    let d = c in
     let e = sym c.in-Refused.is ∙ d.decode.ensures.0 in
     record { answer = c.number.ensures ∙ ap decode_said e; content = d.decode.ensures.1; told = ap count_of e }
 

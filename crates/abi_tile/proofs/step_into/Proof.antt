@@ -33,7 +33,7 @@ same k =
 answer-is : (k : tie.After-step) → k.step.result ≡ (made k (was k)).answer
 answer-is k = k.step.ensures.0 ∙ ap (λ (c : Cursor). (made k c).answer) (same k)
 
-content-is : (k : tie.After-step) → k.step.new.1.1.1.1.1.0 ≡ (made k (was k)).content
+content-is : (k : tie.After-step) → k.step.new.pixels ≡ (made k (was k)).content
 content-is k = k.step.ensures.1 ∙ ap (λ (c : Cursor). (made k c).content) (same k)
 
 step-requires : tie.Need-step-requires

@@ -27,9 +27,7 @@ returns : tie.Need-returns-in_default
 returns c = by c.before Nowhere c.in_default.is
 
 returns-2 : tie.Need-returns
-returns-2 c =
-    let place = c.in-Between.from.given in
-    by c.before (Between place.0.0 place.0.1.0) place.1
+returns-2 c = by c.before (Between c.in-Between.from c.in-Between.end) c.in-Between.is
 
 pub unit_past_space_end_spec : {M : Type 1} → statement M
 unit_past_space_end_spec =

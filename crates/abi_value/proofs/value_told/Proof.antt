@@ -1,6 +1,7 @@
 -- `abi_value::value_told` meets its contract: by the kind that an arm knows.
 use mathlib.Core.Bool.{false}
 use mathlib.Core.Path.{sym, ap, ◌∙◌}
+use mir.Syntax.{w64}
 use mir.Facts.{to_z-of_z}
 use Rattle.abi_value.specs.Telling.{told, value_told}
 use borrow.Author.Rules.{rules}
@@ -29,7 +30,7 @@ enum-told-3 : tie.Need-enum_told-in-Invalid
 enum-told-3 c = search rules
 
 returns : tie.Need-returns-in-Integer
-returns c = ap (told 1 false) (to_z-of_z (record { sfits = c.in-Integer.known_told-1-own.given.0.1 })) ∙ ap value_told (sym c.in-Integer.is)
+returns c = ap (told 1 false) (to_z-of_z {w = w64} (record { sfits = c.in-Integer.known_told-1-own.given.0.1 })) ∙ ap value_told (sym c.in-Integer.is)
 
 returns-2 : tie.Need-returns-in-Float
 returns-2 c = c.size_told.ensures ∙ ap value_told (sym c.in-Float.is)

@@ -20,7 +20,7 @@ decimal-requires c κs = search rules
 returns-2 : tie.Need-returns-then-kind-eq2
 unfolding value_asked
 returns-2 c =
-    let start = c.before.before.before in
+    let start = c in
     c.decimal.ensures ∙ ap (λ (z : ℤ). Float start.args.flag (Finite z)) (to_z-of_z start.ranges.number)
     ∙ asked_as _ _ 2 c.if-kind-eq2.true
 
@@ -52,11 +52,11 @@ returns-7 c = asked_as _ _ 7 c.if-kind-eq7.true
 
 returns-8 : tie.Need-returns
 returns-8 c =
-    let sixth = c.before in
-    let fifth = sixth.before in
-    let fourth = fifth.before in
-    let third = fourth.before in
-    let second = third.before in
+    let sixth = c in
+    let fifth = sixth in
+    let fourth = fifth in
+    let third = fourth in
+    let second = third in
     asked-last _ _ second.if-kind-eq1.false second.if-kind-eq2.false third.if-kind-eq3.false fourth.if-kind-eq4.false fifth.if-kind-eq5.false
     sixth.if-kind-eq6.false c.if-kind-eq7.false
 

@@ -55,9 +55,9 @@ same_length c = search rules
 
 returns : tie.Need-returns-in-Cards
 returns c =
-    let w = c.before.before.before in
-    let set = w.before.before in
-    let v = set.before in
+    let w = c in
+    let set = w in
+    let v = set.before.before.before.before.before.before in
     wrote (writes v) (start v).args.count.now (value-is v) set.is_set-2.ensures w.write-answer.ensures.0 w.write-answer.ensures.1 _
     c.in-Cards.is
 
@@ -66,9 +66,9 @@ same-length-2 c = search rules
 
 returns-2 : tie.Need-returns-in-Refused
 returns-2 c =
-    let w = c.before.before.before.before in
-    let set = w.before.before in
-    let v = set.before in
+    let w = c in
+    let set = w in
+    let v = set.before.before.before.before.before.before.before in
     not_written (writes v) (start v).args.count.now (value-is v) set.is_set-2.ensures w.write-answer.ensures.0 w.write-answer.ensures.1 _
     c.in-Refused.is c.number.ensures
 

@@ -23,7 +23,7 @@ returns c =
     let told = c in
     let a = (start told.before.before).args in
     (λ j. comment_left (c.refuse_comment.ensures j) a.comment.now)
-    ∙ refused-comment (not_at a.spot told.in_default.keys2) a.header.now a.comment.now
+    ∙ refused-comment (not_at a.spot told.in_default.in_default-own.keys2) a.header.now a.comment.now
 
 entry-comment-requires : tie.Need-entry_comment-requires
 entry-comment-requires c κs =

@@ -38,8 +38,8 @@ returns c =
     let join = told.before.before.before.before.before.before.before.before in
     let comment = (start join).args.comment.now in
     lay.lay_comment.ensures
-    ∙ ap (λ (l : List ℕ). comment_laid (comment_of join.join-comments.result.commented l) comment) first.first_of.ensures
-    ∙ string-laid join.join-comments.ensures comment told.match.keys2
+    ∙ ap (λ (l : List ℕ). comment_laid (comment_of join.join_comments-end.result.commented l) comment) first.first_of.ensures
+    ∙ string-laid join.join_comments-end.ensures comment told.in_default.in_default-own.keys2
 
 refuse-comment-requires : tie.Need-refuse_comment-requires
 refuse-comment-requires c κs = search rules

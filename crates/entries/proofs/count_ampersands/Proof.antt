@@ -2,12 +2,12 @@
 use Prim.Native.Nat.{ℕ, ◌+◌, ◌-◌, ◌≤◌}
 use native.Mathlib.Omega.{arith}
 use mathlib.Core.Path.{◌≡◌, refl, ap, ◌∙◌}
-use mathlib.Core.Logic.{⊎_elim}
 use lib.ListN.{length, drop, get_or}
 use borrow.Author.Rules.{rules}
 use Rattle.entries.specs.Passes.{passing, ampersands}
 use Rattle.entries.proofs.Ampersands.{passing-more, passing-none, passing_space, passing-few, ampersands_step, ampersands_done}
 use Rattle.entries.proofs.count_ampersands.Statement.{statement}
+use Rattle.entries.proofs.count_ampersands.Lts.{then-b-eq-AMPERSAND, else-b-eq-AMPERSAND+then-b-ne32, else-b-eq-AMPERSAND+else-b-ne32}
 use Rattle.entries.proofs.count_ampersands.Tie as tie
 
 abbrev invariant-loop : tie.invariant-loop-i
@@ -41,9 +41,11 @@ loop-again c =
     let b = get_or s at.loop-i.i 0 in
     let k = at.loop-i.k in
     let passed : c.if-b-eq-AMPERSAND.k ≡ passing k b =
-    ⊎_elim (λ w. w.1 ∙ passing-more k b w.0.taken)
-    (⊎_elim (λ w. w.2 ∙ passing-none k b w.0.left w.1.taken) (λ w. w.2 ∙ passing_space k b w.1.left))
-    c.if-b-eq-AMPERSAND.branch in (
+    elim c.if-b-eq-AMPERSAND.branch [
+      | then-b-eq-AMPERSAND w ↦ w.k-is ∙ passing-more k b w.if-b-eq-AMPERSAND.true
+      | else-b-eq-AMPERSAND+then-b-ne32 w ↦ w.k-is ∙ passing-none k b w.if-b-eq-AMPERSAND.false w.if-b-ne32.true
+      | else-b-eq-AMPERSAND+else-b-ne32 w ↦ w.k-is ∙ passing_space k b w.if-b-ne32.false
+    ] in (
       omega arith,
       ap (λ (m : ℕ). ampersands m (drop (at.loop-i.i + 1) s)) passed
           ∙ ampersands_step k s at.loop-i.i inside.loop-i-test.true

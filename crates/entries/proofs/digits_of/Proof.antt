@@ -26,7 +26,7 @@ returns : tie.Need-returns-in_default
 returns c =
     let a = c.args in
     c.empty_text.ensures
-    ∙ sym (ap (λ (b : Bool). text_of (cond b (bytes_of a.own) [])) (not_float a.value c.in_default.keys2))
+    ∙ sym (ap (λ (b : Bool). text_of (cond b (bytes_of a.own) [])) (not_float a.value c.in_default.in_default-own.keys2))
 
 slice-aggregate-first-of : tie.Need-slice_bounds-first_of-end
 slice-aggregate-first-of c = search rules

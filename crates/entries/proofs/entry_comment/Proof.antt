@@ -84,7 +84,7 @@ returns c =
     ∙ refused-comment (no_entry_vacant told a.i) a.header.now a.comment.now
     ∙ by role _
     (numbered-none a.header.now a.i (start role).requires.0 (card role) (card-is role) told (sym role.role_of-role.ensures)
-    none.in_default.keys2)
+    none.in_default.in_default-own.keys2)
 
 is-open-requires : tie.Need-is_open-requires
 is-open-requires c κs = search rules

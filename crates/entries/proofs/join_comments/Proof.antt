@@ -81,7 +81,7 @@ returns c =
     let at = c.before.before in
     let s = start (begun at) in
     let K = at.loop-j.invariant.0 in
-    kept s.pre.0 s.args.comments.now s.pre.1 K (long at) (at_stop K.going c.in_default.keys2)
+    kept s.requires.0 s.args.comments.now s.requires.1 K (long at) (at_stop K.going c.in_default.in_default-own.keys2)
 
 next-comment-requires : tie.Need-next_comment-held-requires invariant-loop decreases-loop
 next-comment-requires c κs =
@@ -93,9 +93,9 @@ next-comment-requires c κs =
     let on = told.in-On.is in
     let next = inside.loop-j-test.true in (
       next,
-      some_left s.pre.0 s.args.comments.now s.pre.1 K on next,
-      few-left s.pre.0 s.args.comments.now s.pre.1 K on next,
-      room s.pre.0 s.args.comments.now s.pre.1 K on next (long at),
+      some_left s.requires.0 s.args.comments.now s.requires.1 K on next,
+      few-left s.requires.0 s.args.comments.now s.requires.1 K on next,
+      room s.requires.0 s.args.comments.now s.requires.1 K on next (long at),
     )
 
 add-j-2 : tie.Need-overflow_add-j-in-loop-j invariant-loop decreases-loop
@@ -111,7 +111,7 @@ loop-again c =
     let inside = told in
     let at = inside.before.before.before.before.before.before in
     let s = start (begun at) in (
-      keep_on s.pre.0 s.args.comments.now s.pre.1 at.loop-j.invariant.0 told.in-On.is inside.loop-j-test.true
+      keep_on s.requires.0 s.args.comments.now s.requires.1 at.loop-j.invariant.0 told.in-On.is inside.loop-j-test.true
           joined.next_comment-held.ensures,
       search rules,
     )
@@ -124,7 +124,7 @@ returns-2 c =
     let at = c.before in
     let s = start (begun at) in
     let K = at.loop-j.invariant.0 in
-    kept s.pre.0 s.args.comments.now s.pre.1 K (long at) (at_end K.going c.loop-j-test.false)
+    kept s.requires.0 s.args.comments.now s.requires.1 K (long at) (at_end K.going c.loop-j-test.false)
 
 pub join_comments_spec : {M : Type 1} → statement M
 join_comments_spec =

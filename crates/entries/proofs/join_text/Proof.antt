@@ -51,7 +51,7 @@ returns c =
     let cut : c.trim_end.result.now ≡ trim_end is_space (take (a.n - 1) d) = c.trim_end.ensures in
     let front = take (a.n - 1) d in
     let less : length (trim_end is_space front) ≤ a.n - 1 = omega (arith, end_shorter is_space front, length-take (a.n - 1) d) in
-    let nothing = sym test.adds-nothing.ensures ∙ c.if-adds_nothing.true in (
+    let nothing = sym test.adds_nothing.ensures ∙ c.if-adds_nothing.true in (
       ap (λ (l : List ℕ). take (length l) d) cut ∙ joined-cut d (bytes_of a.t) a.n s.requires.0 (omega (arith, s.requires.1)) nothing,
       rw cut (omega arith),
     )

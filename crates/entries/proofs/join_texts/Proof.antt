@@ -34,7 +34,7 @@ long : (c : tie.At-loop-j invariant-loop decreases-loop) → length c.loop-j.tex
 long c = c.loop-j.invariant.1 ∙ search rules
 
 wide : (c : tie.At-loop-j invariant-loop decreases-loop) → IsWide (start (put c.before)).args.header.now c.loop-j.texts
-wide c = omega (arith, long c, (start (put c.before)).pre.1)
+wide c = omega (arith, long c, (start (put c.before)).requires.1)
 
 put-text-requires : tie.Need-put_text-requires invariant-loop decreases-loop
 put-text-requires c κs = search rules
@@ -51,7 +51,7 @@ loop-holds c =
     let a = s.args in (
       subst (λ (l : List ℕ). TextGoing a.header.now a.i (text_held c.count_of.result On) l (a.i + 1))
           (sym (put c).put_text.ensures)
-          (begin_text (bytes_of a.own) a.texts.now s.pre.0 s.pre.1 s.pre.2 (bytes_fit a.own (array s))
+          (begin_text (bytes_of a.own) a.texts.now s.requires.0 s.requires.1 s.requires.2 (bytes_fit a.own (array s))
           c.count_of.ensures),
       refl,
     )
@@ -66,7 +66,7 @@ returns : tie.Need-returns-in_default invariant-loop decreases-loop
 returns c =
     let at = c.before.before in
     let G = at.loop-j.invariant.0 in
-    joined_texts (wide at) G (at_stop G.going c.in_default.keys2)
+    joined_texts (wide at) G (at_stop G.going c.in_default.in_default-own.keys2)
 
 next-text-requires : tie.Need-next_text-held-requires invariant-loop decreases-loop
 next-text-requires c κs =

@@ -1,7 +1,6 @@
 -- `entries::lay_comment` meets its contract: by whether there is a comment, and whether the buffer holds it.
 use mathlib.Core.Path.{◌≡◌, sym, ap, ◌∙◌}
 use mathlib.Core.Bool.{Bool, true, false}
-use borrow.Author.Tests.{not-true, not-false}
 use lib.ListN.{length}
 use Rattle.refusal.specs.declared.Fault.{Fault}
 use Rattle.roles.specs.Roles.{comment_of}

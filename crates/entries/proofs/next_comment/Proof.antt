@@ -107,7 +107,7 @@ first-of-requires c κs = search rules
 count-ampersands-requires : tie.Need-count_ampersands-k-requires
 count-ampersands-requires c κs =
     let s = start (read c) in
-    (omega (arith, s.pre.2), subst (λ (l : List ℕ). length l ≤ size) (sym c.first_of.ensures) (fits (read c)))
+    (omega (arith, s.requires.2), subst (λ (l : List ℕ). length l ≤ size) (sym c.first_of.ensures) (fits (read c)))
 
 opens-by-requires : tie.Need-opens_by-requires
 opens-by-requires c κs = search rules
@@ -129,7 +129,7 @@ returns c =
     let count = reach.before.before in
     let role = read count.before in
     let a = (start role).args in
-    joined count.before true test.if-part.true _ join.join_comment-m.new.0
+    joined count.before true test.if-part.true _ join.join_comment-m.new.held
     (more-some a.held a.j (bytes_of (card role).text) (fits role) (counted count) (goes reach) (bytes_of (card role).comment)
     join.join_comment-m.result join.join_comment-m.ensures.0 join.join_comment-m.ensures.1)
 
@@ -184,7 +184,7 @@ returns-5 c =
     let a = (start role).args in
     let told = role.role_of.result in
     unjoined role told refl c.reached-in_default.result Ended c.reached-in_default.ensures
-    (ended a.held a.j a.comments.now told c.in_default.keys4 (card role))
+    (ended a.held a.j a.comments.now told c.in_default.in_default-own.keys4 (card role))
 
 pub next_comment_spec : {M : Type 1} → statement M
 next_comment_spec =

@@ -45,11 +45,11 @@ left c t e r texts₁ =
 abbrev at : tie.After-join_text-m → tie.After-role_of
 at c = c.before.before.before.before
 
-within : (c : tie.After-join_text-m) → c.join_text-m.result ≤ length c.join_text-m.new.0
+within : (c : tie.After-join_text-m) → c.join_text-m.result ≤ length c.join_text-m.new.held
 within c =
     let s = start (at c) in
-    let same : length c.join_text-m.new.0 ≡ length s.args.texts.now = search rules in
-    omega (arith, c.join_text-m.ensures.1, s.pre.2)
+    let same : length c.join_text-m.new.held ≡ length s.args.texts.now = search rules in
+    omega (arith, c.join_text-m.ensures.1, s.requires.2)
 
 card-at-requires : tie.Need-card_at-part-requires
 card-at-requires c κs = search rules
@@ -69,7 +69,7 @@ slice-reshare-prefix-ends-open c = search rules
 slice-aggregate-ends-open : tie.Need-slice_bounds-ends_open-end-in-More
 slice-aggregate-ends-open c =
     let j = c.before.before in
-    sym (length-take-le j.join-text.result j.join-text.new.0 (within j))
+    sym (length-take-le j.join_text-m.result j.join_text-m.new.held (within j))
 
 ends-open-requires : tie.Need-ends_open-requires
 ends-open-requires c κs = search rules
@@ -92,11 +92,11 @@ same_length c = search rules
 returns : tie.Need-returns-in-More
 returns c =
     let j = c.before.before.before.before in
-    left (at j) More j.in-More.is _ j.join-text.new.0
+    left (at j) More j.in-More.is _ j.join_text-m.new.held
     record {
-      text = j.join-text.ensures.0;
+      text = j.join_text-m.ensures.0;
       reach = c.reach_by.ensures ∙ ap (λ (b : Bool). cond b On Ended) c.ends_open.ensures;
-      short = j.join-text.ensures.1;
+      short = j.join_text-m.ensures.1;
     }
 
 returns-2 : tie.Need-returns-in-Neutral
@@ -120,7 +120,7 @@ returns-4 c =
     let at = c.before in
     let a = (start at).args in
     let role = at.role_of.result in
-    left at role refl (text_held a.n Ended) a.texts.now (ended a.j a.n a.texts.now role c.in_default.keys4 (card at))
+    left at role refl (text_held a.n Ended) a.texts.now (ended a.j a.n a.texts.now role c.in_default.in_default-own.keys4 (card at))
 
 pub next_text_spec : {M : Type 1} → statement M
 next_text_spec =

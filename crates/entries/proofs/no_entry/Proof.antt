@@ -12,7 +12,7 @@ enum-known-role : tie.Need-enum_known-role
 enum-known-role c = search rules
 
 returns : tie.Need-returns-in_default
-returns c = let a = c.args in not-refused a.role c.in_default.keys2 a.i
+returns c = let a = c.args in not-refused a.role c.in_default.in_default-own.keys2 a.i
 
 stop-at-requires : tie.Need-stop_at-requires
 stop-at-requires c κs = search rules

@@ -27,7 +27,7 @@ returns c =
     c.comment_half.ensures
     ∙ ap (λ (f : Fault). comment_half (C.Refused f) 0) c.fault_of.ensures
     ∙ sym (not_stopped comment_refused (comment_half (C.Refused (fault_of R.NameNotFound)) 0) (λ (i : ℕ). refl) refl
-    told.args.spot told.in_default.keys2)
+    told.args.spot told.in_default.in_default-own.keys2)
 
 comment-half-requires-2 : tie.Need-comment_half-requires-2
 comment-half-requires-2 c κs = search rules

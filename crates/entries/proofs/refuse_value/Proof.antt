@@ -28,7 +28,7 @@ returns c =
     c.no_value.ensures
     ∙ ap (λ (f : Fault). no_value (L.Refused f) 0) fault.fault_of.ensures
     ∙ sym (not_stopped value_refused (no_value (L.Refused (fault_of R.NameNotFound)) 0) (λ (i : ℕ). refl) refl
-    other.args.spot other.in_default.keys2)
+    other.args.spot other.in_default.in_default-own.keys2)
 
 no-value-requires-2 : tie.Need-no_value-requires-2
 no-value-requires-2 c κs = search rules

@@ -24,7 +24,7 @@ returns c =
     let other = c in
     let a = other.args in
     ap (λ (v : ValueHalf). value_left v a.text.now) c.refuse_value.ensures
-    ∙ refused-value (not_at a.spot other.in_default.keys2) a.header.now a.text.now
+    ∙ refused-value (not_at a.spot other.in_default.in_default-own.keys2) a.header.now a.text.now
 
 entry-value-requires : tie.Need-entry_value-requires
 entry-value-requires c κs =

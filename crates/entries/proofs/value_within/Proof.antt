@@ -40,7 +40,7 @@ returns c =
     let text = (start joined).args.text.now in
     lay.lay_value.ensures
     ∙ ap (λ (s : List ℕ). value_laid String [] s text) front.first_of.ensures
-    ∙ string-laid joined.join-texts.ensures text known.match.keys2
+    ∙ string-laid joined.join_texts-end.ensures text known.in_default.in_default-own.keys2
 
 refuse-value-requires : tie.Need-refuse_value-requires
 refuse-value-requires c κs = search rules

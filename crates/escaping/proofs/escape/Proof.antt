@@ -2,11 +2,11 @@
 use Prim.Native.Nat.{ℕ, ◌+◌, ◌-◌, ◌*◌, ◌/◌, ◌≤◌}
 use native.Mathlib.Omega.{arith}
 use mathlib.Core.Path.{◌≡◌, refl, sym, ap, ap₂, ◌∙◌}
-use mathlib.Core.List.{List, []}
+use mathlib.Core.List.{List}
 use lib.ListN.{length, take, drop, get_or, length-take, drop_of_length-le}
 use lib.Seq.{sets}
 use borrow.Author.Rules.{rules}
-use Rattle.escaping.specs.Escaping.{escaped_byte, escaped, escaped_in}
+use Rattle.escaping.specs.Escaping.{escaped, escaped_in}
 use Rattle.escaping.proofs.Showing.{byte-few, put_next, count_next, at_the_end, stored_all}
 use Rattle.escaping.proofs.escape.Statement.{statement}
 use Rattle.escaping.proofs.escape.Tie as tie
@@ -86,7 +86,7 @@ same_length c = search rules
 
 returns : tie.Need-returns invariant-loop decreases-loop
 returns c =
-    let l = c.before in
+    let l = c in
     let a = l.args in
     let part = l.first_of-part.result.now in
     let v = l.loop-i.invariant in

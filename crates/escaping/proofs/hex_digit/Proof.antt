@@ -1,5 +1,4 @@
 -- `escaping::hex_digit` meets its contract: the letters follow behind the digits.
-use mathlib.Core.Path.{◌≡◌, sym}
 use borrow.Author.Rules.{rules}
 use borrow.Author.Tests.{lt-ltb, le-ltb}
 use Rattle.escaping.proofs.hex_digit.Statement.{statement}

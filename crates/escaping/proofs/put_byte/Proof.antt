@@ -6,7 +6,7 @@ use mathlib.Core.List.{List, [], ◌∷◌}
 use lib.ListN.{length}
 use lib.Seq.{sets}
 use borrow.Author.Rules.{rules}
-use Rattle.escaping.specs.Escaping.{hex_digit, escaped_byte}
+use Rattle.escaping.specs.Escaping.{hex_digit}
 use Rattle.escaping.proofs.Showing.{as_it_is, by_number}
 use Rattle.escaping.proofs.put_byte.Statement.{statement}
 use Rattle.escaping.proofs.put_byte.Tie as tie
@@ -25,9 +25,9 @@ same_length c = search rules
 
 returns : tie.Need-returns-then-is_printable
 returns c =
-    let put = c.before.before in
-    let asked = put.before.before.before.before in
-    let s = asked.before.before in
+    let put = c in
+    let asked = put in
+    let s = asked in
     let b = s.args.b in
     let is = as_it_is b (sym asked.is_printable.ensures ∙ put.if-is_printable.true) in (
       sym (ap length is),
@@ -51,11 +51,11 @@ same-length-2 c = search rules
 
 returns-2 : tie.Need-returns
 returns-2 c =
-    let put = c.before.before in
-    let low = put.before.before.before in
-    let high = low.before in
-    let asked = high.before.before in
-    let s = asked.before.before in
+    let put = c in
+    let low = put in
+    let high = low in
+    let asked = high in
+    let s = asked in
     let b = s.args.b in
     let is = by_number b (sym asked.is_printable.ensures ∙ high.if-is_printable.false) in
     let shown : List ℕ = hex_digit (b / 16) ∷ hex_digit (b % 16) ∷ [] in

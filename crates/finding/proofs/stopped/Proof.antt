@@ -26,7 +26,7 @@ enum-known-role : tie.Need-enum_known-role
 enum-known-role c = search rules
 
 returns : tie.Need-returns-in_default
-returns c = read c.args.role c.args.i c.args.last c.in_default.keys2
+returns c = read c.args.role c.args.i c.args.last c.in_default.in_default-own.keys2
 
 stop-at-requires : tie.Need-stop_at-requires
 stop-at-requires c κs = search rules

@@ -51,7 +51,7 @@ row-before-requires c κs =
     let at = c.before.before in
     let O = ordered at in
     let place = O.within (middle at) (omega (arith, at.halves.invariant.under, at.halves.invariant.to, c.halves-test.true)) in
-    (omega (arith, place, O.few, O.keys-long), omega (arith, (start at).requires.1, O.keys-long))
+    (omega (arith, place, O.few, O.keys_long), omega (arith, (start at).requires.1, O.keys_long))
 
 add_low : tie.Need-overflow_add-low invariant-halves decreases-halves
 add_low c =

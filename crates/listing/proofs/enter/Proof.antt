@@ -2,9 +2,7 @@
 use Prim.Native.Nat.{ℕ, ◌*◌, ◌<◌}
 use native.Mathlib.Omega.{arith}
 use mathlib.Core.Path.{◌≡◌, sym, ap, ◌∙◌}
-use mathlib.Core.Logic.{⊎_elim}
 use mathlib.Core.List.{List}
-use borrow.Author.Tests.{not-true, not-false}
 use lib.ListN.{get_or}
 use lib.Seq.{sets}
 use Rattle.text.specs.Text.{bytes_of}
@@ -12,6 +10,7 @@ use Rattle.listing.specs.Keys.{words_of_key, key_of, Ordered, Parted, Ready}
 use Rattle.listing.proofs.Entering.{behind, enter_again, enter_new}
 use borrow.Author.Rules.{rules}
 use Rattle.listing.proofs.enter.Statement.{statement}
+use Rattle.listing.proofs.enter.Lts.{then-at-count+else-not-row_before, else-at-count}
 use Rattle.listing.proofs.enter.Tie as tie
 
 -- when the key is stored: what is given, the name, and the keys then
@@ -23,7 +22,7 @@ module _ (c : tie.After-put_key) where
   name = bytes_of (start c).args.text
 
   abbrev keys₁ : List ℕ
-  keys₁ = c.put_key.new.1.0
+  keys₁ = c.put_key.new.keys
 
   ready : let a = (start c).args in Ready a.count a.first.now a.last.now a.times.now a.keys.now a.order.now
   ready = (start c).requires
@@ -46,15 +45,14 @@ parted : (c : tie.After-count_before-at) → let a = (start (storing c)).args in
 parted c = c.count_before-at.ensures
 
 -- when that number is below the count: the place that has it is one of the table's
-module _ (c : tie.Then1) where
-  abbrev put : tie.After-put-key
-  put = storing c.before
+abbrev put : tie.Then-at-count → tie.After-put_key
+put c = storing c.before
 
-  abbrev place : ℕ
-  place = get_or (start put).args.order.now c.before.count-before.result 0
+abbrev place : tie.Then-at-count → ℕ
+place c = get_or (start (put c)).args.order.now c.count_before-at.result 0
 
-  below : place < (start put).args.count
-  below = (ordered put).within c.before.count-before.result c.if1.true
+below : (c : tie.Then-at-count) → place c < (start (put c)).args.count
+below c = (ordered (put c)).within c.count_before-at.result c.if-at-count.true
 
 slice-aggregate-first-of : tie.Need-slice_bounds-first_of-end
 slice-aggregate-first-of c = search rules
@@ -70,7 +68,7 @@ put-key-requires c κs = search rules
 
 count-before-requires : tie.Need-count_before-at-requires
 count-before-requires c κs =
-    let stood = c in
+    let stood = c.before.before in
     (ordered stood, (ready stood).room)
 
 mul-k : tie.Need-offset_bounds-order-at
@@ -80,38 +78,38 @@ slice-read-k : tie.Need-bounds-order-at
 slice-read-k c = search rules
 
 cast-k : tie.Need-overflow_cast-k
-cast-k c = let t = c in omega (arith, below t, (ready (put t)).room)
+cast-k c = let t = c.before in omega (arith, below t, (ready (put t)).room)
 
 row-before-requires : tie.Need-row_before-requires
 row-before-requires c κs =
-    let t = c in
+    let t = c.before in
     let O = ordered (put t) in
-    (omega (arith, (ready (put t)).room, O.keys-long), omega (arith, below t, (ready (put t)).room, O.keys-long))
+    (omega (arith, (ready (put t)).room, O.keys_long), omega (arith, below t, (ready (put t)).room, O.keys_long))
 
 mul-last : tie.Need-offset_bounds-last-k
-mul-last c = let t = c in omega (arith, below t, (ready (put t)).room)
+mul-last c = let t = c.before.before.before in omega (arith, below t, (ready (put t)).room)
 
 slice-write-last : tie.Need-bounds-last-k
 slice-write-last c =
-    let t = c in
+    let t = c.before.before.before in
     omega (arith, below t, (ready (put t)).room, (ready (put t)).last-long)
 
 mul-times : tie.Need-offset_bounds-times-k
-mul-times c = let t = c in omega (arith, below t, (ready (put t)).room)
+mul-times c = let t = c.before.before.before in omega (arith, below t, (ready (put t)).room)
 
 slice-read-times : tie.Need-bounds-times-k
 slice-read-times c =
-    let t = c in
+    let t = c.before.before.before.before in
     omega (arith, below t, (ready (put t)).room, (ready (put t)).times_long)
 
 add_times : tie.Need-overflow_add-times
 add_times c =
-    let t = c in
+    let t = c.before.before.before.before in
     omega (arith, (ready (put t)).few-times (place t))
 
 slice-write-times : tie.Need-bounds-times-k-then-not-row_before
 slice-write-times c =
-    let t = c in
+    let t = c.before.before.before.before in
     omega (arith, below t, (ready (put t)).room, (ready (put t)).times_long)
 
 same_length : tie.Need-shape_of-last-then-not-row_before
@@ -128,9 +126,9 @@ same-length-4 c = search rules
 
 returns : tie.Need-returns-then-not-row_before
 returns c =
-    let t = c in
+    let t = c.before.before.before.before in
     let stood = put t in
-    enter_again (ready stood) (name stood) (start None).args.i (stored stood) (parted t.before.before.before.before.before) t.if1.true
+    enter_again (ready stood) (name stood) (start stood).args.i (stored stood) (parted t.before) t.if-at-count.true
     (sym c.row_before.ensures ∙ c.if-not-row_before.true)
 
 cast-put-between : tie.Need-overflow_cast-count
@@ -182,7 +180,10 @@ returns-2 c =
     let told = joined.before.before.before.before.before in
     let stood = storing told in
     enter_new (ready stood) (name stood) (start stood).args.i (stored stood) (parted told)
-    (λ h. ⊎_elim (λ w. sym w.3.ensures ∙ w.4.left) (λ w. absurd (omega (arith, w.left))) joined.if-at-count.branch)
+    (λ h. elim joined.if-at-count.branch [
+      | then-at-count+else-not-row_before w ↦ sym w.row_before.ensures ∙ w.if-not-row_before.false
+      | else-at-count w ↦ absurd (omega (arith, w.if-at-count.false))
+    ])
     moved.put_between.ensures
 
 pub enter_spec : {M : Type 1} → statement M

@@ -2,7 +2,6 @@
 use Prim.Native.Nat.{◌-◌, ◌<◌, ◌≤◌}
 use native.Mathlib.Omega.{arith}
 use mathlib.Core.Path.{◌≡◌, refl, ◌∙◌}
-use borrow.Author.Tests.{ltb-true, ltb-false}
 use lib.ListN.{length, drop}
 use borrow.Author.Rules.{rules}
 use Rattle.listing.specs.Keys.{is_before}

@@ -4,7 +4,6 @@ use native.Mathlib.Omega.{arith}
 use mathlib.Core.Path.{◌≡◌, refl, sym, ap, ◌∙◌}
 use mathlib.Core.Bool.{Bool, true, false}
 use mathlib.Core.List.{List, [], ◌∷◌}
-use mathlib.Core.Logic.{⊎_elim}
 use types.Run.{OneOf, miss}
 use denote.Enum.Declared.{tag_of}
 use lib.ListN.{length, length-take}
@@ -30,6 +29,7 @@ use Rattle.listing.proofs.Rows.{ordered-none}
 use Rattle.listing.proofs.Placing.{IsEntry, Standing, start, standing_as, refused-length, at_end}
 use Rattle.listing.proofs.Placing.{on_refused, on_last, on_more, on_neutral, ready, on_entry_lem}
 use Rattle.listing.proofs.list_over.Statement.{statement}
+use Rattle.listing.proofs.list_over.Lts.{then-entry, else-entry}
 use Rattle.listing.proofs.list_over.Tie as tie
 
 abbrev invariant-loop : tie.invariant-loop-i
@@ -180,14 +180,14 @@ returns-2 : tie.Need-returns-in_default-role invariant-loop decreases-loop
 returns-2 c =
     let co = c.before.before in
     let S = standing co in
-    let end = is_last (told co) c.in_default-role.keys2 (sym co.course_of.ensures ∙ c.in_default.is) in
+    let end = is_last (told co) c.in_default-role.in_default-role-own.keys2 (sym co.course_of.ensures ∙ c.in_default.is) in
     (λ j.
     record {
       header = Accepted (number co);
-      first = S.first-in.is j;
-      last = S.last-in.is j;
-      times = S.times-in.is j;
-      count = sym S.first-in.long j;
+      first = S.first_in.is j;
+      last = S.last_in.is j;
+      times = S.times_in_lem.is j;
+      count = sym S.first_in.long j;
     })
     ∙ on_last S (more co) (role_so co T.Last end)
 
@@ -208,7 +208,7 @@ returns-3 c =
     ∙ on_refused (standing co) (more co) f (role_so co (T.Refused f) known.in-Refused.is)
 
 slice-aggregate-enter : tie.Need-slice_bounds-enter-end-then-entry-3 invariant-loop decreases-loop
-slice-aggregate-enter c = sym (standing c.before.before.before.before.before.before).ordered.keys-long
+slice-aggregate-enter c = sym (standing c.before.before.before.before.before.before).ordered.keys_long
 
 slice-aggregate-enter-2 : tie.Need-slice_bounds-enter-end-then-entry-4 invariant-loop decreases-loop
 slice-aggregate-enter-2 c =
@@ -235,14 +235,14 @@ loop-again c =
     → co.course_of.result ≡ On b = λ b e. known.in-On.is ∙ ap On e in
     let other : known.in-On.entry ≡ false
     → course_of (told co) ≡ On false = λ e. sym co.course_of.ensures ∙ course false e in
-    ⊎_elim
-    (λ w.
-    standing_as w.9 w.10 w.11 w.12 w.13 w.14
-    (on_entry_lem S (more co) (own co (course true w.0.taken)) w.6.ensures))
-    (λ w.
-    standing_as w.1 w.2 w.3 w.4 w.5 w.6
-    (passed S (more co) (read co) (told co) (other w.0.left) (role_so co (told co) refl)))
-    c.if-entry.branch
+    elim c.if-entry.branch [
+      | then-entry w ↦
+          standing_as w.first-is w.last-is w.times-is w.keys-is w.order-is w.count-is
+          (on_entry_lem S (more co) (own co (course true w.if-entry.true)) w.enter-count.ensures)
+      | else-entry w ↦
+          standing_as w.first-is w.last-is w.times-is w.keys-is w.order-is w.count-is
+          (passed S (more co) (read co) (told co) (other w.if-entry.false) (role_so co (told co) refl))
+    ]
 
 fault-of-requires-2 : tie.Need-fault_of-requires-2 invariant-loop decreases-loop
 fault-of-requires-2 c κs = search rules

@@ -1,5 +1,4 @@
 -- `listing::put_between` meets its contract: the later places are moved up from the last one on.
-use Prim.Native.Nat.{◌-◌}
 use borrow.Author.Rules.{rules}
 use Rattle.listing.proofs.Sliding.{Sliding, slide_start, slide_next, slide_end}
 use Rattle.listing.proofs.put_between.Statement.{statement}

@@ -73,7 +73,7 @@ loop-again c =
     let stored : ℕ → List ℕ =
     λ w. sets (set l.keys (a.at + l.q) w) (a.at + (l.q + 1)) (first_words (9 - (l.q + 1)) (drop ((l.q + 1) * 9) a.name.now)) in
     let next = key_next a.name.now l.keys a.at l.q c.loop-q-test.true in
-    (omega arith, length-set l.keys (a.at + l.q) c.word_of.result ∙ l.inv.1, ap stored word ∙ next ∙ l.inv.2)
+    (omega arith, length-set l.keys (a.at + l.q) c.word_of.result ∙ l.invariant.1, ap stored word ∙ next ∙ l.invariant.2)
 
 same_length : tie.Need-shape_of-keys invariant-loop decreases-loop
 same_length c = search rules

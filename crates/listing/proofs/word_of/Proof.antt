@@ -28,7 +28,7 @@ byte c = get_or (bytes c) ((at-loop c).loop-k.k - 1) 0
 
 next : (c : tie.After-shared_slice_known-1 invariant-loop decreases-loop) → let l = (at-loop c).loop-k in
     l.word * 129 + byte c % 128 + 1 ≡ word_of (drop (l.k - 1) (bytes c))
-next c = let l = (at-loop c).loop-k in word_back (bytes c) l.k l.word c.loop-k-test.true l.inv.0 l.inv.1
+next c = let l = (at-loop c).loop-k in word_back (bytes c) l.k l.word c.loop-k-test.true l.invariant.0 l.invariant.1
 
 fits : (c : tie.After-shared_slice_known-1 invariant-loop decreases-loop) → (at-loop c).loop-k.word * 129 + byte c % 128 + 1 < 129 ^ 9
 fits c =

@@ -1,7 +1,5 @@
 -- `meanings::meaning` meets its contract: each case has its words, and none is longer than a text.
-use Prim.Native.Nat.{ℕ}
 use mathlib.Core.Path.{◌≡◌, refl, sym, ap, ◌∙◌}
-use mathlib.Core.List.{List}
 use lib.ListN.{take}
 use borrow.Author.Rules.{rules}
 use Rattle.text.specs.declared.Text.{Text}

@@ -1,5 +1,4 @@
 -- `naming::read_name` meets its contract: a bad length, a number beyond the cards, or what the card there is to its header.
-use Prim.Native.Nat.{ℕ}
 use mathlib.Core.Path.{◌≡◌, sym, ap, ◌∙◌}
 use mathlib.Core.Bool.{false}
 use lib.ListN.{length}
@@ -30,7 +29,7 @@ abbrev tested : tie.After-role_of-role → tie.Else-header-i
 tested c = (read c).before
 
 abbrev first : tie.After-role_of-role → tie.Start
-first c = start (tested c).before.before.before.before
+first c = start (tested c).before.before
 
 -- the answer by what the card is told to be
 abbrev byTold : tie.After-role_of-role → Told → NameOutcome
@@ -44,7 +43,7 @@ whole c t e =
     let within = (tested c).if-header-i.false in
     ap (byTold c) (sym e ∙ c.role_of-role.ensures)
     ∙ ap (λ r. name_by (role_read r) a.name.now) ((read c).card_at-card.ensures ∙ card-here a.header.now a.i within)
-    ∙ here a.header.now a.i a.name.now (good (tested c).before.before) within
+    ∙ here a.header.now a.i a.name.now (good (tested c).before) within
 
 -- a card that bears no name
 abbrev none-there : tie.After-role_of-role → Named → NameOutcome

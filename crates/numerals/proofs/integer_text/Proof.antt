@@ -22,7 +22,7 @@ start c = c.before.before
 digits-told : (c : tie.After-natural_text-digits) (n : ℕ) → nat_abs (start c).args.z ≡ n → c.natural_text-digits.result ≡ text_of (decimal_digits n)
 digits-told c n e =
     c.natural_text-digits.ensures
-    ∙ ap (λ (k : ℕ). text_of (decimal_digits k)) (c.type_size.ensures ∙ ap nat_abs (to_z-of_z (start c).ranges.z) ∙ e)
+    ∙ ap (λ (k : ℕ). text_of (decimal_digits k)) (c.size_of.ensures ∙ ap nat_abs (to_z-of_z (start c).ranges.z) ∙ e)
 
 size-of-requires : tie.Need-size_of-requires
 size-of-requires c κs = search rules
@@ -41,7 +41,7 @@ joined-text-requires c κs = search rules
 
 returns : tie.Need-returns-then-z-lt0
 returns c =
-    let d = c.before.before.before.before.before.before in
+    let d = c.before.before.before.before.before.before.before in
     let n = is_negative w64 _ (start d).ranges.z c.if-z-lt0.true in
     let v = decimal_digits (suc n.k) in
     let fits : length (minus_of true ++ v) ≤ 21 = rw n.is at (few_signed (start d).args.z (start d).ranges.z) in

@@ -57,7 +57,7 @@ text-of-requires c κs = search rules
 
 returns : tie.Need-returns invariant-loop decreases-loop
 returns c =
-    let last = c.before.before.before in
+    let last = c in
     let l = last.loop-left in
     let s = set l.bytes (l.at - 1) (digit_byte l.left) in
     let long : length s ≡ 20 = simp length-set l.invariant.long in

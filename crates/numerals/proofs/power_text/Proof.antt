@@ -30,7 +30,7 @@ joined-text-requires c κs = search rules
 
 returns : tie.Need-returns
 returns c =
-    let d = c.before.before.before.before.before in
+    let d = c in
     let front = d.args.letter ∷ [] in
     let z = d.args.power in
     let own = d.integer_text-own.ensures ∙ ap (λ (y : ℤ). text_of (signed_digits y)) (to_z-of_z d.ranges.power) in

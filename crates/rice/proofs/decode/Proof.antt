@@ -32,7 +32,7 @@ refused e = ap (λ (f : Fault). D.Refused f 0) e
 
 returns : tie.Need-returns-in_default
 returns c =
-    let p = c.before.before in
+    let p = c in
     let a = p.args in
     finished (refused c.fault_of.ensures)
     (decode_limits a.tile.now a.nx a.nblock a.bits a.pixels.now
@@ -64,16 +64,16 @@ enum-known-start c = search rules
 
 run-requires : tie.Need-run-requires
 run-requires c κs =
-    let o = c.before.before in
-    let k = o.before.before in
+    let o = c in
+    let k = o.before.before.before.before in
     let a = (start k).args in
     opened _ _ _ _ a.bits _ _ (plan k) o.if-pixels-nx.false
     (sym o.«open».ensures ∙ c.in-At.is)
 
 returns-3 : tie.Need-returns-in-Refused
 returns-3 c =
-    let o = c.before in
-    let k = o.before.before in
+    let o = c in
+    let k = o.before.before.before in
     let a = (start k).args in
     finished refl (decode_open a.tile.now a.nx a.nblock a.bits a.pixels.now _ (plan k)
     o.if-pixels-nx.false _ (sym o.«open».ensures ∙ c.in-Refused.is))
@@ -83,8 +83,8 @@ same_length c = search rules
 
 returns-4 : tie.Need-returns-in-At
 returns-4 c =
-    let o = c.before.before.before.before in
-    let k = o.before.before in
+    let o = c in
+    let k = o.before.before.before.before.before.before in
     let a = (start k).args in
     let f = finished c.run.ensures.0 (decode_steps _ a.tile.now a.nx a.nblock a.bits _ a.pixels.now (plan k)
     o.if-pixels-nx.false (sym o.«open».ensures ∙ c.in-At.is)) in

@@ -64,8 +64,8 @@ pixel-requires c κs = rw (c.field.ensures, ← start-bits c.before.before) (fie
 
 returns-2 : tie.Need-returns-then-n-tile
 returns-2 c =
-    let s = c.before.before.before in
-    open_at _ _ _ _ _ (plan s.before) _ _ (ap (λ (n : ℕ). n * 8) s.start_bytes-n.ensures)
+    let s = c in
+    open_at _ _ _ _ _ (plan s.before.before.before.before) _ _ (ap (λ (n : ℕ). n * 8) s.start_bytes-n.ensures)
     c.if-n-tile.true
     (to_z-of_z {w = w32} (record { sfits = c.pixel-last.type_inv }) ∙ c.pixel-last.ensures
     ∙ ap (pixel_of s.in-Of.width) c.field.ensures)

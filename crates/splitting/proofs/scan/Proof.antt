@@ -76,23 +76,23 @@ put-so : (c : tie.Joined-state invariant-scan decreases-scan)
 put-so c =
     elim c.match-state.branch [
       | in-Outside+then-b-eq-QUOTE w ↦
-        ap₂ move w.in-Outside.is (class_quote w.if-b-eq-QUOTE.true) ∙ ap puts (sym w.state-is)
+          ap₂ move w.in-Outside.is (class_quote w.if-b-eq-QUOTE.true) ∙ ap puts (sym w.state-is)
       | in-Outside+else-b-eq-QUOTE+else-b-eq-SLASH+else-not-is_printable w ↦
-        ap₂ move w.in-Outside.is
-        (class_plain w.if-b-eq-QUOTE.false w.if-b-eq-SLASH.false (sym w.is_printable.ensures ∙ w.if-not-is_printable.false))
-        ∙ ap puts (sym (w.state-is ∙ w.in-Outside.is))
+          ap₂ move w.in-Outside.is
+          (class_plain w.if-b-eq-QUOTE.false w.if-b-eq-SLASH.false (sym w.is_printable.ensures ∙ w.if-not-is_printable.false))
+          ∙ ap puts (sym (w.state-is ∙ w.in-Outside.is))
       | in-Inside+then-b-eq-QUOTE-2 w ↦
-        ap₂ move w.in-Inside.is (class_quote w.if-b-eq-QUOTE-2.true) ∙ ap puts (sym w.state-is)
+          ap₂ move w.in-Inside.is (class_quote w.if-b-eq-QUOTE-2.true) ∙ ap puts (sym w.state-is)
       | in-Inside+else-b-eq-QUOTE-2 w ↦
-        inside-other w.if-b-eq-QUOTE-2.false _ w.in-Inside.is ∙ ap puts (sym (w.state-is ∙ w.in-Inside.is))
+          inside-other w.if-b-eq-QUOTE-2.false _ w.in-Inside.is ∙ ap puts (sym (w.state-is ∙ w.in-Inside.is))
       | in-Closed+else-b-eq-QUOTE-3+else-b-eq-SLASH-2+then-is_printable w ↦
-        ap₂ move w.in-Closed.is
-        (class_plain w.if-b-eq-QUOTE-3.false w.if-b-eq-SLASH-2.false (sym w.is_printable-in-Closed.ensures ∙ w.if-is_printable.true))
-        ∙ ap puts (sym w.state-is)
+          ap₂ move w.in-Closed.is
+          (class_plain w.if-b-eq-QUOTE-3.false w.if-b-eq-SLASH-2.false (sym w.is_printable-in-Closed.ensures ∙ w.if-is_printable.true))
+          ∙ ap puts (sym w.state-is)
       | in-Closed+else-b-eq-QUOTE-3+else-b-eq-SLASH-2+else-is_printable w ↦
-        ap₂ move w.in-Closed.is
-        (class_odd w.if-b-eq-QUOTE-3.false w.if-b-eq-SLASH-2.false (sym w.is_printable-in-Closed.ensures ∙ w.if-is_printable.false))
-        ∙ ap puts (sym (w.state-is ∙ w.in-Closed.is))
+          ap₂ move w.in-Closed.is
+          (class_odd w.if-b-eq-QUOTE-3.false w.if-b-eq-SLASH-2.false (sym w.is_printable-in-Closed.ensures ∙ w.if-is_printable.false))
+          ∙ ap puts (sym (w.state-is ∙ w.in-Closed.is))
     ]
 
 scan-again-2 : tie.Need-scan-preserved invariant-scan decreases-scan

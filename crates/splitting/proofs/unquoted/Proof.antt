@@ -1,5 +1,5 @@
 -- `splitting::unquoted` meets its contract, test by test. Assumes nothing.
-use Prim.Native.Nat.{ℕ, ◌-◌}
+use Prim.Native.Nat.{ℕ}
 use mathlib.Core.Path.{◌≡◌, ◌∙◌, ap, sym}
 use mathlib.Core.List.{List}
 use Rattle.splitting.specs.declared.Quoted.TheVariants.{Str}

@@ -1,7 +1,6 @@
 use Prim.Native.Nat.{◌-◌, ◌≤◌, ◌<◌}
 use native.Mathlib.Omega.{arith}
 use mathlib.Core.Path.{◌≡◌}
-use borrow.Author.Tests.{ltb-true, ltb-false}
 use borrow.Author.Rules.{rules}
 use lib.ListN.{length, take}
 use Rattle.text.specs.Text.{size, padded, change_of}

@@ -26,7 +26,7 @@ by c p e =
     ap behind_one (sym e ∙ behind c) ∙ sym (past_some (comment c) space.if-comment-eq0.false space.if-comment-ne32.false)
 
 -- the unit that an arm knows starts and ends within the comment
-within : (c : tie.In-Between) → 
+within : (c : tie.In-Between) →
     (c.in-Between.from ≤ c.in-Between.to) × (c.in-Between.to < length (comment c.before))
 within c =
     let s = comment c.before in

@@ -18,7 +18,7 @@ same_length c = search rules
 
 returns : tie.Need-returns
 returns c =
-    let start = c.before.before.before.before.before.before.before.before.before in
+    let start = c in
     let a = start.args in
     c.write_into.ensures
     ∙ number-asked (λ (v : Value). write_of a.name.now v a.text.now (comment_of (is_set a.commented) a.comment.now))

@@ -34,7 +34,7 @@ asked : (c : tie.After-exceeds invariant-loop decreases-loop)
     → let l = c.before.before in
     c.exceeds.result ≡ ltb (room l) (length (doubled (drop l.loop-i.i (start l).args.s.now)))
 asked c =
-    let l = c.before.before in
+    let l = c in
     c.exceeds.ensures
     ∙ ap₂ (λ (n : ℕ) (t : List ℕ). ltb (68 - n) (length (doubled t))) l.tail_length-room.ensures
     c.rest_of.ensures

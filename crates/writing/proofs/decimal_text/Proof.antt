@@ -39,11 +39,11 @@ joined-text-requires c κs = search rules
 
 returns : tie.Need-returns
 returns c =
-    let second = c.before in
-    let first = second.before.before in
-    let scale = first.before.before.before in
-    let sign = scale.before.before in
-    let start = sign.before.before in
+    let second = c in
+    let first = second in
+    let scale = first in
+    let sign = scale in
+    let start = sign in
     let a = start.args in
     let d = a.digits.now in
     let u = minus_of a.minus ++ d in

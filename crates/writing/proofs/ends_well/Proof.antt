@@ -10,7 +10,7 @@ last-of-requires c κs = search rules
 
 returns : tie.Need-returns-then-last-eq38
 returns c =
-    let asked = c.before in
+    let asked = c in
     sym (ends_open asked.args.s.now asked.last_of-last.ensures c.if-last-eq38.true)
 
 same-bytes-requires : tie.Need-same_bytes-requires
@@ -18,14 +18,14 @@ same-bytes-requires c κs = search rules
 
 returns-2 : tie.Need-returns-then-last-eq-SPACE
 returns-2 c =
-    let second = c.before.before in
-    let asked = second.before.before in
+    let second = c in
+    let asked = second in
     c.same_bytes.ensures ∙ sym (ends_spaced asked.args.s.now asked.last_of-last.ensures second.if-last-eq-SPACE.true)
 
 returns-3 : tie.Need-returns
 returns-3 c =
-    let first = c.before in
-    let asked = first.before in
+    let first = c in
+    let asked = first in
     sym (ends_so asked.args.s.now asked.last_of-last.ensures first.if-last-eq38.false c.if-last-eq-SPACE.false)
 
 pub ends_well_spec : {M : Type 1} → statement M

@@ -28,11 +28,11 @@ is-allowed-requires c κs = search rules
 
 returns : tie.Need-returns-then-not-is_allowed invariant-loop decreases-loop
 returns c =
-    let asked = c.before in
-    let l = asked.before.before.before in
+    let asked = c in
+    let l = asked in
     let a = l.args in
     let more = asked.loop-i-test.true in
-    let odd = sym asked.is_allowed.ensures ∙ not-true _ c.if-not-is_allowed.true in
+    let odd = sym asked.is_allowed.ensures ∙ c.if-not-is_allowed.true in
     sym (every_stop (allowed_of a.allowed) a.s.now l.loop-i.i more odd) ∙ l.loop-i.invariant.1
 
 add-i : tie.Need-overflow_add-i invariant-loop decreases-loop
@@ -43,16 +43,16 @@ loop-less c = search rules
 
 loop-again : tie.Need-loop-i-preserved invariant-loop decreases-loop
 loop-again c =
-    let asked = c.before in
-    let l = asked.before.before.before in
+    let asked = c in
+    let l = asked in
     let a = l.args in
     let more = asked.loop-i-test.true in
-    let good = sym asked.is_allowed.ensures ∙ not-false _ c.if-not-is_allowed.false in
+    let good = sym asked.is_allowed.ensures ∙ c.if-not-is_allowed.false in
     (omega arith, every_step (allowed_of a.allowed) a.s.now l.loop-i.i more good ∙ l.loop-i.invariant.1)
 
 returns-2 : tie.Need-returns invariant-loop decreases-loop
 returns-2 c =
-    let l = c.before in
+    let l = c in
     let a = l.args in
     sym (every-end (allowed_of a.allowed) a.s.now l.loop-i.i c.loop-i-test.false) ∙ l.loop-i.invariant.1
 

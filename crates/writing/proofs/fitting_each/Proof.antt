@@ -34,10 +34,10 @@ bytes-for-requires-2 c κs = search rules
 -- the character at i fits
 fits : (c : tie.Then-bytes_for-left invariant-loop decreases-loop)
     → bytes_for (get_or c.args.s.now c.loop-i.i 0)
-    ≤ c.loop-i.false
+    ≤ c.loop-i.left
 fits c =
-    let f = c.before in
-    let l = f.before.before.before in
+    let f = c in
+    let l = f in
     rw f.bytes_for.ensures at (c.if-bytes_for-left.true)
 
 sub-left : tie.Need-overflow_sub-left invariant-loop decreases-loop
@@ -51,27 +51,27 @@ loop-less c = search rules
 
 loop-again : tie.Need-loop-i-preserved invariant-loop decreases-loop
 loop-again c =
-    let l = c.before.before.before.before.before.before in
+    let l = c in
     let s = l.args.s.now in
     let more = c.loop-i-test.true in
-    let part = ap length (fit_step s l.loop-i.false l.loop-i.i more (fits c.before.before)) in
+    let part = ap length (fit_step s l.loop-i.left l.loop-i.i more (fits c.before.before)) in
     (omega arith, rw c.bytes_for-left.ensures (omega (arith, part, l.loop-i.invariant.1)))
 
 returns : tie.Need-returns-else-bytes_for-left invariant-loop decreases-loop
 returns c =
-    let f = c.before in
-    let l = f.before.before.before in
+    let f = c in
+    let l = f in
     let s = l.args.s.now in
     let b = get_or s l.loop-i.i 0 in
-    let over : l.loop-i.false < bytes_for b =
+    let over : l.loop-i.left < bytes_for b =
     rw f.bytes_for.ensures at (c.if-bytes_for-left.false) in
-    omega (arith, ap length (fit_stop s l.loop-i.false l.loop-i.i f.loop-i-test.true over), l.loop-i.invariant.1)
+    omega (arith, ap length (fit_stop s l.loop-i.left l.loop-i.i f.loop-i-test.true over), l.loop-i.invariant.1)
 
 returns-2 : tie.Need-returns-after-loop-i invariant-loop decreases-loop
 returns-2 c =
-    let l = c.before in
+    let l = c in
     let s = l.args.s.now in
-    omega (arith, ap length (fit_end s l.loop-i.false l.loop-i.i c.loop-i-test.false), l.loop-i.invariant.1)
+    omega (arith, ap length (fit_end s l.loop-i.left l.loop-i.i c.loop-i-test.false), l.loop-i.invariant.1)
 
 pub fitting_each_spec : {M : Type 1} → statement M
 fitting_each_spec =

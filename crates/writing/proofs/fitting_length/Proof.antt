@@ -24,10 +24,10 @@ returns c = search rules
 
 returns-2 : tie.Need-returns
 returns-2 c =
-    let asked = c.before in
-    let f = asked.before in
+    let asked = c in
+    let f = asked in
     let a = f.args in
-    let bare = sym asked.every_byte.ensures ∙ not-false _ c.if-not-every_byte.false in
+    let bare = sym asked.every_byte.ensures ∙ c.if-not-every_byte.false in
     let part : every is_bare (take a.room a.s.now) ≡ true = sym (ap (every is_bare) f.first_of-part.ensures) ∙ bare in
     ap length (f.first_of-part.ensures ∙ sym (bare_fitting a.room a.s.now part))
 

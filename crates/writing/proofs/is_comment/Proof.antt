@@ -11,19 +11,19 @@ is-short-requires c κs = search rules
 
 returns : tie.Need-returns-then-not-is_short
 returns c =
-    let asked = c.before in
-    rw (sym asked.is_short.ensures ∙ not-true _ c.if-not-is_short.true)
+    let asked = c in
+    rw (sym asked.is_short.ensures ∙ c.if-not-is_short.true)
 
 is-remark-requires : tie.Need-is_remark-requires
 is-remark-requires c κs = search rules
 
 returns-2 : tie.Need-returns-then-commented
 returns-2 c =
-    let known = c.before in
-    let asked = known.before.before in
+    let known = c in
+    let asked = known in
     let a = asked.args in
     c.is_remark.ensures
-    ∙ comment-some a.commented a.comment.now (sym asked.is_short.ensures ∙ not-false _ known.if-not-is_short.false)
+    ∙ comment-some a.commented a.comment.now (sym asked.is_short.ensures ∙ known.if-not-is_short.false)
     known.if-commented.true
 
 returns-3 : tie.Need-returns

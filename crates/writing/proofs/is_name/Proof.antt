@@ -15,9 +15,9 @@ every-byte-requires c κs = search rules
 
 returns-2 : tie.Need-returns-then-not-every_byte
 returns-2 c =
-    let asked = c.before in
-    let short = asked.before in
-    let odd = sym asked.every_byte.ensures ∙ not-true _ c.if-not-every_byte.true in
+    let asked = c in
+    let short = asked in
+    let odd = sym asked.every_byte.ensures ∙ c.if-not-every_byte.true in
     sym (name_odd short.args.name.now short.if-name-gt-NAME_ROOM.false odd)
 
 class-of-requires : tie.Need-class_of-requires
@@ -28,10 +28,10 @@ is-other-requires c κs = search rules
 
 returns-3 : tie.Need-returns
 returns-3 c =
-    let good = c.before.before in
-    let asked = good.before in
-    let short = asked.before in
-    let every = sym asked.every_byte.ensures ∙ not-false _ good.if-not-every_byte.false in
+    let good = c in
+    let asked = good in
+    let short = asked in
+    let every = sym asked.every_byte.ensures ∙ good.if-not-every_byte.false in
     c.is_other.ensures
     ∙ ap is_other c.class_of.ensures
     ∙ sym (name_class short.args.name.now short.if-name-gt-NAME_ROOM.false every)

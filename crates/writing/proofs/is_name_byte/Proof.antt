@@ -35,7 +35,7 @@ is-capital-requires c κs = search rules
 
 returns : tie.Need-returns-then-is_capital
 returns c =
-    let asked = c.before in
+    let asked = c in
     capital asked.args.b (sym asked.is_capital.ensures ∙ c.if-is_capital.true)
 
 is-digit-requires : tie.Need-is_digit-requires

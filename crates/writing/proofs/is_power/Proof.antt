@@ -13,13 +13,13 @@ sub-if2 c = search rules
 
 returns-2 : tie.Need-returns-then-power
 returns-2 c =
-    let some = c.before in
+    let some = c in
     let a = some.args in
     power_below a.digits.now some.if-digits-eq0.false a.power (rw (to_z-of_z some.ranges.power) at c.if-power.true)
 
 returns-3 : tie.Need-returns
 returns-3 c =
-    let some = c.before in
+    let some = c in
     let a = some.args in
     let power = to_z-of_z some.ranges.power in
     rw power (power_from a.digits.now some.if-digits-eq0.false a.power (rw power at c.if-power.false))

@@ -15,8 +15,8 @@ every-byte-requires c κs = search rules
 
 returns : tie.Need-returns-then-not-every_byte
 returns c =
-    let asked = c.before in
-    sym (remark_odd asked.args.comment.now (sym asked.every_byte.ensures ∙ not-true _ c.if-not-every_byte.true))
+    let asked = c in
+    sym (remark_odd asked.args.comment.now (sym asked.every_byte.ensures ∙ c.if-not-every_byte.true))
 
 last-of-requires : tie.Need-last_of-requires
 last-of-requires c κs = search rules
@@ -24,9 +24,9 @@ last-of-requires c κs = search rules
 returns-2 : tie.Need-returns
 unfolding ends_with
 returns-2 c =
-    let asked = c.before.before in
+    let asked = c in
     let s = asked.args.comment.now in
-    let good = sym asked.every_byte.ensures ∙ not-false _ c.if-not-every_byte.false in
+    let good = sym asked.every_byte.ensures ∙ c.if-not-every_byte.false in
     ap (λ (b : ℕ). not (eqb b 32)) c.last_of.ensures ∙ sym (remark_end s good)
 
 pub is_remark_spec : {M : Type 1} → statement M

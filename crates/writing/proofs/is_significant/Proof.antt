@@ -14,8 +14,8 @@ every-byte-requires c κs = search rules
 
 returns : tie.Need-returns-then-not-every_byte
 returns c =
-    let asked = c.before in
-    sym (digits_odd asked.args.digits.now (sym asked.every_byte.ensures ∙ not-true _ c.if-not-every_byte.true))
+    let asked = c in
+    sym (digits_odd asked.args.digits.now (sym asked.every_byte.ensures ∙ c.if-not-every_byte.true))
 
 trimmed-requires : tie.Need-trimmed-requires
 trimmed-requires c κs = search rules
@@ -25,12 +25,12 @@ same-bytes-requires c κs = search rules
 
 returns-2 : tie.Need-returns
 returns-2 c =
-    let cut = c.before in
-    let asked = cut.before.before in
+    let cut = c in
+    let asked = cut in
     let d = asked.args.digits.now in
     c.same_bytes.ensures
     ∙ ap (λ (l : List ℕ). same l d) cut.trimmed.ensures
-    ∙ sym (digits_ends d (sym asked.every_byte.ensures ∙ not-false _ cut.if-not-every_byte.false))
+    ∙ sym (digits_ends d (sym asked.every_byte.ensures ∙ cut.if-not-every_byte.false))
 
 pub is_significant_spec : {M : Type 1} → statement M
 is_significant_spec =

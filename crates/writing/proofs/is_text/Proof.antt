@@ -14,19 +14,19 @@ every-byte-requires c κs = search rules
 
 returns-2 : tie.Need-returns-then-not-every_byte
 returns-2 c =
-    let asked = c.before in
+    let asked = c in
     let s = asked.args.s.now in
-    sym (text_odd s (sym asked.every_byte.ensures ∙ not-true _ c.if-not-every_byte.true))
+    sym (text_odd s (sym asked.every_byte.ensures ∙ c.if-not-every_byte.true))
 
 ends-well-requires : tie.Need-ends_well-requires
 ends-well-requires c κs = search rules
 
 returns-3 : tie.Need-returns
 returns-3 c =
-    let good = c.before in
-    let asked = good.before in
-    let short = asked.before in
-    let every = sym asked.every_byte.ensures ∙ not-false _ good.if-not-every_byte.false in
+    let good = c in
+    let asked = good in
+    let short = asked in
+    let every = sym asked.every_byte.ensures ∙ good.if-not-every_byte.false in
     c.ends_well.ensures ∙ sym (text-end short.args.s.now short.if-s-gt-TEXT_LIMIT.false every)
 
 pub is_text_spec : {M : Type 1} → statement M

@@ -39,13 +39,13 @@ shared-slice-read-put-byte c = search rules
 
 put-byte-requires : tie.Need-put_byte-j-requires invariant-loop decreases-loop
 put-byte-requires c κs =
-    let test = c.before.before in
-    let f = test.before in
-    let l = f.before.before.before in
+    let test = c in
+    let f = test in
+    let l = f.before.before.before.before.before.before in
     let s = l.args.s.now in
     let b = get_or s l.loop-i.i 0 in
     let fit : bytes_for b ≤ end_of l - l.loop-i.j =
-    rw f.bytes_for.ensures at (leb-true f.bytes_for.result (end_of l - l.loop-i.j) test.if-bytes_for-end.true) in
+    rw f.bytes_for.ensures at (test.if-bytes_for-end.true) in
     omega (arith, fit, l.loop-i.invariant.below, l.loop-i.invariant.long, l.requires)
 
 add-i : tie.Need-overflow_add-i invariant-loop decreases-loop
@@ -56,14 +56,14 @@ loop-less c = search rules
 
 loop-again : tie.Need-loop-i-preserved invariant-loop decreases-loop
 loop-again c =
-    let put = c.before.before in
-    let test = put.before.before.before in
-    let f = test.before in
-    let l = f.before.before.before in
+    let put = c in
+    let test = put in
+    let f = test in
+    let l = f.before.before.before.before.before.before.before.before.before in
     let s = l.args.s.now in
     let b = get_or s l.loop-i.i 0 in
     let fit : bytes_for b ≤ end_of l - l.loop-i.j =
-    rw f.bytes_for.ensures at (leb-true f.bytes_for.result (end_of l - l.loop-i.j) test.if-bytes_for-end.true) in
+    rw f.bytes_for.ensures at (test.if-bytes_for-end.true) in
     let more = f.loop-i-test.true in
     fills_on l.loop-i.invariant more fit put.put_byte-j.ensures.0 (search rules) put.put_byte-j.ensures.1
 
@@ -72,12 +72,12 @@ same_length c = search rules
 
 returns : tie.Need-returns-else-bytes_for-end invariant-loop decreases-loop
 returns c =
-    let f = c.before in
-    let l = f.before.before.before in
+    let f = c in
+    let l = f.before.before.before.before in
     let s = l.args.s.now in
     let b = get_or s l.loop-i.i 0 in
     let over : end_of l - l.loop-i.j < bytes_for b =
-    rw f.bytes_for.ensures at (leb-false f.bytes_for.result (end_of l - l.loop-i.j) c.if-bytes_for-end.false) in
+    rw f.bytes_for.ensures at (c.if-bytes_for-end.false) in
     let none = fit_stop s (end_of l - l.loop-i.j) l.loop-i.i f.loop-i-test.true over in
     let v = l.loop-i.invariant in
     (filled-count v none, (filled-place v none, filled-bytes v none))

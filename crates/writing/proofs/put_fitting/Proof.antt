@@ -40,13 +40,13 @@ same-length-2 c = search rules
 
 returns-2 : tie.Need-returns
 returns-2 c =
-    let put = c.before.before in
-    let known = put.before.before in
-    let asked = known.before in
-    let f = asked.before in
+    let put = c in
+    let known = put in
+    let asked = known in
+    let f = asked in
     let a = f.args in
     let t = take a.room a.s.now in
-    let bare = sym asked.every_byte.ensures ∙ not-false _ known.if-not-every_byte.false in
+    let bare = sym asked.every_byte.ensures ∙ known.if-not-every_byte.false in
     let part : every is_bare t ≡ true = sym (ap (every is_bare) f.first_of-part.ensures) ∙ bare in
     let fit : fitting a.room a.s.now ≡ t = bare_fitting a.room a.s.now part in
     let is : f.first_of-part.result.now ≡ doubled (fitting a.room a.s.now) =

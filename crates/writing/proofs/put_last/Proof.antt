@@ -36,7 +36,7 @@ sub-room c = omega (arith, c.tail_length-room.ensures, room (start c))
 
 put-piece-requires : tie.Need-put_piece-requires
 put-piece-requires c κs =
-    let t = c.before.before in
+    let t = c.before.before.before in
     (omega (arith, t.tail_length-room.ensures, room (start t)), (start t).requires.1)
 
 same_length : tie.Need-shape_of-block
@@ -44,8 +44,8 @@ same_length c = search rules
 
 returns : tie.Need-returns
 returns c =
-    let piece = c.before.before in
-    let t = piece.before.before.before in
+    let piece = c in
+    let t = piece.before.before.before.before.before.before in
     let a = (start t).args in
     let s = a.s.now in
     let own = comment_of a.commented a.comment.now in

@@ -25,9 +25,9 @@ same_length c = simp length-set (search rules)
 
 returns : tie.Need-returns
 returns c =
-    let spaces = c.before.before in
-    let put = spaces.before.before.before.before in
-    let start = put.before.before.before.before in
+    let spaces = c in
+    let put = spaces in
+    let start = put in
     name-put start.args.block.now start.args.name.now start.requires.0 put.put_at.ensures spaces.put_spaces.ensures
 
 pub put_name_spec : {M : Type 1} → statement M

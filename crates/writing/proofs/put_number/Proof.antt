@@ -28,9 +28,9 @@ add-put-tail c = search rules
 
 put-tail-requires : tie.Need-put_tail-requires
 put-tail-requires c κs =
-    let put = c.before.before.before in
-    let m = put.before.before.before.before.before.before in
-    let start = m.before.before.before.before in
+    let put = c in
+    let m = put in
+    let start = m in
     let t = start.args.t.now in
     let own = comment_of start.args.commented start.args.comment.now in
     let fit = leb-true (length (plain_text t own)) 70 start.requires.0 in
@@ -41,10 +41,10 @@ same_length c = search rules
 
 returns : tie.Need-returns
 returns c =
-    let tail = c.before.before in
-    let put = tail.before.before.before.before in
-    let spaces = put.before.before.before.before in
-    let m = spaces.before.before in
+    let tail = c in
+    let put = tail in
+    let spaces = put in
+    let m = spaces in
     let a = m.args in
     let own = comment_of a.commented a.comment.now in
     let place = ap (λ (n : ℕ). 10 + n) m.margin-start.ensures in

@@ -29,8 +29,8 @@ same_length c = search rules
 
 returns : tie.Need-returns
 returns c =
-    let put = c.before.before in
-    let piece = put.before.before.before.before.before in
+    let put = c in
+    let piece = put in
     let a = piece.args in
     let t = piece_text (open_piece a.s.now) in
     let d = a.block.now in

@@ -47,8 +47,8 @@ add-put-tail-2 c = search rules
 
 put-tail-requires : tie.Need-put_tail-requires
 put-tail-requires c κs =
-    let put = c.before.before.before in
-    let f = put.before.before.before.before in
+    let put = c in
+    let f = put.before.before.before.before.before.before.before in
     let p = place f in
     (omega (arith, p), omega (arith, quoted f, (start f).requires.1))
 
@@ -59,9 +59,9 @@ same_length c =
 
 returns : tie.Need-returns
 returns c =
-    let tail = c.before.before in
-    let put = tail.before.before.before.before in
-    let f = put.before.before.before.before in
+    let tail = c in
+    let put = tail in
+    let f = put.before.before.before.before.before.before.before.before.before.before in
     let a = (start f).args in
     let t = fitting a.room a.s.now in
     let own = comment_of a.commented a.comment.now in (

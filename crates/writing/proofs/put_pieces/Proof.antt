@@ -43,7 +43,7 @@ taken c = c.put_open-i.ensures.0 ∙ ap (λ (t : List ℕ). length (fitting open
 
 loop-holds : tie.Need-loop-left-init invariant-loop decreases-loop
 loop-holds c =
-    let start = c.before.before.before in
+    let start = c in
     let a = start.args in
     goes a.s.now (comment_of a.commented a.comment.now) a.block.now start.requires.1 start.requires.2
 
@@ -52,7 +52,7 @@ rest-of-requires c κs = search rules
 
 put-open-requires : tie.Need-put_open-i-requires invariant-loop decreases-loop
 put-open-requires c κs =
-    let o = c.before.before in
+    let o = c in
     omega (arith, o.loop-left.invariant.room, o.loop-left.invariant.long, o.loop-left-test.true)
 
 add-i : tie.Need-overflow_add-i invariant-loop decreases-loop
@@ -62,7 +62,7 @@ add-i c =
 
 add_at : tie.Need-overflow_add-at invariant-loop decreases-loop
 add_at c =
-    let o = c.before.before.before.before.before in
+    let o = c in
     record { fits = omega (arith, o.loop-left.invariant.room, o.loop-left-test.true) }
 
 sub-left : tie.Need-overflow_sub-left invariant-loop decreases-loop
@@ -75,7 +75,7 @@ loop-again : tie.Need-loop-left-preserved invariant-loop decreases-loop
 loop-again c =
     let put = c.before.before in
     let o = put.before.before.before in
-    let l = o.before in
+    let l = o in
     let body : List ℕ → List ℕ = λ t. sets l.loop-left.block l.loop-left.at (body_of (piece_text (open_piece t)) ++ continue_front) in
     let stored = put.put_open-i.ensures.1 ∙ ap body put.rest_of.ensures in
     goes_on l.loop-left.invariant (taken put) o.loop-left-test.true (opened-here o) (search rules) stored
@@ -85,8 +85,8 @@ rest-of-requires-2 c κs = search rules
 
 put-last-requires : tie.Need-put_last-requires invariant-loop decreases-loop
 put-last-requires c κs =
-    let after = c.before.before in
-    let l = after.before in
+    let after = c in
+    let l = after.before.before.before in
     let rest = drop l.loop-left.i (start l).args.s.now in
     let short = (start l).requires.0 in
     let few : length (pieces_of rest (own l)) ≤ 1 = omega (arith, l.loop-left.invariant.count, after.loop-left-test.false) in
@@ -97,9 +97,9 @@ same_length c = search rules
 
 returns : tie.Need-returns invariant-loop decreases-loop
 returns c =
-    let put = c.before.before in
-    let after = put.before.before.before in
-    let l = after.before in
+    let put = c in
+    let after = put in
+    let l = after.before.before.before.before.before.before in
     let body : List ℕ → List ℕ = λ t. sets l.loop-left.block l.loop-left.at (body_of (piece_text (last_piece t (own l)))) in
     let stored = put.put_last.ensures ∙ ap body put.rest_of-2.ensures in
     went l.loop-left.invariant (start l).requires.0 after.loop-left-test.false stored

@@ -61,9 +61,9 @@ same_length c =
 
 returns : tie.Need-returns-then-commented
 returns c =
-    let spaces = c.before.before in
-    let put = spaces.before.before.before.before in
-    let some = put.before.before in
+    let spaces = c in
+    let put = spaces in
+    let some = put.before.before.before.before.before.before.before.before in
     let a = (start some).args in
     tail_put a.block.now a.from a.end a.comment.now put.put_at.ensures spaces.put_spaces.ensures
     ∙ ap (λ (t : List ℕ). sets a.block.now a.from (spaced (a.end - a.from) t))
@@ -77,8 +77,8 @@ same-length-2 c = search rules
 
 returns-2 : tie.Need-returns
 returns-2 c =
-    let spaces = c.before.before in
-    let none = spaces.before.before in
+    let spaces = c in
+    let none = spaces in
     let a = none.args in
     spaces.put_spaces-2.ensures
     ∙ ap (sets a.block.now a.from) (spaced-is (a.end - a.from) (a.end - a.from) [] (omega arith))

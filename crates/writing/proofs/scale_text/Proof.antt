@@ -13,7 +13,7 @@ text-of-requires c κs = search rules
 
 returns : tie.Need-returns-then-digits-eq0
 returns c =
-    let none = c.before.before in
+    let none = c in
     let a = none.args in
     c.text_of.ensures ∙ ap text_of (scale_none a.digits.now a.power none.if-digits-eq0.true)
 
@@ -22,8 +22,8 @@ power-text-requires c κs = search rules
 
 returns-2 : tie.Need-returns
 returns-2 c =
-    let some = c.before in
-    let start = some.before.before in
+    let some = c in
+    let start = some in
     let a = start.args in
     c.power_text.ensures
     ∙ ap (λ (z : ℤ). text_of (power_text 69 z)) (to_z-of_z start.ranges.power)

@@ -13,7 +13,7 @@ joined-text-requires c κs = search rules
 
 returns : tie.Need-returns-then-minus
 returns c =
-    let known = c.before.before in
+    let known = c in
     let d = known.args.digits.now in
     c.joined_text.ensures ∙ sym (ap (λ (m : Bool). text_of (take size (minus_of m ++ d))) known.if-minus.true)
 
@@ -22,7 +22,7 @@ text-of-requires c κs = search rules
 
 returns-2 : tie.Need-returns
 returns-2 c =
-    let known = c.before in
+    let known = c in
     let d = known.args.digits.now in
     c.text_of.ensures ∙ sym (ap (λ (m : Bool). text_of (take size (minus_of m ++ d))) known.if-minus.false)
 

@@ -27,17 +27,17 @@ abbrev own : tie.Else-not-is_name → Comment
 own c = comment_of (start c).args.commented (start c).args.comment.now
 
 good : (c : tie.Else-not-is_name) → is_name (start c).args.name.now ≡ true
-good c = sym c.is_name.ensures ∙ not-false _ c.if-not-is_name.false
+good c = sym c.is_name.ensures ∙ c.if-not-is_name.false
 
 commented-well : (c : tie.Else-not-is_comment) → (is_short text_room (own c.before.before) && is_comment (own c.before.before)) ≡ true
-commented-well c = sym c.is_comment.ensures ∙ not-false _ c.if-not-is_comment.false
+commented-well c = sym c.is_comment.ensures ∙ c.if-not-is_comment.false
 
 returns : tie.Need-returns-then-not-is_name
 returns c =
-    let asked = c.before.before in
+    let asked = c in
     let a = asked.args in
     let o = comment_of a.commented a.comment.now in
-    let bad = sym asked.is_name.ensures ∙ not-true _ c.if-not-is_name.true in
+    let bad = sym asked.is_name.ensures ∙ c.if-not-is_name.true in
     let is = name-refused a.name.now a.value a.text.now o a.block.now bad in
     (c.refused.ensures ∙ sym (ap (λ (w : WriteOutcome). w.answer) is), sym (ap (λ (w : WriteOutcome). w.block) is))
 
@@ -49,10 +49,10 @@ refused-requires-2 c κs = search rules
 
 returns-2 : tie.Need-returns-then-not-is_comment
 returns-2 c =
-    let asked = c.before.before in
-    let named = asked.before in
+    let asked = c in
+    let named = asked.before.before.before in
     let a = (start named).args in
-    let bad = sym asked.is_comment.ensures ∙ not-true _ c.if-not-is_comment.true in
+    let bad = sym asked.is_comment.ensures ∙ c.if-not-is_comment.true in
     let is = value_refused_lem a.name.now a.value a.text.now (own named) a.block.now (good named) bad in
     (c.refused-then-not-is_comment.ensures ∙ sym (ap (λ (w : WriteOutcome). w.answer) is), sym (ap (λ (w : WriteOutcome). w.block) is))
 
@@ -68,8 +68,8 @@ same_length c = search rules
 
 returns-3 : tie.Need-returns
 returns-3 c =
-    let put = c.before.before in
-    let fine = put.before.before in
+    let put = c in
+    let fine = put.before.before.before.before in
     let named = fine.before.before in
     let a = (start named).args in
     let is = put.write_value.ensures

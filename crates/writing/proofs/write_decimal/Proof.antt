@@ -29,18 +29,18 @@ abbrev start : tie.After-is_significant → tie.Start
 start c = c.before.before.before.before.before.before
 
 significant : (c : tie.Else-not-is_significant) → is_significant (start c.before).args.digits.now ≡ true
-significant c = sym c.is_significant.ensures ∙ not-false _ c.if-not-is_significant.false
+significant c = sym c.is_significant.ensures ∙ c.if-not-is_significant.false
 
 powered : (c : tie.After-is_power)
     → let s = start c.before.before in
     c.is_power.result ≡ is_power s.args.digits.now s.args.power
 powered c =
     let s = start c.before.before in
-    c.is_power.ensures ∙ ap (is_power s.args.digits.now) (to_z-of_z s.fits.power)
+    c.is_power.ensures ∙ ap (is_power s.args.digits.now) (to_z-of_z s.ranges.power)
 
 returns : tie.Need-returns-then-digits-gt-TEXT_ROOM
 returns c =
-    let long = c.before in
+    let long = c in
     let a = long.args in
     let o = comment_of a.commented a.comment.now in
     let over = decimal_over a.minus a.digits.now a.power o long.if-digits-gt-TEXT_ROOM.true in
@@ -65,7 +65,7 @@ returns-2 c =
     let asked = c.before.before in
     let a = (start asked).args in
     let o = comment_of a.commented a.comment.now in
-    let odd : is_significant a.digits.now ≡ false = sym asked.is_significant.ensures ∙ not-true _ c.if-not-is_significant.true in
+    let odd : is_significant a.digits.now ≡ false = sym asked.is_significant.ensures ∙ c.if-not-is_significant.true in
     put_refused
     (is_value (Float a.minus (Finite a.power)) a.digits.now o)
     (plain_cards a.name.now (decimal_text a.minus a.digits.now a.power) o)
@@ -85,7 +85,7 @@ returns-3 c =
     let asked = p.before.before in
     let a = (start asked).args in
     let o = comment_of a.commented a.comment.now in
-    let far : is_power a.digits.now a.power ≡ false = sym (powered p) ∙ not-true _ c.if-not-is_power.true in
+    let far : is_power a.digits.now a.power ≡ false = sym (powered p) ∙ c.if-not-is_power.true in
     put_refused
     (is_value (Float a.minus (Finite a.power)) a.digits.now o)
     (plain_cards a.name.now (decimal_text a.minus a.digits.now a.power) o)
@@ -104,18 +104,18 @@ same_length c = search rules
 
 returns-4 : tie.Need-returns
 returns-4 c =
-    let put = c.before.before in
-    let d = put.before.before in
-    let good = d.before in
-    let p = good.before in
+    let put = c in
+    let d = put in
+    let good = d in
+    let p = good.before.before.before.before.before.before in
     let asked = p.before.before in
     let s = start asked in
     let a = s.args in
     let o = comment_of a.commented a.comment.now in
     let w = decimal_text a.minus a.digits.now a.power in
-    let fine : is_power a.digits.now a.power ≡ true = sym (powered p) ∙ not-false _ good.if-not-is_power.false in
+    let fine : is_power a.digits.now a.power ≡ true = sym (powered p) ∙ good.if-not-is_power.false in
     let made = d.decimal_text.ensures
-    ∙ ap (λ (z : ℤ). text_of (take size (decimal_text a.minus a.digits.now z))) (to_z-of_z s.fits.power) in
+    ∙ ap (λ (z : ℤ). text_of (take size (decimal_text a.minus a.digits.now z))) (to_z-of_z s.ranges.power) in
     let both : (is_significant a.digits.now && is_power a.digits.now a.power) ≡ true = rw (significant p.before, fine) in
     put.write_plain.ensures
     ∙ ap (λ (l : List ℕ). put_where (fits_card l o) (plain_cards a.name.now l o) a.block.now) (text-bytes (take size w) made)

@@ -31,7 +31,7 @@ first-of-requires c κs = search rules
 
 fits-card-requires : tie.Need-fits_card-requires
 fits-card-requires c κs =
-    let start = c.before.before.before.before.before.before in
+    let start = c in
     let t = start.args.t in
     let long : length t.bytes ≡ 80 = search rules in
     (omega (arith, ap length c.first_of-own.ensures, length-take t.len t.bytes, long), start.requires.1)
@@ -56,13 +56,13 @@ fit c =
     ∙ sym (ap (λ (n : ℕ). leb n 70) (plain_length (held c) (own c)))
 
 has_room : (c : tie.Else-not-fits_card) → fits_card (held c.before) (own c.before) ≡ true
-has_room c = sym (fit c.before) ∙ not-false _ c.if-not-fits_card.false
+has_room c = sym (fit c.before) ∙ c.if-not-fits_card.false
 
 returns : tie.Need-returns-then-not-fits_card
 returns c =
     let f = c.before.before in
     let s = start f in
-    let no_room = sym (fit f) ∙ not-true _ c.if-not-fits_card.true in
+    let no_room = sym (fit f) ∙ c.if-not-fits_card.true in
     put_refused (fits_card (held f) (own f)) (plain_cards s.args.name.now (held f) (own f)) s.args.block.now no_room
     c.refused.ensures
 
@@ -71,10 +71,10 @@ refused-requires-2 c κs = search rules
 
 returns-2 : tie.Need-returns-then-block-lt-CARD
 returns-2 c =
-    let test = c.before in
-    let f = test.before.before in
+    let test = c in
+    let f = test.before.before.before in
     let s = start f in
-    let room = has_room test.before in
+    let room = has_room test.before.before in
     let cards = plain_cards s.args.name.now (held f) (own f) in
     let short : length s.args.block.now < length (flat cards) =
     omega (arith, plain_bytes s.args.name.now (held f) (own f) s.requires.0 room, test.if-block-lt-CARD.true) in
@@ -85,27 +85,27 @@ put-name-requires c κs = search rules
 
 put-number-requires : tie.Need-put_number-requires
 put-number-requires c κs =
-    let named = c.before.before.before in
-    let test = named.before.before in
-    let f = test.before.before in
-    (rw f.first_of-own.ensures (has_room test.before), omega (arith, test.if-block-lt-CARD.false))
+    let named = c in
+    let test = named in
+    let f = test in
+    (rw f.first_of-own.ensures (has_room test.before.before.before.before.before.before), omega (arith, test.if-block-lt-CARD.false))
 
 same_length : tie.Need-shape_of-block
 same_length c = search rules
 
 returns-3 : tie.Need-returns
 returns-3 c =
-    let put = c.before.before in
-    let named = put.before.before.before.before in
-    let test = named.before.before in
-    let f = test.before.before in
+    let put = c in
+    let named = put in
+    let test = named in
+    let f = test.before.before.before.before.before.before.before.before.before.before in
     let s = start f in
     let name = s.args.name.now in
     let d = s.args.block.now in
-    let room = has_room test.before in
+    let room = has_room test.before.before.before.before.before.before.before.before.before in
     let t = plain_text (held f) (own f) in
     let body = put.put_number.ensures
-    ∙ ap (λ (l : List ℕ). sets named.put_name.new.1.0 10 (body_of (plain_text l (own f)))) f.first_of-own.ensures in
+    ∙ ap (λ (l : List ℕ). sets named.put_name.new.block 10 (body_of (plain_text l (own f)))) f.first_of-own.ensures in
     let there : 10 ≡ 0 + length (name_front name) = omega (arith, front_length name s.requires.0) in
     let stored = sets_then d 0 (name_front name) (body_of t) named.put_name.ensures there body
     ∙ sym (ap (sets d 0) (plain_flat name (held f) (own f) s.requires.0)) in

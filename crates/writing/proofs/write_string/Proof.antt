@@ -40,7 +40,7 @@ abbrev cards : tie.After-is_text → List (List ℕ)
 cards c = string_cards (start c).args.name.now (pieces_of (start c).args.text.now (own c))
 
 short-enough : (c : tie.After-is_text) → is_short remark_limit (own c) ≡ true
-short-enough c = sym c.is_short.ensures ∙ not-false _ c.if-not-is_short.false
+short-enough c = sym c.is_short.ensures ∙ c.if-not-is_short.false
 
 tail : (c : tie.After-is_text) → length (tail_of (own c)) ≤ 67
 tail c = short_tail 65 (own c) (short-enough c)
@@ -51,15 +51,15 @@ bytes c = string-length (start c).args.name.now (start c).args.text.now (own c) 
 writable : (c : tie.Else-not-is_text) → (is_text (start c.before).args.text.now && is_short remark_limit (own c.before)) ≡ true
 writable c =
     let t = c.before in
-    let good : is_text (start t).args.text.now ≡ true = sym t.is_text.ensures ∙ not-false _ c.if-not-is_text.false in
+    let good : is_text (start t).args.text.now ≡ true = sym t.is_text.ensures ∙ c.if-not-is_text.false in
     rw (good, short-enough t)
 
 returns : tie.Need-returns-then-not-is_short
 returns c =
-    let asked = c.before.before in
+    let asked = c in
     let a = asked.args in
     let o = comment_of a.commented a.comment.now in
-    let long = sym asked.is_short.ensures ∙ not-true _ c.if-not-is_short.true in
+    let long = sym asked.is_short.ensures ∙ c.if-not-is_short.true in
     put_refused
     (is_text a.text.now && is_short remark_limit o)
     (string_cards a.name.now (pieces_of a.text.now o))
@@ -77,7 +77,7 @@ returns-2 : tie.Need-returns-then-not-is_text
 returns-2 c =
     let t = c.before.before in
     let a = (start t).args in
-    let odd : is_text a.text.now ≡ false = sym t.is_text.ensures ∙ not-true _ c.if-not-is_text.true in
+    let odd : is_text a.text.now ≡ false = sym t.is_text.ensures ∙ c.if-not-is_text.true in
     put_refused
     (is_text a.text.now && is_short remark_limit (own t))
     (cards t)
@@ -93,31 +93,31 @@ refused-requires-3 c κs = search rules
 
 returns-3 : tie.Need-returns-then-block-n
 returns-3 c =
-    let test = c.before in
-    let count = test.before in
-    let t = count.before.before in
+    let test = c in
+    let count = test in
+    let t = count.before.before.before.before in
     let a = (start t).args in
     let short : length a.block.now < length (flat (cards t)) = omega (arith, bytes t, count.count_pieces-n.ensures, test.if-block-n.true) in
     put-short
     (is_text a.text.now && is_short remark_limit (own t))
     (cards t)
     a.block.now
-    (writable count.before)
+    (writable count.before.before.before)
     short
     c.refused-then-block-n.ensures
 
 put-name-requires : tie.Need-put_name-requires
 put-name-requires c κs =
-    let count = c.before.before in
-    let t = count.before.before in
+    let count = c in
+    let t = count.before.before.before.before in
     let some = pieces_some (own t) (tail t) (start t).args.text.now in
     ((start t).requires, omega (arith, some, count.count_pieces-n.ensures, c.if-block-n.false))
 
 put-pieces-requires : tie.Need-put_pieces-requires
 put-pieces-requires c κs =
-    let test = c.before.before.before.before.before in
-    let count = test.before in
-    let t = count.before.before in
+    let test = c in
+    let count = test in
+    let t = count.before.before.before.before.before.before.before.before in
     (tail t, count.count_pieces-n.ensures, omega (arith, test.if-block-n.false))
 
 same_length : tie.Need-shape_of-block
@@ -125,11 +125,11 @@ same_length c = search rules
 
 returns-4 : tie.Need-returns
 returns-4 c =
-    let put = c.before.before in
-    let named = put.before.before.before.before in
-    let test = named.before.before in
-    let count = test.before in
-    let t = count.before.before in
+    let put = c in
+    let named = put in
+    let test = named in
+    let count = test in
+    let t = count.before.before.before.before.before.before.before.before.before.before.before in
     let a = (start t).args in
     let d = a.block.now in
     let name = a.name.now in
@@ -143,7 +143,7 @@ returns-4 c =
     (is_text a.text.now && is_short remark_limit (own t))
     (cards t)
     d
-    (writable count.before)
+    (writable count.before.before.before.before.before.before.before.before.before.before)
     fit
     (n ∙ sym (string-count name ps))
     stored

@@ -115,10 +115,10 @@ refusal c v no_way e f =
 
 returns : tie.Need-returns-in-Integer
 returns c =
-    let put = c.before.before in
-    let made = put.before.before in
-    let known = made.before in
-    let s = known.before in
+    let put = c in
+    let made = put in
+    let known = made in
+    let s = known.before.before.before.before.before.before in
     let a = (start s).args in
     let o = comment_of a.commented a.comment.now in
     let z = known.in-Integer.z in
@@ -135,10 +135,10 @@ same-length-2 c = search rules
 
 returns-2 : tie.Need-returns-in-Finite
 returns-2 c =
-    let put = c.before.before in
-    let known = put.before.before in
-    let value = known.before in
-    let s = value.before in
+    let put = c in
+    let known = put in
+    let value = known in
+    let s = value.before.before.before.before.before.before in
     let minus = value.in-Float.minus in
     let power = known.in-Finite.power in
     let fit : SFits w64 power = record { sfits = known.in-Finite.known_told-in-Float-1-own.given.0.1 } in
@@ -148,29 +148,29 @@ returns-2 c =
 
 returns-3 : tie.Need-returns-in-Infinite
 returns-3 c =
-    let told = c.before in
-    let value = told.before in
+    let told = c in
+    let value = told in
     let minus = value.in-Float.minus in
     let is = value.in-Float.is ∙ ap (λ (z : Size). Float minus z) told.in-Infinite.is in
-    refusal value.before (Float minus Infinite) refl is c.refused.ensures
+    refusal value.before.before.before (Float minus Infinite) refl is c.refused.ensures
 
 returns-4 : tie.Need-returns-in-Nan
 returns-4 c =
-    let told = c.before in
-    let value = told.before in
+    let told = c in
+    let value = told in
     let minus = value.in-Float.minus in
     let is = value.in-Float.is ∙ ap (λ (z : Size). Float minus z) told.in-Nan.is in
-    refusal value.before (Float minus Nan) refl is c.refused-in-Nan.ensures
+    refusal value.before.before.before (Float minus Nan) refl is c.refused-in-Nan.ensures
 
 same-length-3 : tie.Need-shape_of-block-in-Logical
 same-length-3 c = search rules
 
 returns-5 : tie.Need-returns-in-Logical
 returns-5 c =
-    let put = c.before.before in
-    let made = put.before.before in
-    let known = made.before in
-    let s = known.before in
+    let put = c in
+    let made = put in
+    let known = made in
+    let s = known.before.before.before.before.before.before in
     let a = (start s).args in
     let o = comment_of a.commented a.comment.now in
     let t = known.in-Logical.t in
@@ -184,21 +184,21 @@ same-length-4 c = search rules
 
 returns-6 : tie.Need-returns-in-String
 returns-6 c =
-    let put = c.before.before in
-    let told = put.before.before in
-    let s = told.before in
+    let put = c in
+    let told = put in
+    let s = told.before.before.before.before.before in
     put.write_string.ensures ∙ by s String told.in-String.is
 
 returns-7 : tie.Need-returns-in-Undefined
 returns-7 c =
-    let told = c.before in
-    let s = told.before in
+    let told = c in
+    let s = told.before.before in
     refusal s Undefined refl told.in-Undefined.is c.refused-in-Undefined.ensures
 
 returns-8 : tie.Need-returns-in-Invalid
 returns-8 c =
-    let told = c.before in
-    let s = told.before in
+    let told = c in
+    let s = told.before.before in
     refusal s Invalid refl told.in-Invalid.is c.refused-in-Invalid.ensures
 
 pub write_value_spec : {M : Type 1} → statement M

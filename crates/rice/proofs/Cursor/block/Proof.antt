@@ -51,7 +51,7 @@ returns c =
     let b = c.before.before in
     let a = (start b).args in
     outcome c.step_refused.ensures (block-short a.width a.tile.now a.self a.part.now
-    (taken-short _ _ (sym (took b) ∙ c.in_default.is)))
+    (taken-short a.self _ (sym (took b) ∙ c.in_default.is)))
 
 code-requires : tie.Need-code-requires
 code-requires c κs = search rules
@@ -68,7 +68,7 @@ found-field : (k : tie.In-Bits)
     ≡ found k.in-Bits.field k.in-Bits.start.bit)
     × (k.in-Bits.start ≡ moved (start k.before).args.self
     k.in-Bits.start.bit)
-found-field k = taken-found _ _ _ _ (sym (took k.before) ∙ k.in-Bits.is)
+found-field k = taken-found (start k.before).args.self _ _ _ (sym (took k.before) ∙ k.in-Bits.is)
 
 step-refused-requires-2 : tie.Need-step_refused-requires-in_default-code
 step-refused-requires-2 c κs = tt
@@ -144,9 +144,9 @@ same-length-2 c = search rules
 
 returns-4 : tie.Need-returns
 returns-4 c =
-    let t = c.before.before.before in
-    let is = known t.before _ t.in-Same.is in
-    let w = in_width_lem t.before.before.before in (
+    let t = c in
+    let is = known t.before.before.before.before _ t.in-Same.is in
+    let w = in_width_lem t.before.before.before.before.before.before in (
       (c.level.ensures _ w _).0 ∙ sym (ap (λ (o : StepOutcome). o.answer) is),
       (c.level.ensures _ w _).1 ∙ sym (ap (λ (o : StepOutcome). o.content) is),
     )

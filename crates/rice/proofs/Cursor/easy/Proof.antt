@@ -50,7 +50,7 @@ returns-3 c = search rules
 
 ones-requires : tie.Need-ones-requires
 ones-requires c κs =
-    let a = c.before.before.before.before.before.before.before.before.before in
+    let a = c in
     subst (λ (n : ℕ). Standing a.args.width a.args.tile.now a.args.nx n a.args.self a.args.pixels.now)
     c.if-nblock-eq1.true a.requires
 
@@ -59,10 +59,10 @@ same-length-3 c = search rules
 
 returns-4 : tie.Need-returns-then-nblock-eq1
 returns-4 c =
-    let o = c.before in
+    let o = c in
     let a = o.args in
     subst (λ (n : ℕ). Reaches a.width a.tile.now a.nx n a.self a.pixels.now o.ones.result
-    o.ones.new.1.1.1.1.0)
+    o.ones.new.pixels)
     (sym o.if-nblock-eq1.true) o.ones.ensures
 
 splits-requires : tie.Need-splits-requires

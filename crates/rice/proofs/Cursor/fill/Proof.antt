@@ -32,8 +32,8 @@ level-is c = c.level_of.ensures.1 ∙ to_z-of_z {w = w32} (record { sfits = omeg
 
 each-requires : tie.Need-each-requires
 each-requires c κs =
-    let m = c.before in
-    let l = m.before in
+    let m = c in
+    let l = m.before.before in
     let pre = (start l).requires in (
       (pre.0.0, pre.0.2, (m.mask.ensures, l.negatives-below.ensures), omega (arith, pre.1.1)),
       (pre.0.1, l.level_of.ensures.0, omega arith),
@@ -57,19 +57,19 @@ levelled k = k.before.before.before.before.before
 
 whole : (k : tie.In-To)
     → CameTo (start (levelled k)).args.width (start (levelled k)).args.code (start (levelled k)).args.tile.now
-    (start (levelled k)).args.part.now k.each.new.1.1.1.1.1.1.0
+    (start (levelled k)).args.part.now k.each.new.part
     (spot_at (start (levelled k)).args.self.bit (levelled k).level_of.result) (To k.in-To.at)
 whole k =
-    let e = k.before.before in
+    let e = k in
     let a = (start (levelled k)).args in
     subst
-    (CameTo a.width a.code a.tile.now a.part.now e.each.new.1.1.1.1.1.1.0
+    (CameTo a.width a.code a.tile.now a.part.now e.each.new.part
     (spot_at a.self.bit (levelled k).level_of.result)) k.in-To.is e.each.ensures
 
 pixel-by-requires : tie.Need-pixel_by-requires
 pixel-by-requires c κs =
     let k = c.before in
-    let e = k.before.before in
+    let e = k in
     (e.negatives-below.ensures, (whole k).1)
 
 same_length : tie.Need-shape_of-part-in-Short
@@ -77,12 +77,12 @@ same_length c = search rules
 
 returns : tie.Need-returns-in-Short
 returns c =
-    let w = c.before in
-    let e = w.before.before in
-    let l = e.before.before.before in
+    let w = c in
+    let e = w in
+    let l = e.before.before.before.before.before.before in
     let a = (start l).args in
     let short = subst
-    (CameTo a.width a.code a.tile.now a.part.now e.each.new.1.1.1.1.1.1.0
+    (CameTo a.width a.code a.tile.now a.part.now e.each.new.part
     (spot_at a.self.bit l.level_of.result)) w.in-Short.is e.each.ensures in
     let all = coded_as a.width a.code a.tile.now a.self a.part.now l.level_of.result _ (level-is l) short.0 in
     (c.step_refused.ensures ∙ sym (ap (λ (o : StepOutcome). o.answer) all), sym (ap (λ (o : StepOutcome). o.content) all))
@@ -93,8 +93,8 @@ same-length-2 c = search rules
 returns-2 : tie.Need-returns-in-To
 returns-2 c =
     let k = c.before.before in
-    let e = k.before.before in
-    let l = e.before.before.before in
+    let e = k in
+    let l = e.before.before.before.before.before in
     let a = (start l).args in
     let came = whole k in
     let end = k.in-To.at.bit in

@@ -68,17 +68,17 @@ bits-so : (c : tie.After-least-many)
     → (start c.before.before.before).args.self.bit + c.least-many.result * c.fs_bits-size.result
     ≤ bits_in (start c.before.before.before).args.tile.now
 bits-so c =
-    let z = c.before in
-    let f = z.before.before in
-    bits_fit (start f).requires _ _ _ _ f.fs_bits-size.ensures (looked z.before) z.zeros-zeros.ensures c.least-many.ensures
+    let z = c in
+    let f = z.before.before.before in
+    bits_fit (start f).requires _ _ _ _ f.fs_bits-size.ensures (looked z.before.before) z.zeros-zeros.ensures c.least-many.ensures
 
 pixels-so : (c : tie.After-least-many)
     → (start c.before.before.before).args.self.done + c.least-many.result * (start c.before.before.before).args.nblock
     ≤ (start c.before.before.before).args.nx
 pixels-so c =
-    let z = c.before in
-    let f = z.before.before in
-    pixels_fit (start f).requires _ _ _ _ f.fs_bits-size.ensures (looked z.before) z.zeros-zeros.ensures c.least-many.ensures
+    let z = c in
+    let f = z.before.before.before in
+    pixels_fit (start f).requires _ _ _ _ f.fs_bits-size.ensures (looked z.before.before) z.zeros-zeros.ensures c.least-many.ensures
 
 mul-end : tie.Need-overflow_mul-end
 mul-end c = omega (arith, pixels-so c, (facts (start c.before.before.before).requires).few)
@@ -125,12 +125,12 @@ same_length c = search rules
 
 returns : tie.Need-returns
 returns c =
-    let v = c.before.before in
-    let l = v.before.before in
-    let z = l.before in
-    let f = z.before.before in
+    let v = c in
+    let l = v in
+    let z = l in
+    let f = z.before.before.before.before.before.before.before in
     let a = (start f).args in
-    reach_levels (start f).requires _ _ _ _ f.fs_bits-size.ensures (looked z.before) z.zeros-zeros.ensures l.least-many.ensures _ _
+    reach_levels (start f).requires _ _ _ _ f.fs_bits-size.ensures (looked z.before.before.before.before.before.before) z.zeros-zeros.ensures l.least-many.ensures _ _
     (last-is (start f)) (v.level.ensures a.width (facts (start f).requires).last a.tile.now).1
 
 pub levels_spec : {M : Type 1} → statement M

@@ -54,7 +54,7 @@ ones-holds c = onto-start _ _ (first c) c.level_of-level.ensures.0 (start c).req
 
 next-one-requires : tie.Need-next_one-requires invariant-ones decreases-ones
 next-one-requires c κs =
-    let a = c.before.before.before.before.before.before in
+    let a = c in
     ((facts c.ones.invariant.reach.standing).tile, a.fs_bits-size.ensures, a.fs_top-top.ensures)
 
 enum-known-u : tie.Need-enum_known-u invariant-ones decreases-ones
@@ -63,11 +63,11 @@ enum-known-u c = search rules
 enum_told : tie.Need-enum_told-1 invariant-ones decreases-ones
 enum_told c = search rules
 
-abbrev at_ones : tie.In-Of-2 invariant-ones decreases-ones → tie.At-ones invariant-ones decreases-ones
+abbrev at_ones : tie.In-Of invariant-ones decreases-ones → tie.At-ones invariant-ones decreases-ones
 at_ones k = k.before.before.before
 
 -- the block that is found
-block : (k : tie.In-Of-2 invariant-ones decreases-ones)
+block : (k : tie.In-Of invariant-ones decreases-ones)
     → Single (start (at_ones k).before).args.width (start (at_ones k).before).args.tile.now (at_ones k).ones.bit
     k.in-Of.u k.in-Of.end
 block k =
@@ -78,7 +78,7 @@ store-requires : tie.Need-store-level-requires invariant-ones decreases-ones
 store-requires c κs =
     let k = c.before in
     let l = at_ones k in
-    let s = l.before in
+    let s = l in
     let o = l.ones.invariant in (
       (s.mask-mask.ensures, s.negatives-below.ensures),
       o.small,
@@ -94,8 +94,8 @@ ones-less c = search rules
 
 ones-again : tie.Need-ones-preserved invariant-ones decreases-ones
 ones-again c =
-    let t = c.before in
-    let k = t.before.before in
+    let t = c in
+    let k = t.before.before.before in
     onto-one (at_ones k).ones.invariant k.ones-test.true _ _ _ _ (block k) t.store-level.ensures.0.0
     t.store-level.ensures.0.1 t.store-level.ensures.1
 
@@ -107,8 +107,8 @@ same_length c = c.ones.invariant.reach.standing.sized ∙ sym (start c.before.be
 
 returns : tie.Need-returns invariant-ones decreases-ones
 returns c =
-    let l = c.before.before in
-    onto-end (start l.before).args.self l.level_of-level.result (first l.before) l.ones.invariant _
+    let l = c in
+    onto-end (start l.before.before.before).args.self l.level_of-level.result (first l.before.before.before) l.ones.invariant _
     (to_z-of_z {w = w32} (record { sfits = c.pixel_by.type_inv }) ∙ c.pixel_by.ensures)
 
 pub ones_spec : {M : Type 1} → statement M

@@ -112,7 +112,7 @@ abbrev here : tie.Else-window-size invariant-raws decreases-raws → tie.After-s
 here k = k.before.before.before
 
 abbrev size : tie.Else-window-size invariant-raws decreases-raws → ℕ
-size k = (at-raws (here k)).before.before.before.before.before.before.fs-bits.result
+size k = (at-raws (here k)).before.before.before.before.before.before.fs_bits-size.result
 
 abbrev field : tie.Else-window-size invariant-raws decreases-raws → ℕ
 field k = k.window.result / 2 ^ (64 - size k)
@@ -121,7 +121,7 @@ near : (k : tie.Else-window-size invariant-raws decreases-raws) → (at-raws (he
 near k = omega (arith, k.if-tile-bit.false)
 
 size_is : (k : tie.Else-window-size invariant-raws decreases-raws) → size k ≡ fs_bits (args (here k)).args.width
-size_is k = (at-raws (here k)).before.before.before.before.before.before.fs-bits.ensures
+size_is k = (at-raws (here k)).before.before.before.before.before.before.fs_bits-size.ensures
 
 field_is : (k : tie.Else-window-size invariant-raws decreases-raws)
     → field_read (args (here k)).args.tile.now (at-raws (here k)).raws.bit (fs_bits (args (here k)).args.width)
@@ -135,7 +135,7 @@ code_is : (k : tie.Else-window-size invariant-raws decreases-raws)
 code_is k =
     let w = (args (here k)).args.width in
     let t = (at-raws (here k)).before.before.before.before.before in
-    let top : field k ≡ fs_top w + 1 = k.if-window-size.false ∙ ap (λ (n : ℕ). n + 1) t.fs-top.ensures in
+    let top : field k ≡ fs_top w + 1 = k.if-window-size.false ∙ ap (λ (n : ℕ). n + 1) t.fs_top-raw.ensures in
     code_raw w (field k) (λ e. absurd (omega arith)) (omega arith) top
 
 -- the part has a block's pixels
@@ -145,23 +145,23 @@ part-long : (k : tie.Else-window-size invariant-raws decreases-raws)
     ≡ (args (here k)).args.nblock
 part-long k =
     let l = (at-raws (here k)).raws in
-    let f = facts l.inv.reach.standing in
+    let f = facts l.invariant.reach.standing in
     let n = (args (here k)).args.nblock in
     mid_len l.done (l.done + n) l.pixels (omega (arith, f.sized, f.done, (here k).raws-test.true)) ∙ omega arith
 
 add-end : tie.Need-overflow_add-end invariant-raws decreases-raws
 add-end c =
-    let f = facts (at-raws (here c)).raws.inv.reach.standing in
+    let f = facts (at-raws (here c)).raws.invariant.reach.standing in
     omega (arith, f.done, f.few, (here c).raws-test.true)
 
 add-bit : tie.Need-overflow_add-bit-in-raws-2 invariant-raws decreases-raws
 add-bit c =
-    let f = facts (at-raws (here c)).raws.inv.reach.standing in
+    let f = facts (at-raws (here c)).raws.invariant.reach.standing in
     omega (arith, near c, f.tile, size_is c, (sizes (args (here c)).args.width).field)
 
 mul-raw-block : tie.Need-offset_bounds-pixels-done invariant-raws decreases-raws
 mul-raw-block c =
-    let f = facts (at-raws (here c)).raws.inv.reach.standing in
+    let f = facts (at-raws (here c)).raws.invariant.reach.standing in
     omega (arith, f.done, f.few)
 
 sub-raw-block : tie.Need-slice_bounds-raw_block-count invariant-raws decreases-raws
@@ -172,7 +172,7 @@ part-raw-block-start c = search rules
 
 part-raw-block-end : tie.Need-slice_bounds-raw_block-end invariant-raws decreases-raws
 part-raw-block-end c =
-    let f = facts (at-raws (here c)).raws.inv.reach.standing in
+    let f = facts (at-raws (here c)).raws.invariant.reach.standing in
     omega (arith, f.sized, f.done, (here c).raws-test.true)
 
 raw-block-requires : tie.Need-raw_block-level-requires invariant-raws decreases-raws
@@ -186,9 +186,9 @@ raw-block-requires c κs =
     ap₂ (λ (a b : ℕ). a * b) (sym (here k).start_bytes.ensures) (part-long k)
     in (
       (
-        (facts l.raws.inv.reach.standing).tile,
-        (l.before.before.before.before.mask.ensures, l.before.before.before.negatives.ensures),
-        l.raws.inv.small,
+        (facts l.raws.invariant.reach.standing).tile,
+        (l.before.before.before.before.mask-mask.ensures, l.before.before.before.negatives-below.ensures),
+        l.raws.invariant.small,
       ),
       omega (arith, same, size_is k, (sizes w).field, k.if-tile-bit.false),
     )
@@ -202,7 +202,7 @@ block c = c.before.before.before.before
 bits_fit : (c : tie.After-bits invariant-raws decreases-raws) → c.bits.result * (args (here (block c))).args.nblock ≤ 32 * 65536
 bits_fit c =
     mul-le-mul {n₁ = c.bits.result} {n₂ = 32} (omega (arith, c.bits.ensures, (sizes (args (here (block c))).args.width).width))
-    (facts (at-raws (here (block c))).raws.inv.reach.standing).blocks
+    (facts (at-raws (here (block c))).raws.invariant.reach.standing).blocks
 
 mul-bit : tie.Need-overflow_mul-bit invariant-raws decreases-raws
 mul-bit c = omega (arith, bits_fit c)
@@ -210,24 +210,24 @@ mul-bit c = omega (arith, bits_fit c)
 add-bit-2 : tie.Need-overflow_add-bit-in-raws-3 invariant-raws decreases-raws
 add-bit-2 c =
     let k = block c in
-    let f = facts (at-raws (here k)).raws.inv.reach.standing in
+    let f = facts (at-raws (here k)).raws.invariant.reach.standing in
     omega (arith, bits_fit c, near k, f.tile, size_is k, (sizes (args (here k)).args.width).field)
 
 raws-less : tie.Need-raws-smaller invariant-raws decreases-raws
 raws-less c =
     let k = block c in
-    omega (arith, (here k).raws-test.true, (facts (at-raws (here k)).raws.inv.reach.standing).block)
+    omega (arith, (here k).raws-test.true, (facts (at-raws (here k)).raws.invariant.reach.standing).block)
 
 raws-again : tie.Need-raws-preserved invariant-raws decreases-raws
 raws-again c =
     let k = block c in
-    let b = c.before.before in
+    let b = c in
     let w = (args (here k)).args.width in
     let l = at-raws (here k) in
     let to = ap₂ (λ (m n : ℕ). l.raws.bit + size k + m * n) (sym c.bits.ensures) (part-long k) in
-    onto-block l.raws.inv _ refl (here k).raws-test.true _ _ _ (field_is k) (code_is k) _ _ _ b.raw_block-level.ensures.1
+    onto-block l.raws.invariant _ refl (here k).raws-test.true _ _ _ (field_is k) (code_is k) _ _ _ b.raw_block-level.ensures.1
     (b.raw_block-level.ensures.0
-    ∙ ap (λ (p : ℕ). whole_at p (raised w b.raw_block-level.result) b.raw_block-level.new.1.1.1.1.1.1.0) to)
+    ∙ ap (λ (p : ℕ). whole_at p (raised w b.raw_block-level.result) b.raw_block-level.new.part) to)
 
 pixel-by-requires : tie.Need-pixel_by-requires invariant-raws decreases-raws
 pixel-by-requires c κs = (c.negatives-below.ensures, c.raws.invariant.small)
@@ -237,8 +237,8 @@ same_length c = c.raws.invariant.reach.standing.sized ∙ sym (start c.before.be
 
 returns : tie.Need-returns invariant-raws decreases-raws
 returns c =
-    let l = c.before.before in
-    onto-end (start l.before).args.self l.level_of-level.result (first l.before) l.raws.invariant _
+    let l = c in
+    onto-end (start l.before.before.before).args.self l.level_of-level.result (first l.before.before.before) l.raws.invariant _
     (to_z-of_z {w = w32} (record { sfits = c.pixel_by.type_inv }) ∙ c.pixel_by.ensures)
 
 pub raws_spec : {M : Type 1} → statement M

@@ -32,7 +32,7 @@ start k = (at-loop k).before.before
 
 -- the pixels after the easy blocks
 abbrev pixels : tie.After-easy-easy invariant-loop decreases-loop → List ℤ
-pixels k = k.easy-easy.new.1.1.1.1.1.0
+pixels k = k.easy-easy.new.pixels
 
 reached : (k : tie.After-easy-easy invariant-loop decreases-loop)
     → Reaches (start k).args.width (start k).args.tile.now (start k).args.nx (start k).args.nblock (start k).args.self
@@ -61,7 +61,7 @@ part-block-start c = search rules
 abbrev easy-of : tie.Else-done-easy invariant-loop decreases-loop → tie.After-easy-easy invariant-loop decreases-loop
 easy-of c = c.before.before.before
 
-place : (c : tie.Else-done-easy invariant-loop decreases-loop) → (at-loop (easy-of c)).loop.c.done ≡ (easy-of c).easy-easy.result.done
+place : (c : tie.Else-done-easy invariant-loop decreases-loop) → (at-loop (easy-of c)).loop-c.c.done ≡ (easy-of c).easy-easy.result.done
 place c = omega (arith, c.if-done-easy.false, (easy-of c).easy-easy.ensures.further)
 
 left : (c : tie.Else-done-easy invariant-loop decreases-loop) → (easy-of c).easy-easy.result.done < (start (easy-of c)).args.nx
@@ -92,8 +92,8 @@ enum-known-next c = search rules
 
 loop-less-2 : tie.Need-loop-c-smaller invariant-loop decreases-loop
 loop-less-2 c =
-    let b = c.before.before in
-    let k = b.before.before in
+    let b = c in
+    let k = b.before.before.before.before in
     let e = easy-of k.before in
     let on = bounded (reached e).standing (left k.before) _ _ (place k.before) (end_is k) _
     (sym c.in-Next.is ∙ b.block.ensures.0) in
@@ -101,8 +101,8 @@ loop-less-2 c =
 
 loop-again-2 : tie.Need-loop-c-preserved invariant-loop decreases-loop
 loop-again-2 c =
-    let b = c.before.before in
-    let k = b.before.before in
+    let b = c in
+    let k = b.before.before.before.before in
     let e = easy-of k.before in
     reach_on (reached e)
     (reach-block (reached e).standing (left k.before) _ _ (place k.before) (end_is k) _ b.block.ensures.1 _
@@ -113,8 +113,8 @@ enum-known-fault c = search rules
 
 add-all : tie.Need-overflow_add-all invariant-loop decreases-loop
 add-all c =
-    let b = c.before.before in
-    let k = b.before.before in
+    let b = c in
+    let k = b.before.before.before.before in
     let e = easy-of k.before in
     let on = bounded (reached e).standing (left k.before) _ _ (place k.before) (end_is k) _
     (sym c.in-Refused.is ∙ b.block.ensures.0) in
@@ -122,16 +122,16 @@ add-all c =
 
 same_length : tie.Need-shape_of-pixels-in-Refused invariant-loop decreases-loop
 same_length c =
-    let b = c.before.before in
-    let k = b.before.before in
+    let b = c in
+    let k = b.before.before.before.before in
     let e = easy-of k.before in
     put-sized (reached e).standing (left k.before) _ _ (place k.before) (end_is k) _ b.block.ensures.1
     ∙ (reached e).standing.sized ∙ sym (start e).requires.sized
 
 returns : tie.Need-returns-in-Refused invariant-loop decreases-loop
 returns c =
-    let b = c.before.before in
-    let k = b.before.before in
+    let b = c in
+    let k = b.before.before.before.before in
     let e = easy-of k.before in
     told-refused (reached e) _ _ (left k.before) (place k.before) (end_is k) _ _ _
     (sym c.in-Refused.is ∙ b.block.ensures.0) b.block.ensures.1
@@ -141,16 +141,16 @@ enum_told c = search rules
 
 same-length-2 : tie.Need-shape_of-pixels-in-Done invariant-loop decreases-loop
 same-length-2 c =
-    let b = c.before.before in
-    let k = b.before.before in
+    let b = c in
+    let k = b.before.before.before.before in
     let e = easy-of k.before in
     put-sized (reached e).standing (left k.before) _ _ (place k.before) (end_is k) _ b.block.ensures.1
     ∙ (reached e).standing.sized ∙ sym (start e).requires.sized
 
 returns-2 : tie.Need-returns-in-Done invariant-loop decreases-loop
 returns-2 c =
-    let b = c.before.before in
-    let k = b.before.before in
+    let b = c in
+    let k = b.before.before.before.before in
     let e = easy-of k.before in
     absurd (bounded (reached e).standing (left k.before) _ _ (place k.before) (end_is k) _
     (sym c.in-Done.is ∙ b.block.ensures.0))

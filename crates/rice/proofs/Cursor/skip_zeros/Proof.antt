@@ -33,8 +33,8 @@ at-requires c κs = search rules
 
 returns-3 : tie.Need-returns-then-n-left
 returns-3 c =
-    let z = c.before.before in
-    let e = z.before.before in
+    let z = c in
+    let e = z in
     let a = e.args in
     ap (Bits z.zeros-n.result) c.at.ensures
     ∙ sym (skip_read _ _ e.if-tile-gt-MOST_BYTES.false
@@ -42,8 +42,8 @@ returns-3 c =
 
 returns-4 : tie.Need-returns-else-n-left
 returns-4 c =
-    let z = c.before in
-    let e = z.before.before in
+    let z = c in
+    let e = z in
     let a = e.args in
     sym (skip_read _ _ e.if-tile-gt-MOST_BYTES.false
     ∙ ap (taken_of a.self) (run_short a.tile.now a.self.bit _ z.zeros-n.ensures c.if-n-left.false))

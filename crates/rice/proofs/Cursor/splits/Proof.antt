@@ -6,7 +6,6 @@ use native.Mathlib.Omega.{arith}
 use borrow.Author.Rules.{rules}
 use borrow.Rule.Slice.PartMut.{put_mid}
 use mathlib.Core.List.{List}
-use mathlib.Core.Logic.{⊎_elim}
 use lib.IntN.{ℤ}
 use mir.Syntax.{w32}
 use mir.Val.{to_z, of_z}
@@ -25,6 +24,7 @@ use Rattle.rice.proofs.Reaching.{facts, field-some}
 use Rattle.rice.proofs.Blockwise.{counted, Onto, onto-start, onto-end, onto-block, onto-cut, window_field, part_small}
 use Rattle.rice.proofs.Cursor.splits.Statement.{statement}
 use Rattle.rice.proofs.Cursor.splits.Tie as tie
+use Rattle.rice.proofs.Cursor.splits.Lts.{else-splits-test, then-splits-test+then-tile-bit, then-splits-test+else-tile-bit+then-field-eq0, then-splits-test+else-tile-bit+else-field-eq0+then-top-field, then-splits-test+else-tile-bit+else-field-eq0+else-top-field+in_default}
 
 abbrev invariant-splits : tie.invariant-splits
 invariant-splits tile width nx nblock pixels₀ size top mask below last bit₀ done₀ level₀ pixels bit done level =
@@ -100,7 +100,7 @@ field_is : (k : tie.Else-top-field invariant-splits decreases-splits)
     → field_read (args k).args.tile.now (at-splits k).splits.bit (fs_bits (args k).args.width)
     ≡ found (field k) ((at-splits k).splits.bit + size k)
 field_is k =
-    let w = k.before.before in
+    let w = k in
     window_field (args k).args.width (args k).args.tile.now (at-splits k).splits.bit w.window.result (size k)
     (at-splits k).fs_bits-size.ensures w.if-tile-bit.false w.window.ensures
 
@@ -161,8 +161,8 @@ splits-less c =
 
 splits-again : tie.Need-splits-preserved invariant-splits decreases-splits
 splits-again c =
-    let b = c.before.before in
-    let k = b.before.before in
+    let b = c in
+    let k = b.before.before.before.before in
     let came = subst (CameTo (args k).args.width (Split (field k - 1)) (args k).args.tile.now _ _ _) c.in-To.is
     b.split_block.ensures in
     onto-block (at-splits k).splits.invariant _ refl k.splits-test.true _ _ _ (field_is k) (code_is k)
@@ -186,7 +186,7 @@ cut_short : (b : tie.After-split_block invariant-splits decreases-splits) (n : �
     → Left (at-splits b.before.before)
     (put_mid (at-splits b.before.before).splits.done
     ((at-splits b.before.before).splits.done + (args b.before.before).args.nblock - (at-splits b.before.before).splits.done)
-    (at-splits b.before.before).splits.pixels b.split_block.new.1.1.1.1.1.1.0)
+    (at-splits b.before.before).splits.pixels b.split_block.new.part)
 cut_short b n e =
     let k = b.before.before in
     let came = subst (CameTo (args k).args.width (Split (field k - 1)) (args k).args.tile.now _ _ _) e b.split_block.ensures in
@@ -196,20 +196,28 @@ cut_short b n e =
 onto-left : (c : tie.Left-splits invariant-splits decreases-splits) → Left c.before c.splits-test.pixels
 onto-left c =
     let l = c.before in
-    ⊎_elim (λ x. stay l x.1) (⊎_elim (λ x. stay l x.2) (⊎_elim (λ x. stay l x.4) (⊎_elim (λ x. stay l x.5)
-    (λ x.
-    let k : tie.Else-top-field invariant-splits decreases-splits = record {
-      before = record {
-        before = record { before = record { before = record { before = l; splits-test = x.0 }; if1 = x.1 }; window = x.2 };
-        if2 = x.3;
-      };
-      if3 = x.4;
-    }
-    in
-    let b : tie.After-split_block invariant-splits decreases-splits =
-    record { before = record { before = k; split-block-arg = x.5 }; split-block = x.6 }
-    in
-    subst (Left l) (sym x.10) (cut_short b x.9.given.0.0 x.9.given.1))))) c.splits-test.branch
+    elim c.splits-test.branch [
+      | else-splits-test x ↦ stay l x.pixels-is
+      | then-splits-test+then-tile-bit x ↦ stay l x.pixels-is
+      | then-splits-test+else-tile-bit+then-field-eq0 x ↦ stay l x.pixels-is
+      | then-splits-test+else-tile-bit+else-field-eq0+then-top-field x ↦ stay l x.pixels-is
+      | then-splits-test+else-tile-bit+else-field-eq0+else-top-field+in_default x ↦
+          let k : tie.Else-top-field invariant-splits decreases-splits = record {
+            before = record {
+              before = record {
+                before = record { before = record { before = l; splits-test = x.splits-test }; if-tile-bit = x.if-tile-bit };
+                window = x.window;
+              };
+              if-field-eq0 = x.if-field-eq0;
+            };
+            if-top-field = x.if-top-field;
+          }
+          in
+          let b : tie.After-split_block invariant-splits decreases-splits =
+          record { before = record { before = k; split_block-arg-1 = x.split_block-arg-1 }; split_block = x.split_block }
+          in
+          subst (Left l) (sym x.pixels-is) (cut_short b x.in_default.field-0 x.in_default.is)
+    ]
 
 same_length : tie.Need-shape_of-pixels invariant-splits decreases-splits
 same_length c = (onto-left c.before).reach.standing.sized ∙ sym (start c.before.before.before).requires.sized

@@ -1,6 +1,5 @@
 -- `rice::Cursor::stands`: each test of the code is one of the definition. Assumes nothing.
 use mathlib.Core.Path.{ap, ◌∙◌}
-use mathlib.Core.Logic.{⊎_elim}
 use Prim.Native.Nat.{◌*◌, ◌≤◌}
 use native.Mathlib.Omega.{arith}
 use borrow.Author.Rules.{rules}
@@ -12,6 +11,7 @@ use Rattle.rice.proofs.Wrapping.{sizes}
 use Rattle.rice.proofs.Stepping.{stands_low, stands_past, stands-more, stands-between, stands-end, stands_edge}
 use Rattle.rice.proofs.Cursor.stands.Statement.{statement}
 use Rattle.rice.proofs.Cursor.stands.Tie as tie
+use Rattle.rice.proofs.Cursor.stands.Lts.{then-done-nx+else-done-nblock-ne0, else-done-nx}
 
 start-bytes-requires : tie.Need-start_bytes-requires
 start-bytes-requires c κs = search rules
@@ -40,8 +40,8 @@ rem-if5 c = search rules
 
 returns-4 : tie.Need-returns-then-done-nblock-ne0
 returns-4 c =
-    let e = c.before.before in
-    stands-between _ _ _ _ _ (low e.before.before) e.if-tile-bit.false e.if-nx-done.false c.if-done-nx.true
+    let e = c in
+    stands-between _ _ _ _ _ (low e.before.before.before.before) e.if-tile-bit.false e.if-nx-done.false c.if-done-nx.true
     c.if-done-nblock-ne0.true
 
 holds-requires : tie.Need-holds-requires
@@ -49,15 +49,18 @@ holds-requires c κs = search rules
 
 returns-5 : tie.Need-returns
 returns-5 c =
-    let e = c.before.before.before in
+    let e = c in
     let a = e.args in
     let fits : SFits w32 a.self.last = record { sfits = omega arith } in
     c.holds.ensures ∙ ap (in_width a.width) (to_z-of_z fits)
-    ∙ ⊎_elim (λ w. stands_edge a.width a.tile.now a.nx a.nblock a.self (low e.before.before)
-    e.if-tile-bit.false e.if-nx-done.false w.0.taken w.1.left)
-    (λ w. stands-end a.width a.tile.now a.nx a.nblock a.self (low e.before.before)
-    e.if-tile-bit.false e.if-nx-done.false w.left)
-    c.if-done-nx.branch
+    ∙ elim c.if-done-nx.branch [
+      | then-done-nx+else-done-nblock-ne0 w ↦
+          stands_edge a.width a.tile.now a.nx a.nblock a.self (low e.before.before.before.before.before)
+          e.if-tile-bit.false e.if-nx-done.false w.if-done-nx.true w.if-done-nblock-ne0.false
+      | else-done-nx w ↦
+          stands-end a.width a.tile.now a.nx a.nblock a.self (low e.before.before.before.before.before)
+          e.if-tile-bit.false e.if-nx-done.false w.if-done-nx.false
+    ]
 
 pub stands_spec : {M : Type 1} → statement M
 stands_spec =

@@ -3,7 +3,6 @@ use mathlib.Core.Path.{◌≡◌, refl, ap, sym, ◌∙◌}
 use mathlib.Core.Bool.{true}
 use Prim.Native.Nat.{◌≤◌}
 use native.Mathlib.Omega.{arith}
-use borrow.Author.Tests.{not-true, not-false}
 use borrow.Author.Rules.{rules}
 use lib.ListN.{length, length-take, length-drop}
 use Rattle.rice.specs.Blocks.{StepOutcome}
@@ -32,7 +31,7 @@ step-refused-requires c κs = tt
 
 returns : tie.Need-returns-in_default
 returns c =
-    let p = c.before.before in
+    let p = c in
     let a = p.args in
     outcome c.step_refused.ensures
     (step_limits a.tile.now a.nx a.nblock a.bits a.self a.pixels.now
@@ -67,12 +66,12 @@ step-refused-requires-3 c κs = tt
 
 returns-3 : tie.Need-returns-then-not-stands
 returns-3 c =
-    let e = c.before.before.before in
-    let a = (start e.before).args in
+    let e = c in
+    let a = (start e.before.before.before.before).args in
     outcome c.step_refused-then-not-stands.ensures
-    (step_cursor a.tile.now a.nx a.nblock a.bits a.self a.pixels.now _ (plan e.before)
+    (step_cursor a.tile.now a.nx a.nblock a.bits a.self a.pixels.now _ (plan e.before.before.before.before)
     e.if-pixels-nx.false
-    (sym c.stands.ensures ∙ not-true _ c.if-not-stands.true))
+    (sym c.stands.ensures ∙ c.if-not-stands.true))
 
 keeps : (c : tie.Else-not-stands)
     → stands c.in-Of.width
@@ -81,13 +80,13 @@ keeps : (c : tie.Else-not-stands)
     (start c.before.before.before).args.nblock
     (start c.before.before.before).args.self
     ≡ true
-keeps c = sym c.stands.ensures ∙ not-false _ c.if-not-stands.false
+keeps c = sym c.stands.ensures ∙ c.if-not-stands.false
 
 returns-4 : tie.Need-returns-then-done-nx
 returns-4 c =
     let a = c.args in
-    let e = c.before.before.before in
-    outcome refl (step_done a.tile.now a.nx a.nblock a.bits a.self a.pixels.now _ (plan e.before)
+    let e = c in
+    outcome refl (step_done a.tile.now a.nx a.nblock a.bits a.self a.pixels.now _ (plan e.before.before.before.before)
     e.if-pixels-nx.false (keeps c.before) c.if-done-nx.true)
 
 stand : (c : tie.Else-not-stands)

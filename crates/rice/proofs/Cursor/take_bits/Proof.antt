@@ -19,14 +19,14 @@ mul-total c = search rules
 
 returns-3 : tie.Need-returns-then-total-bit
 returns-3 c =
-    let e = c.before in
+    let e = c in
     let a = e.args in
     sym (take-read _ _ e.if-tile-gt-MOST_BYTES.false _ e.if-n-gt-MOST_BITS.false
     ∙ ap (taken_of a.self) (field-short a.tile.now a.self.bit a.n (omega arith)))
 
 returns-4 : tie.Need-returns-then-total-bit-2
 returns-4 c =
-    let e = c.before.before in
+    let e = c in
     let a = e.args in
     sym (take-read _ _ e.if-tile-gt-MOST_BYTES.false _ e.if-n-gt-MOST_BITS.false
     ∙ ap (taken_of a.self) (field-short a.tile.now a.self.bit a.n (omega arith)))
@@ -42,7 +42,7 @@ at-requires c κs = search rules
 
 returns-5 : tie.Need-returns
 returns-5 c =
-    let e = c.before.before.before.before in
+    let e = c in
     let a = e.args in
     ap₂ Bits c.field.ensures c.at.ensures
     ∙ sym (take-read _ _ e.if-tile-gt-MOST_BYTES.false _ e.if-n-gt-MOST_BITS.false

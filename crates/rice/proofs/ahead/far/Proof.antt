@@ -19,31 +19,31 @@ enum-known-code c = search rules
 
 far-raw-requires : tie.Need-far_raw-requires
 far-raw-requires c κs =
-    let a = c.before.before in (a.requires.0, subst CodeFits c.in-Raw.is a.requires.2)
+    let a = c in (a.requires.0, subst CodeFits c.in-Raw.is a.requires.2)
 
 enum-known-code-2 : tie.Need-enum_known-code-in-Split-1
 enum-known-code-2 c = search rules
 
 far-split-requires : tie.Need-far_split-requires
 far-split-requires c κs =
-    let a = c.before.before in (a.requires.0, subst CodeFits c.in-Split.is a.requires.2)
+    let a = c in (a.requires.0, subst CodeFits c.in-Split.is a.requires.2)
 
 returns : tie.Need-returns-in-Same
 unfolding diff_read
 returns c =
-    let a = c.before.before.before in
+    let a = c in
     bare_gives _ _ c.bare.ensures
     (ap (λ (d : Code). diff_read d a.args.tile.now a.args.bit) c.in-Same.is) a.requires.1
 
 returns-2 : tie.Need-returns-in-Raw
 returns-2 c =
-    let a = c.before.before.before in
+    let a = c in
     subst (λ (d : Code). Gives a.args.tile.now (diff_read d a.args.tile.now a.args.bit) c.far_raw.result)
     (sym c.in-Raw.is) c.far_raw.ensures
 
 returns-3 : tie.Need-returns-in-Split
 returns-3 c =
-    let a = c.before.before.before in
+    let a = c in
     subst (λ (d : Code). Gives a.args.tile.now (diff_read d a.args.tile.now a.args.bit) c.far_split.result)
     (sym c.in-Split.is) c.far_split.ensures
 

@@ -19,9 +19,9 @@ enum_told c = search rules
 returns : tie.Need-returns-in_default
 unfolding diff_read
 returns c =
-    let t = c.before in
-    let a = t.before.before in
-    taken-short _ _
+    let t = c in
+    let a = t in
+    taken-short (record { bit = a.args.bit; done = 0; last = _ }) _
     (sym (take-read _ _ a.requires.0 _ a.requires.1) ∙ sym t.take_bits.ensures ∙ c.in_default.is)
 
 bare-requires : tie.Need-bare-requires
@@ -30,9 +30,9 @@ bare-requires c κs = search rules
 returns-2 : tie.Need-returns
 unfolding diff_read
 returns-2 c =
-    let t = c.before.before in
-    let a = t.before.before in
-    let f = taken-found _ _ _ _
+    let t = c in
+    let a = t in
+    let f = taken-found (record { bit = a.args.bit; done = 0; last = _ }) _ _ _
     (sym (take-read _ _ a.requires.0 _ a.requires.1) ∙ sym t.take_bits.ensures ∙ c.in-Bits.is) in
     bare_gives _ _ c.bare.ensures f.0 (field_of _ _ _ _ _ f.0).within
 

@@ -20,7 +20,7 @@ start k = k.before.before.before
 skipped : (k : tie.In-Bits)
     → run_read (start k).args.tile.now (start k).args.bit ≡ found k.in-Bits.n
     k.in-Bits.after.bit
-skipped k = (taken-found _ _ _ _
+skipped k = (taken-found (record { bit = (start k).args.bit; done = 0; last = _ }) _ _ _
     (sym (skip_read (start k).args.tile.now _ (start k).requires.0)
     ∙ sym k.skip_zeros.ensures ∙ k.in-Bits.is)).0
 
@@ -36,7 +36,7 @@ rest : (c : tie.In-Bits-take_bits)
     ≡ found c.in-Bits-take_bits.rest c.in-Bits-take_bits.end.bit
 rest c =
     let a = start c.before.before in
-    (taken-found _ _ _ _ (sym (take-read a.args.tile.now _ a.requires.0 a.args.fs (omega (arith, a.requires.1)))
+    (taken-found c.in-Bits.after _ _ _ (sym (take-read a.args.tile.now _ a.requires.0 a.args.fs (omega (arith, a.requires.1)))
     ∙ sym c.take_bits.ensures ∙ c.in-Bits-take_bits.is)).0
 
 skip-zeros-requires : tie.Need-skip_zeros-requires
@@ -50,9 +50,9 @@ enum_told c = search rules
 
 returns : tie.Need-returns-in_default
 returns c =
-    let z = c.before in
-    let a = z.before.before in
-    split_no_run _ _ _ (taken-short _ _
+    let z = c in
+    let a = z in
+    split_no_run _ _ _ (taken-short (record { bit = a.args.bit; done = 0; last = _ }) _
     (sym (skip_read a.args.tile.now _ a.requires.0) ∙ sym z.skip_zeros.ensures
     ∙ c.in_default.is))
 
@@ -67,11 +67,11 @@ enum-told-2 c = search rules
 
 returns-2 : tie.Need-returns-in_default-take_bits
 returns-2 c =
-    let t = c.before in
-    let k = t.before in
+    let t = c in
+    let k = t.before.before in
     let a = start k in
     split_no_field _ _ _ (skipped k)
-    (taken-short _ _ (sym (take-read a.args.tile.now _ a.requires.0 a.args.fs (omega (arith, a.requires.1)))
+    (taken-short k.in-Bits.after _ (sym (take-read a.args.tile.now _ a.requires.0 a.args.fs (omega (arith, a.requires.1)))
     ∙ sym t.take_bits.ensures ∙ c.in_default-take_bits.is))
 
 shl-value : tie.Need-overflow_shl-value

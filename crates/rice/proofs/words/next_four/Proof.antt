@@ -94,7 +94,7 @@ sub-t13 c = omega (arith, least c)
 returns-4 : tie.Need-returns
 returns-4 c =
     let t = first c in
-    let st = t.before.before.before.before in
+    let st = t in
     let s = st.args.tile.now in
     let p = st.args.bit in
     let room : p + (64 - p % 8) ≤ bits_in s = omega (arith, t.if-tile-bit.false) in

@@ -31,10 +31,10 @@ returns-2 c = search rules
 
 returns-3 : tie.Need-returns
 returns-3 c =
-    let two = c.before in
-    let a = two.before in
-    let one = a.before in
-    let st = one.before.before in
+    let two = c in
+    let a = two in
+    let one = a in
+    let st = one in
     let s = st.args.tile.now in
     record {
       half = _;

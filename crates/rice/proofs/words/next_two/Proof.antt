@@ -53,7 +53,7 @@ mul-t10 c = search rules
 
 sub-t11 : tie.Need-overflow_sub-result
 sub-t11 c =
-    let u = c.before.before.before.before in
+    let u = c in
     let o : 0 < u.top_word-a.result.rest = omega (arith, c.if-after-lt1.false) in
     omega (
       arith,
@@ -63,9 +63,9 @@ sub-t11 c =
 
 returns-4 : tie.Need-returns
 returns-4 c =
-    let u = c.before.before.before.before in
-    let w = u.before.before in
-    let st = w.before.before.before in
+    let u = c in
+    let w = u in
+    let st = w in
     let s = st.args.tile.now in
     let p = st.args.bit in
     let o : 0 < u.top_word-a.result.rest = omega (arith, c.if-after-lt1.false) in

@@ -11,7 +11,7 @@ use Rattle.rice.proofs.ahead.Ahead.difference.Tie as tie
 
 held-one-requires : tie.Need-held_one-held-requires
 held-one-requires c κs =
-    let a = c.before in (a.requires.1.few, a.requires.2, omega (arith, a.requires.0, a.requires.1.within))
+    let a = c in (a.requires.1.few, a.requires.2, omega (arith, a.requires.0, a.requires.1.within))
 
 enum_told : tie.Need-enum_told-1
 enum_told c = search rules
@@ -21,16 +21,16 @@ enum-told-2 c = search rules
 
 returns : tie.Need-returns-in_default
 returns c =
-    let h = c.before in
-    let a = h.before.before in
+    let h = c in
+    let a = h in
     found-gives _ _ _ c.in_default.is (h.held_one-held.ensures a.args.tile.now a.requires.1)
 
 full-requires : tie.Need-full-requires
-full-requires c κs = let a = c.before.before.before in omega (arith, a.requires.1.within)
+full-requires c κs = let a = c in omega (arith, a.requires.1.within)
 
 held-one-requires-2 : tie.Need-held_one-fresh-requires
 held-one-requires-2 c κs =
-    let a = c.before.before.before.before in (
+    let a = c in (
       c.full.ensures.1.few,
       a.requires.2,
       subst (λ (p : ℕ). p < 2 ^ 32) (sym c.full.ensures.0) (omega (arith, a.requires.0, a.requires.1.within)),
@@ -44,16 +44,16 @@ enum-told-4 c = search rules
 
 returns-2 : tie.Need-returns-in_default-fresh
 returns-2 c =
-    let h = c.before in
-    let f = h.before in
-    let a = f.before.before.before.before in
+    let h = c in
+    let f = h in
+    let a = f in
     subst (λ (p : ℕ). Gives a.args.tile.now (diff_read a.args.code a.args.tile.now p) h.held_one-fresh.result)
     f.full.ensures.0
     (found-gives _ _ _ c.in_default-fresh.is (h.held_one-fresh.ensures a.args.tile.now f.full.ensures.1))
 
 far-requires : tie.Need-far-requires
 far-requires c κs =
-    let a = c.before.before.before.before.before.before in
+    let a = c in
     (a.requires.0, omega (arith, a.requires.1.within), a.requires.2)
 
 returns-3 : tie.Need-returns

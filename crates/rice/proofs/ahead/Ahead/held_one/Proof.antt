@@ -15,31 +15,31 @@ enum-known-code c = search rules
 
 held-raw-requires : tie.Need-held_raw-requires
 held-raw-requires c κs =
-    let a = c.before in (a.requires.0, subst CodeFits c.in-Raw.is a.requires.1, a.requires.2)
+    let a = c in (a.requires.0, subst CodeFits c.in-Raw.is a.requires.1, a.requires.2)
 
 enum-known-code-2 : tie.Need-enum_known-code-in-Split-1
 enum-known-code-2 c = search rules
 
 held-split-requires : tie.Need-held_split-requires
 held-split-requires c κs =
-    let a = c.before in
+    let a = c in
     (a.requires.0, subst CodeFits c.in-Split.is a.requires.1, a.requires.2)
 
 returns : tie.Need-returns-in-Same
 unfolding diff_read
 returns c =
-    let a = c.before in
+    let a = c in
     λ s H. (ap (λ (d : Code). diff_read d s a.args.self.bit) c.in-Same.is, H)
 
 returns-2 : tie.Need-returns-in-Raw
 returns-2 c =
-    let a = c.before.before in
+    let a = c in
     λ s H. subst (λ (d : Code). Found s (diff_read d s a.args.self.bit) c.held_raw.result)
     (sym c.in-Raw.is) (c.held_raw.ensures s H)
 
 returns-3 : tie.Need-returns-in-Split
 returns-3 c =
-    let a = c.before.before in
+    let a = c in
     λ s H. subst (λ (d : Code). Found s (diff_read d s a.args.self.bit) c.held_split.result)
     (sym c.in-Split.is) (c.held_split.ensures s H)
 

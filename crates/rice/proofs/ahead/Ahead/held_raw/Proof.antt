@@ -15,7 +15,7 @@ past-requires c κs = search rules
 
 returns : tie.Need-returns-then-n-self
 returns c =
-    let a = c.before.before.before.before in
+    let a = c in
     λ s H. raw_gives s a.args.self H a.args.n _ a.requires.1 c.if-n-self.true c.past.ensures
 
 returns-2 : tie.Need-returns-else-n-self

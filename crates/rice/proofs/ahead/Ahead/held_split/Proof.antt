@@ -52,7 +52,7 @@ past-requires c κs = search rules
 
 returns : tie.Need-returns-then-used-self
 returns c =
-    let t = c.before.before in
+    let t = c in
     let a = t.args in
     let l : a.fs ≤ 24 = search rules in
     λ s H. split_gives s a.self H (count_leading_zeros 64 a.self.held) a.fs l refl t.if-used-self.true _ c.past.ensures

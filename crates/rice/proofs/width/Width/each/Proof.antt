@@ -46,7 +46,7 @@ bare-is c = ap (λ (x : Ahead). x.bit) c.bare-a.ensures
 
 loop-holds : tie.Need-loop-i-init invariant-loop decreases-loop
 loop-holds c =
-    let s = c.before.before in
+    let s = c in
     let a = s.args in
     let b = spot c.bare-a.result a.start.level a.start.next in
     record {
@@ -72,8 +72,8 @@ same_length c = c.loop-i.invariant.on.sized
 
 returns : tie.Need-returns-in_default invariant-loop decreases-loop
 returns c =
-    let d = c.before in
-    let l = d.before.before in
+    let d = c in
+    let l = d.before.before.before in
     let a = (start l).args in
     let read : diff_read a.code a.tile.now l.loop-i.a.bit ≡ short =
     subst (Gives _ _) c.in_default.is d.difference.ensures in

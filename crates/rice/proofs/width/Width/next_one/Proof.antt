@@ -26,12 +26,12 @@ shr-field : tie.Need-overflow_shr-field
 shr-field c = omega (arith, field-some c.args.self)
 
 add-t17 : tie.Need-overflow_add-result
-add-t17 c = let st = c.before.before.before.before in omega (arith, (sizes st.args.self).field, c.if-tile-bit.false)
+add-t17 c = let st = c in omega (arith, (sizes st.args.self).field, c.if-tile-bit.false)
 
 returns-2 : tie.Need-returns-then-field-eq0
 returns-2 c =
-    let w = c.before in
-    let st = w.before.before.before in
+    let w = c in
+    let st = w in
     let s = st.args.tile.now in
     let p = st.args.bit in
     let room : p + (64 - p % 8) ≤ bits_in s = omega (arith, w.if-tile-bit.false) in
@@ -65,7 +65,7 @@ top-word-requires c κs =
 
 add-used : tie.Need-overflow_add-used
 add-used c =
-    let st = c.before.before.before.before.before.before.before.before in
+    let st = c in
     omega (arith, c.top_word-a.ensures.most, (sizes st.args.self).field)
 
 add-if5 : tie.Need-overflow_add-t-14
@@ -87,9 +87,9 @@ sub-t13 c = omega (arith, told-least c.top_word-a.ensures (some c))
 
 returns-6 : tie.Need-returns
 returns-6 c =
-    let a = c.before.before in
-    let w = a.before.before.before.before in
-    let st = w.before.before.before in
+    let a = c in
+    let w = a in
+    let st = w in
     let s = st.args.tile.now in
     let p = st.args.bit in
     let room : p + (64 - p % 8) ≤ bits_in s = omega (arith, w.if-tile-bit.false) in

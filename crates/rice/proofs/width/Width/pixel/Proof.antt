@@ -27,8 +27,8 @@ pixel-by-requires c κs =
 
 returns : tie.Need-returns
 returns c =
-    let m = c.before in
-    let n = m.before in
+    let m = c in
+    let n = m in
     let a = n.args in
     to_z-of_z {w = w32} (record { sfits = c.pixel_by.type_inv }) ∙ c.pixel_by.ensures
     ∙ ap (raised a.self) (and_width a.self (a.v + n.negatives-below.result) _ m.mask.ensures)

@@ -28,14 +28,14 @@ sub-result : tie.Need-overflow_sub-result
 sub-result c = omega (arith, (sizes c.args.self).width)
 
 sub-result-2 : tie.Need-overflow_sub-result-2
-sub-result-2 c = let a = c.before.before.before in omega (arith, (sizes a.args.self).width, a.requires.1)
+sub-result-2 c = let a = c in omega (arith, (sizes a.args.self).width, a.requires.1)
 
 shr-result : tie.Need-overflow_shr-result
 shr-result c = omega (arith, (sizes c.args.self).least)
 
 returns : tie.Need-returns
 returns c =
-    let a = c.before.before.before in
+    let a = c in
     let w = a.args.self in
     let s = a.args.tile.now in
     let k = a.args.k in

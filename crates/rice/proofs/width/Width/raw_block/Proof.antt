@@ -25,7 +25,7 @@ start-bytes-requires c κs = tt
 
 loop-holds : tie.Need-loop-part-init invariant-loop decreases-loop
 loop-holds c =
-    let s = c.before.before in
+    let s = c in
     let a = s.args in
     raw_start a.self a.tile.now a.bit a.start a.part.now s.requires.1 s.requires.0.2
 
@@ -49,10 +49,10 @@ raw-at-requires c κs = (omega (arith, room c.before (some c)), omega arith, (st
 -- the number at byte k that is read is below 2 ^ 32
 store-requires : tie.Need-store-first-requires invariant-loop decreases-loop
 store-requires c κs =
-    let r = c.before in
-    let l = r.before.before in
+    let r = c in
+    let l = r.before.before.before in
     let a = (start l).args in
-    ((start l).requires.0.1, l.loop-part.invariant.on.inside.1, raw_small a.self a.tile.now _ _ r.raw_at-a.ensures, some r.before)
+    ((start l).requires.0.1, l.loop-part.invariant.on.inside.1, raw_small a.self a.tile.now _ _ r.raw_at-a.ensures, some r.before.before)
 
 -- the first pixel of a turn is stored
 abbrev turn : tie.After-store-first invariant-loop decreases-loop → tie.At-loop-part invariant-loop decreases-loop
@@ -60,7 +60,7 @@ turn c = c.before.before.before.before
 
 first : (c : tie.After-store-first invariant-loop decreases-loop)
     → RawStored (start (turn c)).args.self (start (turn c)).args.tile.now (start (turn c)).args.bit
-    (start (turn c)).args.start (start (turn c)).args.part.now c.store-first.new.1.1.1.1.1.0
+    (start (turn c)).args.start (start (turn c)).args.part.now c.store-first.new.part
     ((turn c).loop-part.k + (turn c).start_bytes-size.result) c.store-first.result ((turn c).loop-part.i + 1)
 first c =
     let l = turn c in
@@ -70,7 +70,7 @@ first c =
     c.store-first.ensures (ap (λ (n : ℕ). l.loop-part.k + n) l.start_bytes-size.ensures) refl
 
 -- and there is another
-another : (c : tie.After-store-first invariant-loop decreases-loop) → (turn c).loop-part.i + 1 < length c.store-first.new.1.1.1.1.1.0
+another : (c : tie.After-store-first invariant-loop decreases-loop) → (turn c).loop-part.i + 1 < length c.store-first.new.part
 another c = omega (arith, (first c).on.sized, (turn c).loop-part.invariant.on.sized, c.loop-part-test.true)
 
 room-2 : (c : tie.After-store-first invariant-loop decreases-loop)
@@ -82,20 +82,20 @@ room-2 c =
     raw_room a.self a.tile.now a.bit a.start a.part.now (start l).requires.1 _ _ _ _ (first c) (another c)
 
 add-raw-at : tie.Need-overflow_add-k invariant-loop decreases-loop
-add-raw-at c = let s = c.before in omega (arith, room-2 s, (start (turn s)).pre.0.0)
+add-raw-at c = let s = c.before in omega (arith, room-2 s, (start (turn s)).requires.0.0)
 
 raw-at-requires-2 : tie.Need-raw_at-b-requires invariant-loop decreases-loop
-raw-at-requires-2 c κs = (omega (arith, room-2 c.before), omega arith, (start (turn c.before)).pre.0.1.0)
+raw-at-requires-2 c κs = (omega (arith, room-2 c.before), omega arith, (start (turn c.before)).requires.0.1.0)
 
 add-store : tie.Need-overflow_add-i invariant-loop decreases-loop
 add-store c = search rules
 
 store-requires-2 : tie.Need-store-level-requires invariant-loop decreases-loop
 store-requires-2 c κs =
-    let r = c.before in
-    let s = r.before.before in
+    let r = c in
+    let s = r.before.before.before in
     let a = (start (turn s)).args in (
-      (start (turn s)).pre.0.1,
+      (start (turn s)).requires.0.1,
       (first s).on.inside.1,
       raw_small a.self a.tile.now _ _ r.raw_at-b.ensures,
       another s,
@@ -109,7 +109,7 @@ mul-k c =
 add-k : tie.Need-overflow_add-k-in-loop-part invariant-loop decreases-loop
 add-k c =
     let s = c.before.before.before.before.before in
-    omega (arith, room-2 s, (turn s).start_bytes-size.ensures, (start (turn s)).pre.0.0)
+    omega (arith, room-2 s, (turn s).start_bytes-size.ensures, (start (turn s)).requires.0.0)
 
 add-i : tie.Need-overflow_add-i-in-loop-part invariant-loop decreases-loop
 add-i c = search rules
@@ -121,8 +121,8 @@ loop-less c =
 
 loop-again : tie.Need-loop-part-preserved invariant-loop decreases-loop
 loop-again c =
-    let d = c.before in
-    let s = d.before.before.before.before in
+    let d = c in
+    let s = d.before.before.before.before.before in
     let l = turn s in
     let a = (start l).args in
     raw_on a.self a.tile.now a.bit a.start a.part.now (start l).requires.1 _ _ _ _ (first s) _ _ _ _ _
@@ -136,8 +136,8 @@ raw-at-requires-3 c κs =
 
 store-requires-3 : tie.Need-store-level-requires-then-i-part invariant-loop decreases-loop
 store-requires-3 c κs =
-    let r = c.before in
-    let l = r.before.before.before in
+    let r = c in
+    let l = r.before.before.before.before in
     let a = (start l).args in
     ((start l).requires.0.1, l.loop-part.invariant.on.inside.1, raw_small a.self a.tile.now _ _ r.raw_at-a-then-i-part.ensures, r.if-i-part.true)
 
@@ -146,12 +146,12 @@ last : (c : tie.After-store-level-then-i-part invariant-loop decreases-loop)
     → RawStored (start c.before.before.before.before.before).args.self
     (start c.before.before.before.before.before).args.tile.now (start c.before.before.before.before.before).args.bit
     (start c.before.before.before.before.before).args.start (start c.before.before.before.before.before).args.part.now
-    c.store-level-then-i-part.new.1.1.1.1.1.0
+    c.store-level-then-i-part.new.part
     (c.loop-part.k + start_bytes (start c.before.before.before.before.before).args.self)
     c.store-level-then-i-part.result (c.loop-part.i + 1)
 last c =
-    let r = c.before.before in
-    let l = r.before.before.before in
+    let r = c in
+    let l = r.before.before.before.before.before in
     let a = (start l).args in
     raw_on a.self a.tile.now a.bit a.start a.part.now (start l).requires.1 l.loop-part.part l.loop-part.k
     l.loop-part.level l.loop-part.i l.loop-part.invariant _ _ _ _ _ r.if-i-part.true r.raw_at-a-then-i-part.ensures c.store-level-then-i-part.ensures refl refl
@@ -164,7 +164,7 @@ returns c =
     let s = c.before in
     let l = s.before.before.before.before.before in
     let a = (start l).args in
-    let all : length s.store-level-then-i-part.new.1.1.1.1.1.0 ≤ l.loop-part.i + 1 =
+    let all : length s.store-level-then-i-part.new.part ≤ l.loop-part.i + 1 =
     omega (arith, (last s).on.sized, l.loop-part.invariant.on.sized, s.loop-part-test.false) in
     raw_end a.self a.tile.now a.bit a.start a.part.now (start l).requires.1 _ _ _ _ (last s) all
 

@@ -16,8 +16,8 @@ same_length c = search rules
 
 returns : tie.Need-returns-then-at-part
 returns c =
-    let e = c.before in
-    let f = e.before.before.before.before.before in
+    let e = c in
+    let f = e in
     let a = f.args in
     came_then a.self (Split a.fs) a.tile.now _ _ _ _ _ f.fours-at.ensures e.each.result e.each.ensures
 
@@ -26,7 +26,7 @@ same-length-2 c = search rules
 
 returns-2 : tie.Need-returns
 returns-2 c =
-    let f = c.before.before.before in
+    let f = c in
     let a = f.args in
     came_to a.self (Split a.fs) a.tile.now _ _ _ _ f.fours-at.ensures c.if-at-part.false
 

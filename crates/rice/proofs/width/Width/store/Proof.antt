@@ -25,7 +25,7 @@ same_length c = search rules
 
 returns : tie.Need-returns
 returns c =
-    let n = c.before in
+    let n = c in
     let a = n.args in (
       n.next_by-next.ensures,
       ap (λ (z : ℤ). set a.part.now a.i z) (to_z-of_z {w = w32} (record { sfits = c.pixel_by-pixel.type_inv }) ∙ c.pixel_by-pixel.ensures),

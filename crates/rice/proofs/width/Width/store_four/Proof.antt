@@ -34,11 +34,11 @@ same_length c = search rules
 
 returns : tie.Need-returns
 returns c =
-    let four = c.before in
-    let three = four.before.before.before in
-    let two = three.before.before.before in
-    let one = two.before.before.before in
-    let start = one.before.before in
+    let four = c in
+    let three = four in
+    let two = three in
+    let one = two in
+    let start = one in
     let a = start.args in (
       λ s fs r. onward_four a.self s fs a.start a.a a.b a.c a.d a.end _ _ _ _ _ _ _ _ _ start.requires.0.2 r
           one.store-p.ensures two.store-q.ensures three.store-r.ensures four.store-level.ensures,
