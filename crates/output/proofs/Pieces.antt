@@ -1,17 +1,17 @@
 -- A text that is made visible piece by piece.
-use Prim.Native.Nat.{ℕ, zero, suc, ◌+◌, ◌-◌, ◌*◌, ◌≤◌, ◌<◌, min}
+use Prim.Native.Nat.{ℕ, zero, suc, ◌+◌, ◌-◌, ◌*◌, ◌≤◌}
 use native.Mathlib.Omega.{arith}
-use mathlib.Core.Path.{◌≡◌, refl, sym, ap, ap₂, subst, ◌∙◌}
+use mathlib.Core.Path.{◌≡◌, refl, sym, ap, subst, ◌∙◌}
 use mathlib.Core.Bool.{Bool, true, false}
 use mathlib.Core.List.{List, [], ◌∷◌, ◌++◌, append_assoc}
 use lib.ListN.{length, take, drop, length-append, length-take}
 use lib.Seq.{drop-drop}
 use Rattle.text.specs.Bytes.{line_feed}
 use Rattle.text.specs.Ends.{stem}
-use Rattle.escaping.specs.Escaping.{escaped_byte, escaped, EscapeOutcome, escape_of}
+use Rattle.escaping.specs.Escaping.{escaped_byte, escaped}
 use Rattle.escaping.proofs.Showing.{byte-few}
 use Rattle.output.specs.declared.Printed.{Printed}
-use Rattle.output.specs.declared.Printed.TheVariants.{Whole, Cut}
+use Rattle.output.specs.declared.Printed.TheVariants.{Whole}
 use Rattle.output.specs.Shown.{printed_line, IsWhole}
 
 -- the front of a list, and what follows as many elements

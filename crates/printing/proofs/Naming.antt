@@ -13,12 +13,12 @@ use Rattle.card.specs.declared.CardRead.{CardRead}
 use Rattle.card.specs.Cards.{card_of}
 use Rattle.roles.specs.declared.Role.{Role as Told}
 use Rattle.roles.specs.declared.Role.TheVariants as T
-use Rattle.roles.specs.Roles.{Held, Role, entry, neutral, last, role_by, role_in}
+use Rattle.roles.specs.Roles.{Held, Role, entry, neutral, role_by, role_in}
 use Rattle.roles.specs.Cards.{roles_of, card_no, card_at}
 use Rattle.roles.proofs.Cards.{role_count, role_is}
 use Rattle.roles.proofs.Counting.{card-here}
 use Rattle.joining.specs.Lookup.{lookup}
-use Rattle.finding.specs.declared.Header.TheVariants.{Accepted, Refused}
+use Rattle.finding.specs.declared.Header.TheVariants.{Accepted}
 use Rattle.finding.specs.Finding.{header_of}
 use Rattle.entries.specs.declared.LookupAnswer.TheVariants as L
 use Rattle.entries.specs.declared.ValueHalf.{ValueHalf}

@@ -1,5 +1,5 @@
 -- The bytes before the line feed are counted by the one that makes them visible.
-use Rattle.std.proofs.Common.{◌≡◌, sym, ap, subst, ◌∙◌, ℕ, ◌+◌, ◌-◌, List, [], ◌∷◌, length, take, length-take, arith, rules}
+use Rattle.std.proofs.Common.{◌≡◌, sym, ap, subst, ◌∙◌, ℕ, ◌+◌, ◌-◌, List, [], ◌∷◌, length, take, length-take, arith}
 use Rattle.text.specs.Bytes.{line_feed}
 use Rattle.escaping.specs.Escaping.{escaped}
 use Rattle.output.specs.Shown.{IsWhole}

@@ -1,5 +1,5 @@
 -- What is written of a text and what is left of it make the whole.
-use Rattle.std.proofs.Common.{◌≡◌, ap, ap₂, ◌∙◌, ℕ, ◌+◌, ◌-◌, ◌*◌, ◌/◌, ◌<◌, ◌≤◌, min, List, length, take, drop, length-take, length-drop, arith, rules}
+use Rattle.std.proofs.Common.{◌≡◌, ap, ap₂, ◌∙◌, ℕ, ◌+◌, ◌-◌, ◌/◌, min, List, length, take, drop, length-take, length-drop, arith, rules}
 use lib.ListN.{drop_of_length-le}
 use Rattle.escaping.specs.Escaping.{escaped, EscapeOutcome}
 use Rattle.output.proofs.Pieces.{escaped-few, piece_counted, nothing_left, counted}

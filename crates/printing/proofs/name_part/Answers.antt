@@ -2,7 +2,7 @@
 use Prim.Native.Nat.{ℕ, ◌≤◌, ◌<◌}
 use native.Mathlib.Omega.{arith}
 use mathlib.Core.Path.{◌≡◌, sym, ap, subst, ◌∙◌}
-use mathlib.Core.List.{List, [], ◌∷◌}
+use mathlib.Core.List.{List}
 use lib.ListN.{length, get_or, take}
 use lib.Seq.{sets}
 use Rattle.text.specs.Text.{bytes_of}
@@ -24,7 +24,6 @@ use Rattle.printing.specs.Ready.{IsListed, Front}
 use Rattle.printing.proofs.Fitting.{front, written-line}
 use Rattle.printing.proofs.Naming.{half_of}
 use Rattle.printing.proofs.Naming as naming
-use borrow.Author.Rules.{rules}
 use Rattle.printing.proofs.name_part.Goals as goal
 
 -- a place is a small number

@@ -1,5 +1,5 @@
 -- `printing::print_header` meets its contract: the list says whether the header is accepted.
-use Rattle.std.proofs.Common.{◌≡◌, refl, sym, ap, subst, ◌∙◌, ℕ, Bool, List, ◌++◌, map, rules}
+use Rattle.std.proofs.Common.{◌≡◌, refl, sym, ap, subst, ◌∙◌, ℕ, Bool, List, ◌++◌, map}
 use Rattle.finding.specs.declared.Header.{Header}
 use Rattle.finding.specs.declared.Header.TheVariants.{Accepted, Refused}
 use Rattle.finding.specs.Finding.{header_of}

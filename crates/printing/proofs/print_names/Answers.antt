@@ -1,5 +1,5 @@
 -- `printing::print_names` meets its contract: every place is one of the list's, and the bytes of the lines are summed.
-use Rattle.std.proofs.Common.{◌≡◌, refl, sym, ap, ap₂, ◌∙◌, ℕ, ◌+◌, ◌<◌, ◌≤◌, Bool, List, [], map, length, get_or, length-append, arith, rules}
+use Rattle.std.proofs.Common.{◌≡◌, refl, sym, ap, ap₂, ◌∙◌, ℕ, ◌+◌, ◌<◌, ◌≤◌, List, [], map, length, get_or, length-append, arith, rules}
 use lib.ListN.{length-map, length-replicate}
 use Rattle.lines.specs.Lines.{count_line}
 use Rattle.output.specs.Shown.{printed_line}
