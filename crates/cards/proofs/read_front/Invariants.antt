@@ -1,5 +1,5 @@
 -- What is read stays within the buffer, and each read that goes on takes a byte.
-use Rattle.std.proofs.Common.{◌≡◌, ◌-◌, ◌≤◌, length}
+use Rattle.std.proofs.Common.{◌-◌, ◌≤◌, length}
 use Rattle.cards.proofs.read_front.Given as goal
 
 abbrev pub invariant-loop-done : goal.invariant-loop-done
