@@ -8,7 +8,7 @@ use output::Printed;
 use refusal::{Column, Refusal};
 use std::env::{Env, FillError};
 use std::fs::{File, OpenOptions};
-use std::io::{IsTerminal, Read, Stderr, Stdout, Write};
+use std::io::{Cursor, IsTerminal, Read, Stderr, Stdout, Write};
 use std::{fmt, io};
 
 // How it went, as the digit of the command's exit status: each header was read and written; one was refused; a file could not be read;
@@ -28,6 +28,10 @@ const SAYS: &str = "/dev/fd/3";
 const SHOWN: usize = 1;
 
 const FILES: usize = 2;
+
+// The variable in which the command gives the folder of its links: a link for each file whose name may not be UTF-8, named by the number of
+// its argument.
+const LINKS: &str = "CARDS_LINKS";
 
 // The bytes of a card and of the longest header.
 const CARD: usize = 80;
@@ -221,22 +225,57 @@ fn read_input(rt: &HostRuntime, i: usize, bare: bool, buffer: &mut [u8]) -> Got 
         };
         n = len;
     }
-    match front_of(rt, &path[..n], bare, buffer) {
+    match front_of(rt, i, &path[..n], bare, buffer) {
         Ok(got) => Got::Bytes(got),
         Err(e) => unread(rt, &path[..n], e),
     }
 }
 
-// The same of a path: how many bytes were read. A path that is not UTF-8 names no file here.
-fn front_of(rt: &HostRuntime, path: &[u8], bare: bool, buffer: &mut [u8]) -> io::Result<usize> {
+// The same of an input and its path: how many bytes were read.
+fn front_of(
+    rt: &HostRuntime,
+    i: usize,
+    path: &[u8],
+    bare: bool,
+    buffer: &mut [u8],
+) -> io::Result<usize> {
     if bare || text::same_bytes(path, b"-") {
         return read_front(&mut rt.stdin(), buffer);
     }
-    let Ok(name) = std::str::from_utf8(path) else {
-        return Err(io::Error::from_raw_os_error(EILSEQ));
-    };
-    let mut file = File::open(rt, name)?;
+    let mut file = open_input(rt, i, path)?;
     read_front(&mut file, buffer)
+}
+
+// Opens the file of an input. std opens no path that is not UTF-8: such a file has a link.
+fn open_input(rt: &HostRuntime, i: usize, path: &[u8]) -> io::Result<File> {
+    if let Ok(name) = std::str::from_utf8(path) {
+        return File::open(rt, name);
+    }
+    open_link(rt, i)
+}
+
+// Opens the link of an input. Where there is no folder of links, what is wrong is the name.
+fn open_link(rt: &HostRuntime, i: usize) -> io::Result<File> {
+    let mut path = [0u8; 4096];
+    if let Some(n) = link_len(rt, i, &mut path) {
+        if let Ok(name) = std::str::from_utf8(text::first_of(&path, n)) {
+            return File::open(rt, name);
+        }
+    }
+    Err(io::Error::from_raw_os_error(EILSEQ))
+}
+
+// Puts the path of an input's link at the front of a buffer. Answers how long it is, where there is a folder of links and the path has room.
+fn link_len(rt: &HostRuntime, i: usize, path: &mut [u8]) -> Option<usize> {
+    let Ok(n) = rt.var(LINKS, path) else {
+        return None;
+    };
+    let mut put = Cursor::new(path);
+    put.set_position(n as u64);
+    match write!(put, "/{i}") {
+        Ok(_) => Some(put.position() as usize),
+        Err(_) => None,
+    }
 }
 
 // Reads until a buffer is full or the input ends.
