@@ -106,7 +106,7 @@ fn main(rt: HostRuntime) {
 // Says on descriptor 3 how it went.
 fn say(rt: &HostRuntime, how: u8) {
     let mut options = OpenOptions::new();
-    options.write(true);
+    options.append(true);
     let Ok(mut file) = options.open(rt, SAYS) else {
         return;
     };
