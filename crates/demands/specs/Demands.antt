@@ -9,7 +9,7 @@
 --    stands beside the answer and changes nothing of it.
 -- 3. Isolation, stated here over `lookupOf`, and in `Halves` of each half: no card of K touches what another name is answered, nor the
 --    names of the list and their order, nor, as `Times` says, how many cards bear another name.
-use Rattle.std.specs.Prelude.{ℕ, suc, ◌≤◌, ◌≡◌, Bool, false, List, [], length, get_or}
+use Rattle.std.specs.Prelude.{ℕ, ◌≤◌, ◌≡◌, Bool, false, List, [], length, get_or}
 use Rattle.joining.specs.Belonging.{belongs}
 use Rattle.roles.specs.Cards.{cards_of, roles_of}
 use Rattle.finding.specs.declared.Header.TheVariants.{Accepted}

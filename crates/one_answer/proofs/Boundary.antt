@@ -2,7 +2,7 @@
 use Prim.Native.Nat.{ℕ}
 use mathlib.Core.List.{List}
 use lib.IntN.{ℤ}
-use mathlib.Core.Path.{◌≡◌, sym, ◌∙◌}
+use mathlib.Core.Path.{sym, ◌∙◌}
 use Rattle.abi_value.specs.Telling.{UnitOutcome}
 use Rattle.abi_card.specs.Records.{card_outcome}
 use Rattle.abi_header.specs.Headers.{HeaderOutcome, ValueMemory, CommentMemory, list_outcome, NamedOutcome}

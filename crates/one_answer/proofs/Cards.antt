@@ -1,5 +1,5 @@
 -- One answer: refusals and their words, bytes, bytes made visible, numbers, one card.
-use mathlib.Core.Path.{◌≡◌, sym, ◌∙◌}
+use mathlib.Core.Path.{sym, ◌∙◌}
 use Rattle.escaping.specs.Escaping.{escape_outcome}
 use Rattle.one_answer.specs.OneAnswer.{OneAnswer, pair_of}
 use Rattle.one_answer.proofs.Both.{both}

@@ -1,5 +1,5 @@
 -- One answer: a header's cards, finding, entries, the list and a name, each with the buffers that are lent.
-use mathlib.Core.Path.{◌≡◌, sym, ◌∙◌}
+use mathlib.Core.Path.{sym, ◌∙◌}
 use Rattle.entries.specs.Halves.{value_left, comment_left}
 use Rattle.listing.specs.Listing.{listing_by}
 use Rattle.naming.specs.Naming.{naming_by}

@@ -1,5 +1,5 @@
 -- One answer: the lines of `cards`, each with the buffer that is lent.
-use mathlib.Core.Path.{◌≡◌, sym, ◌∙◌}
+use mathlib.Core.Path.{sym, ◌∙◌}
 use Rattle.lines.specs.Lines.{line_outcome}
 use Rattle.one_answer.specs.OneAnswer.{OneAnswer}
 use Rattle.lines.proofs.entry_line.Reads as entry-line-reads

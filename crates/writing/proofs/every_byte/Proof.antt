@@ -3,7 +3,6 @@ use Prim.Native.Nat.{◌-◌, ◌≤◌}
 use native.Mathlib.Omega.{arith}
 use mathlib.Core.Path.{◌≡◌, sym, ◌∙◌}
 use lib.ListN.{length, drop}
-use borrow.Author.Tests.{not-true, not-false}
 use Rattle.writing.specs.Rules.{every}
 use Rattle.writing.specs.Passes.{allowed_of}
 use Rattle.writing.proofs.Testing.{every_step, every_stop, every-end}

@@ -3,7 +3,6 @@ use Prim.Native.Nat.{◌+◌, ◌-◌, ◌<◌, ◌≤◌}
 use native.Mathlib.Omega.{arith}
 use mathlib.Core.Path.{◌≡◌, ap}
 use lib.ListN.{length, drop, get_or}
-use borrow.Author.Tests.{leb-true, leb-false}
 use Rattle.writing.specs.Pieces.{bytes_for, fitting}
 use Rattle.writing.proofs.Cutting.{fit_step, fit_stop, fit_end}
 use borrow.Author.Rules.{rules}

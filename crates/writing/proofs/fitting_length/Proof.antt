@@ -2,7 +2,6 @@
 use mathlib.Core.Path.{◌≡◌, sym, ap, ◌∙◌}
 use mathlib.Core.Bool.{true}
 use lib.ListN.{length, take}
-use borrow.Author.Tests.{not-false}
 use Rattle.writing.specs.Rules.{every}
 use Rattle.writing.specs.Passes.{is_bare}
 use Rattle.writing.proofs.Cutting.{bare_fitting}

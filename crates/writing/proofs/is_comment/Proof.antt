@@ -1,6 +1,5 @@
 -- `writing::is_comment` meets its contract: the length first.
 use mathlib.Core.Path.{sym, ◌∙◌}
-use borrow.Author.Tests.{not-true, not-false}
 use Rattle.writing.proofs.Testing.{comment-some}
 use borrow.Author.Rules.{rules}
 use Rattle.writing.proofs.is_comment.Statement.{statement}

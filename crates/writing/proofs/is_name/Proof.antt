@@ -1,6 +1,5 @@
 -- `writing::is_name` meets its contract, test by test.
 use mathlib.Core.Path.{sym, ap, ◌∙◌}
-use borrow.Author.Tests.{not-true, not-false}
 use Rattle.writing.specs.Rules.{is_other}
 use Rattle.writing.proofs.Testing.{name-long, name_odd, name_class}
 use borrow.Author.Rules.{rules}

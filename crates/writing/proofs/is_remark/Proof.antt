@@ -3,7 +3,6 @@ use Prim.Native.Nat.{ℕ}
 use mathlib.Core.Path.{sym, ap, ◌∙◌}
 use mathlib.Core.Bool.{not}
 use lib.Dec.{eqb}
-use borrow.Author.Tests.{not-true, not-false}
 use Rattle.text.specs.Ends.{ends_with}
 use Rattle.writing.proofs.Testing.{remark_odd, remark_end}
 use borrow.Author.Rules.{rules}

@@ -2,7 +2,6 @@
 use Prim.Native.Nat.{ℕ}
 use mathlib.Core.Path.{sym, ap, ◌∙◌}
 use mathlib.Core.List.{List}
-use borrow.Author.Tests.{not-true, not-false}
 use Rattle.text.specs.Same.{same}
 use Rattle.writing.proofs.Testing.{digits_odd, digits_ends}
 use borrow.Author.Rules.{rules}

@@ -1,6 +1,5 @@
 -- `writing::is_text` meets its contract: the length first.
 use mathlib.Core.Path.{sym, ◌∙◌}
-use borrow.Author.Tests.{not-true, not-false}
 use Rattle.writing.proofs.Testing.{text-long, text_odd, text-end}
 use borrow.Author.Rules.{rules}
 use Rattle.writing.proofs.is_text.Statement.{statement}

@@ -2,7 +2,6 @@
 use Prim.Native.Nat.{ℕ, ◌+◌, ◌-◌, ◌<◌, ◌≤◌}
 use native.Mathlib.Omega.{arith}
 use lib.ListN.{length, get_or}
-use borrow.Author.Tests.{leb-true, leb-false}
 use Rattle.writing.specs.Pieces.{bytes_for}
 use Rattle.writing.proofs.Cutting.{Filling, fills, fills_on, filled-count, filled-place, filled-bytes, fit_stop, fit_end}
 use borrow.Author.Rules.{rules}

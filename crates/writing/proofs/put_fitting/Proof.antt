@@ -5,7 +5,6 @@ use mathlib.Core.Bool.{true}
 use mathlib.Core.List.{List}
 use lib.ListN.{length, take}
 use lib.Seq.{sets}
-use borrow.Author.Tests.{not-false}
 use Rattle.writing.specs.Pieces.{doubled, fitting}
 use Rattle.writing.specs.Rules.{every}
 use Rattle.writing.specs.Passes.{is_bare}

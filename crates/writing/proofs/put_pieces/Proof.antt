@@ -6,7 +6,7 @@ use mathlib.Core.List.{List, ◌++◌}
 use lib.ListN.{length, drop}
 use lib.Seq.{sets}
 use Rattle.roles.specs.Roles.{Comment, comment_of}
-use Rattle.writing.specs.Pieces.{fitting, piece_text, open_room, fits, last_piece, open_piece, pieces_of}
+use Rattle.writing.specs.Pieces.{fitting, piece_text, open_room, last_piece, open_piece, pieces_of}
 use Rattle.writing.specs.Written.{continue_front}
 use Rattle.writing.specs.Passes.{body_of}
 use Rattle.writing.proofs.Counting.{Opened, opened, more_over, one-fits, pieces_some}

@@ -1,7 +1,6 @@
 -- `writing::write` meets its contract: the name, then the comment, then the value.
 use mathlib.Core.Path.{◌≡◌, sym, ap, ◌∙◌}
 use mathlib.Core.Bool.{true, ◌&&◌}
-use borrow.Author.Tests.{not-true, not-false}
 use Rattle.laws.proofs.Truths.{and_both}
 use Rattle.roles.specs.Roles.{Comment, comment_of}
 use Rattle.writing.specs.Pieces.{text_room}

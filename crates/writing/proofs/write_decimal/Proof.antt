@@ -6,7 +6,6 @@ use mathlib.Core.List.{List}
 use lib.IntN.{ℤ}
 use lib.ListN.{take}
 use mir.Facts.{to_z-of_z}
-use borrow.Author.Tests.{not-true, not-false}
 use Rattle.laws.proofs.Truths.{and_false}
 use Rattle.text.specs.Text.{size, text_of}
 use Rattle.text.proofs.Texts.{text-bytes}

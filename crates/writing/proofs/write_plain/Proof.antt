@@ -7,7 +7,6 @@ use mathlib.Core.List.{List}
 use lib.Dec.{leb}
 use lib.ListN.{length, length-take}
 use lib.Seq.{sets}
-use borrow.Author.Tests.{not-true, not-false}
 use Rattle.text.specs.Text.{bytes_of}
 use Rattle.roles.specs.Roles.{Comment, comment_of}
 use Rattle.writing.specs.Pieces.{tail_of}

@@ -6,7 +6,6 @@ use mathlib.Core.Bool.{true, false, ◌&&◌}
 use mathlib.Core.List.{List}
 use lib.ListN.{length}
 use lib.Seq.{sets}
-use borrow.Author.Tests.{not-true, not-false}
 use Rattle.laws.proofs.Truths.{and_false}
 use Rattle.roles.specs.Roles.{Comment, comment_of}
 use Rattle.writing.specs.Pieces.{tail_of, pieces_of}
