@@ -200,17 +200,13 @@ static void tiles(void)
     }
 }
 
-/* What lies between the byte `here` and the call is ours. widrekas_version takes its return address alone, so it shows how much that is. */
-static size_t ours;
-
 static int told(const struct function *functions, size_t many)
 {
     int within = 1;
     for (size_t i = 0; i < many; i++) {
-        size_t takes = functions[i].most > ours ? functions[i].most - ours : 0;
-        printf("%s %zu\n", functions[i].name, takes);
-        if (takes > functions[i].limit) {
-            fprintf(stderr, "stack: %s takes %zu bytes, above %zu\n", functions[i].name, takes, functions[i].limit);
+        printf("%s %zu\n", functions[i].name, functions[i].most);
+        if (functions[i].most > functions[i].limit) {
+            fprintf(stderr, "stack: %s takes %zu bytes, above %zu\n", functions[i].name, functions[i].most, functions[i].limit);
             within = 0;
         }
     }
@@ -242,7 +238,6 @@ int main(void)
     }
     values();
     tiles();
-    ours = of_headers[0].most - sizeof(void *);
     int within = told(of_headers, sizeof of_headers / sizeof of_headers[0]);
     within &= told(of_values, sizeof of_values / sizeof of_values[0]);
     within &= told(of_tiles, sizeof of_tiles / sizeof of_tiles[0]);

@@ -31,10 +31,9 @@ pub fn read_name(header: &[u8], i: usize, name: &mut [u8]) -> Named
     }
     let card = roles::card_at(header, i);
     let answer = card.answer;
-    let own = card.name;
     let role = roles::role_of(answer);
     match role {
-        Role::Entry { value: _, joins: _ } => write_name(own, name),
+        Role::Entry { value: _, joins: _ } => write_name(&card.name, name),
         Role::Refused(fault) => Named::Refused(fault),
         Role::More => no_name(),
         Role::Neutral => no_name(),
@@ -49,9 +48,10 @@ fn no_name() -> Named
     Named::Refused(refusal::fault_of(Refusal::NameNotFound))
 }
 
-// A name at the front of the lent buffer, if it fits.
-fn write_name(own: Text, name: &mut [u8]) -> Named
-    ensures { naming_by result name.new ≡ name_written (bytes_of own) name.old }
+// A name at the front of the lent buffer, if it fits. It is a call of its own, so that its copy of the name takes no stack while a card is read.
+#[inline(never)]
+fn write_name(own: &Text, name: &mut [u8]) -> Named
+    ensures { naming_by result name.new ≡ name_written (bytes_of own.now) name.old }
 {
     let bytes = own.bytes;
     let part = text::first_of(&bytes, own.len);

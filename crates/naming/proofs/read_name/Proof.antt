@@ -23,7 +23,7 @@ good c = sym c.is_bad_length.ensures ∙ c.if-is_bad_length.false
 
 -- the card that is read, and where its number is tested
 abbrev read : tie.After-role_of-role → tie.After-card_at-card
-read c = c.before.before
+read c = c.before
 
 abbrev tested : tie.After-role_of-role → tie.Else-header-i
 tested c = (read c).before
@@ -112,7 +112,7 @@ returns-3 : tie.Need-returns-in-Entry
 returns-3 c =
     let wrote = c in
     let known = wrote in
-    wrote.write_name.ensures ∙ whole known.before.before.before.before.before _ known.in-Entry.is
+    wrote.write_name.ensures ∙ whole known.before.before.before.before.before.before _ known.in-Entry.is
 
 returns-4 : tie.Need-returns-in-Refused
 returns-4 c =

@@ -30,7 +30,7 @@ returns : tie.Need-returns-then-name-n
 returns c =
     let part = c.before.before in
     let a = (start part).args in
-    let own = bytes_of a.own in
+    let own = bytes_of a.own.now in
     let long : length a.name.now < length own =
     let e = ap length part.first_of-part.ensures in omega (arith, e, c.if-name-n.true) in
     ap (λ (f : Fault). unnamed f a.name.now) c.fault_of.ensures ∙ short own a.name.now long
@@ -47,7 +47,7 @@ returns-2 c =
     let test = put in
     let part = test.before.before.before.before.before in
     let a = (start part).args in
-    let own = bytes_of a.own in
+    let own = bytes_of a.own.now in
     let is = part.first_of-part.ensures in
     let room : length own ≤ length a.name.now = let e = ap length is in omega (arith, e, test.if-name-n.false) in
     (λ j. naming_by (Bears (length (is j))) (put.put_at.ensures j))
