@@ -48,7 +48,8 @@ fn no_name() -> Named
     Named::Refused(refusal::fault_of(Refusal::NameNotFound))
 }
 
-// A name at the front of the lent buffer, if it fits. It is a call of its own, so that its copy of the name takes no stack while a card is read.
+// A name at the front of the lent buffer, if it fits. It is a call of its own, so that its copy of the name takes no stack while a card
+// is read.
 #[inline(never)]
 fn write_name(own: &Text, name: &mut [u8]) -> Named
     ensures { naming_by result name.new ≡ name_written (bytes_of own.now) name.old }
