@@ -1,7 +1,7 @@
 #!/usr/bin/env python3
 """Spells the repository's own definitions and lemmas as today's Rattle spells names.
 
-usage: tools/respell.py        at the top, once, after /opt/rattle/port/port.py
+usage: tools/respell.py        at the top, once, after the kit's port.py
 
 A definition in camel case becomes snake case. In a lemma's name a dash joins the names of two definitions; every other word is added with an
 underscore. A lemma that would have the name of a definition ends in _lem. What Rattle makes of the source (the names in a Proof.antt behind
