@@ -73,8 +73,10 @@ pub bearers_row :
     ∷ "SIZE    = 'f'"
     ∷ []))
     ≡ 3
-unfolding is_space is_blank is_printable shown trim_start cons_trimmed trim_end trim same ends_with filled place_from scan_from byte_class split_of
-    opened string_of start_of of_string value_with value_of has_high class_of name_pieces join_pieces other_of continuation_of is_within_quotes
+unfolding is_space is_blank is_printable shown trim_start cons_trimmed trim_end trim same ends_with filled place_from scan_from
+    byte_class split_of
+    opened string_of start_of of_string value_with value_of has_high class_of name_pieces join_pieces other_of continuation_of
+    is_within_quotes
     quoted_card extension_of hierarch_of unplaced_of card_of bearers_in
 bearers_row = refl
 

@@ -193,7 +193,8 @@ module _ (c : List ℕ) (whole : length c ≡ 80) where
   unfolding card_of unplaced_of
   card-short = placed-short (column_of c) (unplaced_of c) (go (has_high c))
     where
-      go : (b : Bool) → CardShort (cond b (card_refused (fault_of R.HighByte)) (by_class (class_of (keyword_of c)) (text_of (keyword_of c)) c))
+      go : (b : Bool)
+          → CardShort (cond b (card_refused (fault_of R.HighByte)) (by_class (class_of (keyword_of c)) (text_of (keyword_of c)) c))
       go true = refused-short _
       go false = class_short (class_of (keyword_of c)) (text_of (keyword_of c))
 

@@ -73,7 +73,8 @@ module _ (from : ℕ) (c : List ℕ) where
 
   -- a value
   pub value_in : (dotted : Bool) (name : Text)
-      → of_value dotted name (value_from from (drop from c)) ≡ card_placed (column_in from c) (of_value dotted name (value_of (drop from c)))
+      → of_value dotted name (value_from from (drop from c))
+      ≡ card_placed (column_in from c) (of_value dotted name (value_of (drop from c)))
   value_in dotted name =
       let t = drop from c in
       let r = value_of t in

@@ -265,7 +265,8 @@ fn open_link(rt: &HostRuntime, i: usize) -> io::Result<File> {
     Err(io::Error::from_raw_os_error(EILSEQ))
 }
 
-// Puts the path of an input's link at the front of a buffer. Answers how long it is, where there is a folder of links and the path has room.
+// Puts the path of an input's link at the front of a buffer. Answers how long it is, where there is a folder of links and the path has
+// room.
 fn link_len(rt: &HostRuntime, i: usize, path: &mut [u8]) -> Option<usize> {
     let Ok(n) = rt.var(LINKS, path) else {
         return None;

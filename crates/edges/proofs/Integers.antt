@@ -22,7 +22,8 @@ use Rattle.edges.specs.Writing.{Left, left_of, lent, Largest, Least}
 abbrev outcome : Bool → List ℕ → WriteOutcome
 outcome long t =
     cond (is_name (ascii "N"))
-    (cond (true && (long && fits_card t none)) (put_cards (plain_cards (ascii "N") t none) (lent 83)) (not_written R.UnwritableValue (lent 83)))
+    (cond (true && (long && fits_card t none)) (put_cards (plain_cards (ascii "N") t none) (lent 83))
+    (not_written R.UnwritableValue (lent 83)))
     (not_written R.UnwritableName (lent 83))
 
 abbrev rows : Bool → List ℕ → List Left

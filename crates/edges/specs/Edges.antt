@@ -27,7 +27,8 @@ use Rattle.numbers.specs.declared.Value.TheVariants.{Integer, Float, Logical, St
 use Rattle.numbers.specs.Signs.{is_sign, is_negative, unsigned}
 use Rattle.numbers.specs.Digits.{is_digits, digits_value_from}
 use Rattle.numbers.specs.Integers.{integer_of}
-use Rattle.numbers.specs.Decimals.{fraction_of, after_fraction, is_mark, written_of, exponent_of, scaled, finite_of, lowered, is_word, decimal_of}
+use Rattle.numbers.specs.Decimals.{fraction_of, after_fraction, is_mark, written_of, exponent_of}
+use Rattle.numbers.specs.Decimals.{scaled, finite_of, lowered, is_word, decimal_of}
 use Rattle.numbers.specs.Numbers.{read_number}
 use Rattle.value.specs.declared.UnitPlace.{UnitPlace}
 use Rattle.value.specs.declared.UnitPlace.TheVariants.{Between, Nowhere}
@@ -376,13 +377,18 @@ rows = table ++ column_table ++ half_table ++ unit_table
 
 -- each input has its row's reading
 pub edges : map (λ (r : Row). reading r.input) rows ≡ map (λ (r : Row). r.reading) rows
-unfolding is_space is_blank is_printable is_digit is_zero shown d_to_e trim_start leading cons_trimmed trim_end trim same stem ends_with filled
+unfolding is_space is_blank is_printable is_digit is_zero shown d_to_e trim_start leading cons_trimmed trim_end trim same stem ends_with
+    filled
     place_from after scan_from byte_class split_of settled_of opened unopened string_of first_byte is_sign is_negative unsigned is_digits
-    digits_value_from integer_of fraction_of after_fraction is_mark written_of exponent_of scaled finite_of lowered is_word decimal_of read_number
-    starts_number start_of of_string of_number value_with value_of unit_of unit_past_space has_high class_of name_pieces join_pieces high_from other_of
+    digits_value_from integer_of fraction_of after_fraction is_mark written_of exponent_of scaled finite_of lowered is_word decimal_of
+    read_number
+    starts_number start_of of_string of_number value_with value_of unit_of unit_past_space has_high class_of name_pieces join_pieces
+    high_from other_of
     continuation_of is_within_quotes quoted_card extension_of hierarch_of unplaced_of card_of
-    ends_open adds_nothing join_text join_comment opens join_words join_on lookup cards_in is_bad_length header_from header_of named numbered
+    ends_open adds_nothing join_text join_comment opens join_words join_on lookup cards_in is_bad_length header_from header_of named
+    numbered
     met_on value_in comment_in
-    decode_of steps_of step_of open_of plan_of in_limits width_of stands block_of code_of run_of diff_read run_read field_read pixel_of in_width modulo
+    decode_of steps_of step_of open_of plan_of in_limits width_of stands block_of code_of run_of diff_read run_read field_read pixel_of
+    in_width modulo
     wrap difference bit_at field_at zeros_at
 edges = refl

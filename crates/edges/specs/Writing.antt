@@ -189,26 +189,34 @@ abbrev pub AreWritten : List WriteRow → Type 0
 AreWritten rows = map (λ (r : WriteRow). writing r.asked) rows ≡ map (λ (r : WriteRow). r.left) rows
 
 pub logicals : AreWritten logical_rows
-unfolding is_printable is_digit is_zero trim_start cons_trimmed trim_end trim same ends_with filled digits_before decimal_digits class_of doubled
-    bytes_for fitting leftover pieces_from name_front justified every is_name_byte is_name is_remark ends_well is_text is_significant is_writable flat
+unfolding is_printable is_digit is_zero trim_start cons_trimmed trim_end trim same ends_with filled digits_before decimal_digits class_of
+    doubled
+    bytes_for fitting leftover pieces_from name_front justified every is_name_byte is_name is_remark ends_well is_text is_significant
+    is_writable flat
     put_cards write_of
 logicals = refl
 
 pub numbers : AreWritten number_rows
-unfolding is_printable is_digit is_zero trim_start cons_trimmed trim_end trim same ends_with filled digits_before decimal_digits class_of doubled
-    bytes_for fitting leftover pieces_from name_front justified every is_name_byte is_name is_remark ends_well is_text is_significant is_writable flat
+unfolding is_printable is_digit is_zero trim_start cons_trimmed trim_end trim same ends_with filled digits_before decimal_digits class_of
+    doubled
+    bytes_for fitting leftover pieces_from name_front justified every is_name_byte is_name is_remark ends_well is_text is_significant
+    is_writable flat
     put_cards write_of
 numbers = refl
 
 pub strings : AreWritten string_rows
-unfolding is_printable is_digit is_zero trim_start cons_trimmed trim_end trim same ends_with filled digits_before decimal_digits class_of doubled
-    bytes_for fitting leftover pieces_from name_front justified every is_name_byte is_name is_remark ends_well is_text is_significant is_writable flat
+unfolding is_printable is_digit is_zero trim_start cons_trimmed trim_end trim same ends_with filled digits_before decimal_digits class_of
+    doubled
+    bytes_for fitting leftover pieces_from name_front justified every is_name_byte is_name is_remark ends_well is_text is_significant
+    is_writable flat
     put_cards write_of
 strings = refl
 
 pub names : AreWritten name_rows
-unfolding is_printable is_digit is_zero trim_start cons_trimmed trim_end trim same ends_with filled digits_before decimal_digits class_of doubled
-    bytes_for fitting leftover pieces_from name_front justified every is_name_byte is_name is_remark ends_well is_text is_significant is_writable flat
+unfolding is_printable is_digit is_zero trim_start cons_trimmed trim_end trim same ends_with filled digits_before decimal_digits class_of
+    doubled
+    bytes_for fitting leftover pieces_from name_front justified every is_name_byte is_name is_remark ends_well is_text is_significant
+    is_writable flat
     put_cards write_of
 names = refl
 

@@ -225,7 +225,8 @@ module _ {h : List ℕ} {i : ℕ} {end : CommentHeld} {comments : List ℕ} (J :
       ap (λ (k : Comment). comment_laid k comment) (J.comment (string_unmet h i end.reach J.met o))
       ∙ ap (λ (x : Sought). comment_in x comment) (sym (string-whole h i end.reach J.met o))
 
-  pub string_refused_lem : (s : Stop) → end.reach ≡ Met s → comment_left (comment_refused (Stops s)) comment ≡ comment_in (string_at h i) comment
+  pub string_refused_lem : (s : Stop) → end.reach ≡ Met s
+      → comment_left (comment_refused (Stops s)) comment ≡ comment_in (string_at h i) comment
   string_refused_lem s e =
       refused-comment (stopped s) h comment
       ∙ ap (λ (x : Sought). comment_in x comment) (sym (string-met h i end.reach J.met s e))

@@ -65,7 +65,8 @@ module _ (d t : List ℕ) (n : ℕ) (more : 0 < n) (inside : n ≤ length d) whe
       sym (take-take (length (trim_end is_space (take m d))) m d short) ∙ end-taken is_space (take m d)
       ∙ ap (trim_end is_space) (sym (stem-taken d n more inside)) ∙ rw e
 
-  pub joined-put : n - 1 + length t ≤ length d → adds_nothing t ≡ false → take (n - 1 + length t) (sets d (n - 1) t) ≡ join_text (take n d) t
+  pub joined-put : n - 1 + length t ≤ length d → adds_nothing t ≡ false
+      → take (n - 1 + length t) (sets d (n - 1) t) ≡ join_text (take n d) t
   unfolding join_text
   joined-put room e = take-sets t d (n - 1) room ∙ ap (λ (l : List ℕ). l ++ t) (sym (stem-taken d n more inside)) ∙ rw e
 

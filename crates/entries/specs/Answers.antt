@@ -132,7 +132,8 @@ entry_from roles i text comment = unless_met (met_head roles i) (given (entry_he
 -- reading the entry at card i of a header of n bytes, by the roles of its cards; a header of a bad length has none
 abbrev pub entry_by : ℕ → List Role → ℕ → List ℕ → List ℕ → LookupOutcome
 entry_by n roles i text comment =
-    cond (is_bad_length n) (untouched (L.Header (stop_at (fault_of R.HeaderLength) 0)) text comment) (entry_from (drop i roles) i text comment)
+    cond (is_bad_length n) (untouched (L.Header (stop_at (fault_of R.HeaderLength) 0)) text comment)
+    (entry_from (drop i roles) i text comment)
 
 -- reading the entry at card i, whatever stands elsewhere in the header
 unfoldable pub entry_of : List ℕ → ℕ → List ℕ → List ℕ → LookupOutcome

@@ -1,6 +1,7 @@
 -- Decimals (SPECIFICATION 7; FITS Standard 4.2.4): digits with at most one point and perhaps an exponent, or a word.
 use Prim.Native.Char.{code}
-use Rattle.std.specs.Prelude.{ℕ, ◌+◌, ◌-◌, min, Bool, false, cond, ◌&&◌, ◌||◌, List, [], ◌∷◌, ◌++◌, map, eqb, leb, ℤ, pos, ◌+ℤ◌, ◌-ℤ◌, length}
+use Rattle.std.specs.Prelude.{ℕ, ◌+◌, ◌-◌, min, Bool, false, cond, ◌&&◌, ◌||◌, List}
+use Rattle.std.specs.Prelude.{[], ◌∷◌, ◌++◌, map, eqb, leb, ℤ, pos, ◌+ℤ◌, ◌-ℤ◌, length}
 use Rattle.text.specs.Bytes.{ascii, is_digit, is_zero}
 use Rattle.text.specs.Same.{same}
 use Rattle.text.specs.Trim.{leading, trim_start, trim_end}

@@ -65,11 +65,15 @@ table =
 
 -- each header prints its row's lines
 pub examples : map (λ (r : Row). output_of (cards r.header)) table ≡ map (λ (r : Row). lines r.printed) table
-unfolding cards lines is_space is_blank is_printable is_digit is_zero shown d_to_e trim_start leading cons_trimmed trim_end trim same stem ends_with
+unfolding cards lines is_space is_blank is_printable is_digit is_zero shown d_to_e trim_start leading cons_trimmed trim_end trim same
+    stem ends_with
     filled after scan_from byte_class split_of settled_of opened unopened string_of is_sign is_negative unsigned is_digits digits_value_from
-    integer_of read_number starts_number start_of of_string of_number value_with value_of has_high class_of hierarch_of name_pieces join_pieces
-    place_from other_of continuation_of first_byte unplaced_of card_of ends_open adds_nothing join_text join_comment opens join_words join_on lookup
-    cards_in is_bad_length header_from header_of place_in list_from list_of times_borne digits_before decimal_digits entry_line count_line refused_line
+    integer_of read_number starts_number start_of of_string of_number value_with value_of has_high class_of hierarch_of name_pieces
+    join_pieces
+    place_from other_of continuation_of first_byte unplaced_of card_of ends_open adds_nothing join_text join_comment opens join_words
+    join_on lookup
+    cards_in is_bad_length header_from header_of place_in list_from list_of times_borne digits_before decimal_digits entry_line
+    count_line refused_line
     in_order output_of
 examples = refl
 
@@ -80,10 +84,14 @@ fed = filled (code " ") 80 (code "A" ∷ line_feed ∷ ascii "KIT S = 'FAKE'") +
 -- as it stands, the name makes two lines; made visible, it stands on one
 pub example_fed : printed_of false fed ∷ printed_of true fed ∷ []
     ≡ map lines (("A" ∷ "KIT S S FAKE" ∷ "1 keywords" ∷ []) ∷ ("A\\x0AKIT S S FAKE" ∷ "1 keywords" ∷ []) ∷ [])
-unfolding cards lines is_space is_blank is_printable is_digit is_zero shown d_to_e trim_start leading cons_trimmed trim_end trim same stem ends_with
+unfolding cards lines is_space is_blank is_printable is_digit is_zero shown d_to_e trim_start leading cons_trimmed trim_end trim same
+    stem ends_with
     filled after scan_from byte_class split_of settled_of opened unopened string_of is_sign is_negative unsigned is_digits digits_value_from
-    integer_of read_number starts_number start_of of_string of_number value_with value_of has_high class_of other_of continuation_of first_byte
-    unplaced_of card_of ends_open adds_nothing join_text join_comment opens join_words join_on lookup cards_in is_bad_length header_from header_of
-    place_in list_from list_of times_borne digits_before decimal_digits entry_line count_line refused_line in_order escaped_byte escaped printed_line
+    integer_of read_number starts_number start_of of_string of_number value_with value_of has_high class_of other_of continuation_of
+    first_byte
+    unplaced_of card_of ends_open adds_nothing join_text join_comment opens join_words join_on lookup cards_in is_bad_length header_from
+    header_of
+    place_in list_from list_of times_borne digits_before decimal_digits entry_line count_line refused_line in_order escaped_byte escaped
+    printed_line
     printed_of
 example_fed = refl

@@ -196,8 +196,11 @@ pub computed :
     ++ map (λ (c : Exchange). asked c.name c.new) exchanges
     ++ map (λ (s : Reread). asked "K" s.header) rereads
     ≡ map (λ (c : Exchange). c.was) exchanges ++ map (λ (c : Exchange). c.is) exchanges ++ map (λ (s : Reread). s.is) rereads
-unfolding is_space is_blank is_printable shown trim_start leading cons_trimmed trim_end trim same stem ends_with filled place_from after scan_from
-    byte_class split_of settled_of opened unopened string_of starts_number start_of of_string value_with value_of has_high class_of name_pieces
-    join_pieces other_of continuation_of is_within_quotes quoted_card extension_of hierarch_of unplaced_of card_of ends_open adds_nothing join_text
+unfolding is_space is_blank is_printable shown trim_start leading cons_trimmed trim_end trim same stem ends_with filled place_from after
+    scan_from
+    byte_class split_of settled_of opened unopened string_of starts_number start_of of_string value_with value_of has_high class_of
+    name_pieces
+    join_pieces other_of continuation_of is_within_quotes quoted_card extension_of hierarch_of unplaced_of card_of ends_open adds_nothing
+    join_text
     join_comment opens join_words join_on lookup cards_in is_bad_length header_from header_of written lookup_of
 computed = refl

@@ -52,6 +52,7 @@ module _ (name : List ℕ) where
   owns_string {c} (final {s}) l o q on =
       gives_one (entry_of name s c) (bears-entry name q on (held_string s c)) refl (shut_end q s c o)
   owns_string (goes_on {s} cut) l o q on =
-      gives_one (entry_of name (open_text_lem (head_part s)) none) (bears-entry name q on (held_string (open_text_lem (head_part s)) none)) refl
+      gives_one (entry_of name (open_text_lem (head_part s)) none)
+      (bears-entry name q on (held_string (open_text_lem (head_part s)) none)) refl
       (still_open q (head_part s)
       (owns_more cut (head_part s) (ap (last_is is_space) (parts_whole s) ∙ l) (ap ends_open (parts_whole s) ∙ o)))

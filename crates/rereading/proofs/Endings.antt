@@ -57,7 +57,12 @@ module _ (b : ℕ) (e : is_printable b ≡ true) where
   blank_printable =
       let least : (code " ") ≤ b = printable-least in
       let control : (m : ℕ) → m < code " " → eqb b m ≡ false = λ m h. ne_eqb b m (λ x. let y : b ≡ m = x in omega arith) in
-      rw (control tab (omega arith), control line_feed (omega arith), control form_feed (omega arith), control carriage_return (omega arith))
+      rw (
+        control tab (omega arith),
+        control line_feed (omega arith),
+        control form_feed (omega arith),
+        control carriage_return (omega arith),
+      )
       (or-none (eqb b (code " ")))
     where
       or-none : (u : Bool) → (u || false) ≡ u

@@ -101,7 +101,8 @@ module _ (w fs most scale : ℕ) (k : w < 2 ^ 64) (l : fs ≤ 24) (d : most ≡ 
       let rest = first_rest w t.0 fs (omega (arith, u, t.1, b)) t.2 t.3 in
       rw (cut, same, e) (omega (arith, rest))
 
-  pub word_told : Told w fs (one_in w most + count_leading_zeros 64 w * scale - scale) (used_in w most) (w * 2 ^ (used_in w most % 64) % 2 ^ 64)
+  pub word_told : Told w fs (one_in w most + count_leading_zeros 64 w * scale - scale)
+      (used_in w most) (w * 2 ^ (used_in w most % 64) % 2 ^ 64)
   word_told =
       let x = xor_small (count_leading_zeros 64 w) (leading_le 64 w) in
       record {

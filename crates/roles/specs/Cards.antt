@@ -1,5 +1,6 @@
 -- A header's bytes as its cards (SPECIFICATION 1).
-use Rattle.std.specs.Prelude.{ℕ, zero, suc, ◌*◌, ◌/◌, ◌%◌, Bool, cond, ◌||◌, not, List, [], ◌∷◌, map, eqb, ltb, length, take, drop, replicate}
+use Rattle.std.specs.Prelude.{ℕ, zero, suc, ◌*◌, ◌/◌, ◌%◌, Bool, cond, ◌||◌, not}
+use Rattle.std.specs.Prelude.{List, [], ◌∷◌, map, eqb, ltb, length, take, drop, replicate}
 use Prim.Native.Char.{code}
 use Rattle.card.specs.declared.CardRead.{CardRead}
 use Rattle.card.specs.Cards.{card_of}

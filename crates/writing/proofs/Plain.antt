@@ -65,8 +65,12 @@ pub plain_bytes : (name t : List ℕ) (c : Comment) → length name ≤ 8 → fi
 plain_bytes name t c h e =
     let body = body_of (plain_text t c) in
     ap length (plain_flat name t c h)
-    ∙ omega
-    (arith, length-append (name_front name) body, front_length name h, body_length (plain_text t c) (leb-true (length (plain_text t c)) 70 e))
+    ∙ omega (
+      arith,
+      length-append (name_front name) body,
+      front_length name h,
+      body_length (plain_text t c) (leb-true (length (plain_text t c)) 70 e),
+    )
 
 -- a number that is longer than a card does not fit
 pub long_over : (t : List ℕ) (c : Comment) → 70 < length t → fits_card t c ≡ false
@@ -74,7 +78,8 @@ long_over t c h = lt-leb (length (plain_text t c)) 70 (omega (arith, plain_lengt
 
 -- so its first 80 bytes tell as much
 pub first_tell : (name t : List ℕ) (c : Comment) (block : List ℕ)
-    → put_where (fits_card (take size t) c) (plain_cards name (take size t) c) block ≡ put_where (fits_card t c) (plain_cards name t c) block
+    → put_where (fits_card (take size t) c) (plain_cards name (take size t) c) block
+    ≡ put_where (fits_card t c) (plain_cards name t c) block
 unfolding put_where
 first_tell name t c block = go (ltb 80 (length t)) refl
   where

@@ -19,7 +19,8 @@ enum-told-2 c = search rules
 returns : tie.Need-returns-in-Finite
 returns c =
     let minus = c.args.minus in
-    ap (told 2 minus) (to_z-of_z {w = w64} (record { sfits = c.in-Finite.known_told-1-own.given.0.1 })) ∙ ap (size_told minus) (sym c.in-Finite.is)
+    ap (told 2 minus) (to_z-of_z {w = w64} (record { sfits = c.in-Finite.known_told-1-own.given.0.1 }))
+    ∙ ap (size_told minus) (sym c.in-Finite.is)
 
 returns-2 : tie.Need-returns-in-Infinite
 returns-2 c = ap (size_told c.args.minus) (sym c.in-Infinite.is)

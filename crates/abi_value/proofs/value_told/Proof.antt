@@ -30,7 +30,8 @@ enum-told-3 : tie.Need-enum_told-in-Invalid
 enum-told-3 c = search rules
 
 returns : tie.Need-returns-in-Integer
-returns c = ap (told 1 false) (to_z-of_z {w = w64} (record { sfits = c.in-Integer.known_told-1-own.given.0.1 })) ∙ ap value_told (sym c.in-Integer.is)
+returns c = ap (told 1 false) (to_z-of_z {w = w64} (record { sfits = c.in-Integer.known_told-1-own.given.0.1 }))
+    ∙ ap value_told (sym c.in-Integer.is)
 
 returns-2 : tie.Need-returns-in-Float
 returns-2 c = c.size_told.ensures ∙ ap value_told (sym c.in-Float.is)

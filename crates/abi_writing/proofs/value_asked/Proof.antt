@@ -57,7 +57,8 @@ returns-8 c =
     let fourth = fifth in
     let third = fourth in
     let second = third in
-    asked-last _ _ second.if-kind-eq1.false second.if-kind-eq2.false third.if-kind-eq3.false fourth.if-kind-eq4.false fifth.if-kind-eq5.false
+    asked-last _ _ second.if-kind-eq1.false second.if-kind-eq2.false third.if-kind-eq3.false
+    fourth.if-kind-eq4.false fifth.if-kind-eq5.false
     sixth.if-kind-eq6.false c.if-kind-eq7.false
 
 pub value_asked_spec : {M : Type 1} → statement M

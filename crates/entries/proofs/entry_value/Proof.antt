@@ -80,7 +80,8 @@ returns c =
     ∙ ap (λ (x : Spot). value_left (value_refused x) text) c.no_entry.ensures
     ∙ refused-value (no_entry_vacant role s.args.i) h text
     ∙ ap (λ (x : Sought). value_in x text)
-    (sym (numbered-none h s.args.i s.requires.0 (card part) (card-is part) role (sym part.role_of-role.ensures) other.in_default.in_default-own.keys2))
+    (sym (numbered-none h s.args.i s.requires.0 (card part) (card-is part) role
+    (sym part.role_of-role.ensures) other.in_default.in_default-own.keys2))
 
 is-open-requires : tie.Need-is_open-requires
 is-open-requires c κs = search rules

@@ -75,7 +75,8 @@ read c = c.card_at-card.result
 abbrev told : tie.After-course_of invariant-loop decreases-loop → Told
 told c = c.role_of-role.result
 
-role_so : (c : tie.After-course_of invariant-loop decreases-loop) (t : Told) → told c ≡ t → role_in t (read c) ≡ role_no (header (at c)) (number c)
+role_so : (c : tie.After-course_of invariant-loop decreases-loop) (t : Told) → told c ≡ t
+    → role_in t (read c) ≡ role_no (header (at c)) (number c)
 role_so c t e =
     ap (λ (q : Told). role_in q (read c)) (sym e ∙ c.role_of-role.ensures)
     ∙ ap role_read (c.card_at-card.ensures ∙ card-here (header (at c)) (number c) (more c))

@@ -19,7 +19,8 @@ use Rattle.numerals.proofs.integer_text.Tie as tie
 abbrev start : tie.After-natural_text-digits → tie.Start
 start c = c.before.before
 
-digits-told : (c : tie.After-natural_text-digits) (n : ℕ) → nat_abs (start c).args.z ≡ n → c.natural_text-digits.result ≡ text_of (decimal_digits n)
+digits-told : (c : tie.After-natural_text-digits) (n : ℕ) → nat_abs (start c).args.z ≡ n
+    → c.natural_text-digits.result ≡ text_of (decimal_digits n)
 digits-told c n e =
     c.natural_text-digits.ensures
     ∙ ap (λ (k : ℕ). text_of (decimal_digits k)) (c.size_of.ensures ∙ ap nat_abs (to_z-of_z (start c).ranges.z) ∙ e)

@@ -20,7 +20,16 @@ overflow_add-written g c =
     ∙ ap (λ (s : List ℕ). length (escaped s)) c.first_of.ensures
     ∙ ap (λ (k : ℕ). length (escaped (take k line))) c.one_less.ensures in
     let fed : c.in-Whole-write.end ≡ 1 = counted (line_feed ∷ []) c.in-Whole-write.is c.write-2.ensures in
-    record { fits = omega (arith, before, fed, escaped-few (take (length line - 1) line), length-take (length line - 1) line, c.if-line-gt-MOST_VISIBLE.false) }
+    record {
+      fits = omega (
+        arith,
+        before,
+        fed,
+        escaped-few (take (length line - 1) line),
+        length-take (length line - 1) line,
+        c.if-line-gt-MOST_VISIBLE.false,
+      );
+    }
 
 pub returns : goal.returns
 returns g c =

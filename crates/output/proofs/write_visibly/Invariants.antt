@@ -5,7 +5,8 @@ use Rattle.output.proofs.write_visibly.Given as goal
 
 abbrev pub invariant-loop-at : goal.invariant-loop-at
 invariant-loop-at g l =
-    (l.at ≤ length l.s) × (l.written ≤ 4 * l.at) × (length l.piece ≡ 1024) × (l.written + length (escaped (drop l.at l.s)) ≡ length (escaped l.s))
+    (l.at ≤ length l.s) × (l.written ≤ 4 * l.at) × (length l.piece ≡ 1024)
+    × (l.written + length (escaped (drop l.at l.s)) ≡ length (escaped l.s))
 
 abbrev pub decreases-loop-at : goal.decreases-loop-at
 decreases-loop-at g l = length l.s - l.at

@@ -98,7 +98,8 @@ returns c =
     let e = c.before in
     let l = e.before.before in
     let rest = drop l.loop-i.i (start l).args.s.now in
-    let fits = rest-fits (own l) (start l).requires rest (ltb-false (room l) (length (doubled rest)) (sym (asked e) ∙ c.loop-i-test.false)) in
+    let fits = rest-fits (own l) (start l).requires rest
+    (ltb-false (room l) (length (doubled rest)) (sym (asked e) ∙ c.loop-i-test.false)) in
     counted (own l) (start l).requires l.loop-i.invariant fits
 
 pub count_pieces_spec : {M : Type 1} → statement M

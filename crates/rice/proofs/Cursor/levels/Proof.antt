@@ -130,7 +130,8 @@ returns c =
     let z = l in
     let f = z.before.before.before.before.before.before.before in
     let a = (start f).args in
-    reach_levels (start f).requires _ _ _ _ f.fs_bits-size.ensures (looked z.before.before.before.before.before.before) z.zeros-zeros.ensures l.least-many.ensures _ _
+    reach_levels (start f).requires _ _ _ _ f.fs_bits-size.ensures
+    (looked z.before.before.before.before.before.before) z.zeros-zeros.ensures l.least-many.ensures _ _
     (last-is (start f)) (v.level.ensures a.width (facts (start f).requires).last a.tile.now).1
 
 pub levels_spec : {M : Type 1} → statement M

@@ -46,7 +46,8 @@ level-of-requires c κs =
 abbrev start : tie.After-level_of-level invariant-ones decreases-ones → tie.Start invariant-ones decreases-ones
 start c = c.before.before.before.before.before.before.before
 
-first : (c : tie.After-level_of-level invariant-ones decreases-ones) → raised (start c).args.width c.level_of-level.result ≡ (start c).args.self.last
+first : (c : tie.After-level_of-level invariant-ones decreases-ones)
+    → raised (start c).args.width c.level_of-level.result ≡ (start c).args.self.last
 first c = c.level_of-level.ensures.1 ∙ last-is (start c)
 
 ones-holds : tie.Need-ones-init invariant-ones decreases-ones

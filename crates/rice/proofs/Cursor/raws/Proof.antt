@@ -57,7 +57,8 @@ level-of-requires c κs =
 abbrev start : tie.After-level_of-level invariant-raws decreases-raws → tie.Start invariant-raws decreases-raws
 start c = c.before.before.before.before.before.before.before
 
-first : (c : tie.After-level_of-level invariant-raws decreases-raws) → raised (start c).args.width c.level_of-level.result ≡ (start c).args.self.last
+first : (c : tie.After-level_of-level invariant-raws decreases-raws)
+    → raised (start c).args.width c.level_of-level.result ≡ (start c).args.self.last
 first c = c.level_of-level.ensures.1 ∙ last-is (start c)
 
 raws-holds : tie.Need-raws-init invariant-raws decreases-raws

@@ -24,7 +24,10 @@ use Rattle.rice.proofs.Reaching.{facts, field-some}
 use Rattle.rice.proofs.Blockwise.{counted, Onto, onto-start, onto-end, onto-block, onto-cut, window_field, part_small}
 use Rattle.rice.proofs.Cursor.splits.Statement.{statement}
 use Rattle.rice.proofs.Cursor.splits.Tie as tie
-use Rattle.rice.proofs.Cursor.splits.Lts.{else-splits-test, then-splits-test+then-tile-bit, then-splits-test+else-tile-bit+then-field-eq0, then-splits-test+else-tile-bit+else-field-eq0+then-top-field, then-splits-test+else-tile-bit+else-field-eq0+else-top-field+in_default}
+use Rattle.rice.proofs.Cursor.splits.Lts.{else-splits-test, then-splits-test+then-tile-bit}
+use Rattle.rice.proofs.Cursor.splits.Lts.{then-splits-test+else-tile-bit+then-field-eq0}
+use Rattle.rice.proofs.Cursor.splits.Lts.{then-splits-test+else-tile-bit+else-field-eq0+then-top-field}
+use Rattle.rice.proofs.Cursor.splits.Lts.{then-splits-test+else-tile-bit+else-field-eq0+else-top-field+in_default}
 
 abbrev invariant-splits : tie.invariant-splits
 invariant-splits tile width nx nblock pixels₀ size top mask below last bit₀ done₀ level₀ pixels bit done level =
@@ -58,7 +61,8 @@ level-of-requires c κs =
 abbrev start : tie.After-level_of-level invariant-splits decreases-splits → tie.Start invariant-splits decreases-splits
 start c = c.before.before.before.before.before.before.before
 
-first : (c : tie.After-level_of-level invariant-splits decreases-splits) → raised (start c).args.width c.level_of-level.result ≡ (start c).args.self.last
+first : (c : tie.After-level_of-level invariant-splits decreases-splits)
+    → raised (start c).args.width c.level_of-level.result ≡ (start c).args.self.last
 first c = c.level_of-level.ensures.1 ∙ last-is (start c)
 
 splits-holds : tie.Need-splits-init invariant-splits decreases-splits

@@ -138,8 +138,12 @@ store-requires-3 : tie.Need-store-level-requires-then-i-part invariant-loop decr
 store-requires-3 c κs =
     let r = c in
     let l = r.before.before.before.before in
-    let a = (start l).args in
-    ((start l).requires.0.1, l.loop-part.invariant.on.inside.1, raw_small a.self a.tile.now _ _ r.raw_at-a-then-i-part.ensures, r.if-i-part.true)
+    let a = (start l).args in (
+      (start l).requires.0.1,
+      l.loop-part.invariant.on.inside.1,
+      raw_small a.self a.tile.now _ _ r.raw_at-a-then-i-part.ensures,
+      r.if-i-part.true,
+    )
 
 -- the last pixel is stored
 last : (c : tie.After-store-level-then-i-part invariant-loop decreases-loop)
@@ -154,7 +158,8 @@ last c =
     let l = r.before.before.before.before.before in
     let a = (start l).args in
     raw_on a.self a.tile.now a.bit a.start a.part.now (start l).requires.1 l.loop-part.part l.loop-part.k
-    l.loop-part.level l.loop-part.i l.loop-part.invariant _ _ _ _ _ r.if-i-part.true r.raw_at-a-then-i-part.ensures c.store-level-then-i-part.ensures refl refl
+    l.loop-part.level l.loop-part.i l.loop-part.invariant _ _ _ _ _ r.if-i-part.true
+    r.raw_at-a-then-i-part.ensures c.store-level-then-i-part.ensures refl refl
 
 same_length : tie.Need-shape_of-part-then-i-part invariant-loop decreases-loop
 same_length c = (last c.before).on.sized
