@@ -1,14 +1,11 @@
 -- The lengths that reading a card asks for.
 use Prim.Native.Nat.{ℕ}
-use native.Mathlib.Nat.{le_of_eq}
 use mathlib.Core.Path.{◌≡◌, refl, ap}
 use mathlib.Core.Bool.{Bool, true, false, ◌&&◌}
-use mathlib.Core.List.{List, append-nil}
+use mathlib.Core.List.{List}
 use lib.Dec.{eqb}
-use lib.ListN.{length, take}
-use lib.Seq.{take_all}
+use lib.ListN.{length}
 use borrow.Author.Tests.{eq-eqb, ne_eqb}
-use Rattle.text.specs.Text.{size, filled, padded}
 use Rattle.abi_card.specs.Records.{is_card_fit}
 
 module _ (card o : List ℕ) where
@@ -23,8 +20,3 @@ module _ (card o : List ℕ) where
   pub fit : length card ≡ 80 → length o ≡ 248 → is_card_fit card o ≡ true
   unfolding is_card_fit
   fit e f = rw (eq-eqb (length card) 80 e, eq-eqb (length o) 248 f) refl
-
--- a text as long as its array is the array
-pub whole_array : (s : List ℕ) → length s ≡ size → padded size (take size s) ≡ s
-unfolding filled
-whole_array s e = rw (take_all size s (le_of_eq e), e) (append-nil s)

@@ -4,10 +4,10 @@
 ghost use Rattle.std.specs.Prelude.{◌≡◌, ◌++◌, false, pos, length};
 ghost use Rattle.laws.specs.Lending.{lent_of};
 ghost use Rattle.abi_value.specs.Telling.{told};
-ghost use Rattle.abi_card.specs.Records.{class_number, card_told, byte_of, record_head, record_of, card_outcome, recorded_as, CardLeft};
+ghost use Rattle.abi_card.specs.Records.{class_number, card_told, byte_of, text_in, record_head, record_of, CardLeft};
 
 use abi_value::Told;
-use card::{CARD, Card, CardAnswer, CardRead};
+use card::{Card, CardRead};
 use text::Text;
 
 // The bytes of a card's record, and where its texts stand, 80 bytes each.
@@ -25,16 +25,24 @@ const COMMENT: usize = 168;
 pub fn read_into(card: &[u8], out: &mut [u8], number: &mut i64, column: &mut usize) -> u8
     ensures { CardLeft card.now (lent_of out) (lent_of number) (lent_of column) result }
 {
-    if card.len() != CARD {
+    let Some(card) = card.as_array::<80>() else {
         return abi_value::WRONG_LENGTH;
-    }
+    };
     if out.len() != RECORD {
         return abi_value::WRONG_LENGTH;
     }
-    let copy = text::text_of(card);
-    let bytes = copy.bytes;
-    let read = card::read_card(&bytes);
-    write_card(read, out, number, column)
+    let answer = card::read_card(card);
+    match &answer {
+        Ok(read) => {
+            write_record(read, out);
+            *number = card_told(read.card).number;
+            0
+        }
+        Err(fault) => {
+            *column = abi_value::column_after(fault.column, *column);
+            fault.number()
+        }
+    }
 }
 
 // ---- a card in numbers
@@ -92,61 +100,43 @@ fn byte(n: usize) -> u8
     if n < 255 { n as u8 } else { 255 }
 }
 
-// The eight numbers in front of a record.
-fn head(read: CardRead, class: u8, value: Told) -> [u8; 8]
-    ensures { result ≡ record_head read class value }
+// The text of a comment, which is empty where there is none.
+fn text_in(comment: Option<Text>) -> Text
+    ensures { result ≡ text_in comment }
 {
-    let name = read.name;
-    let text = read.text;
-    let comment = read.comment;
+    comment.unwrap_or(text::empty_text())
+}
+
+// The eight numbers in front of a record.
+fn head(read: &CardRead, value: Told) -> [u8; 8]
+    ensures { result ≡ record_head read.now value }
+{
     [
-        class,
+        class_number(read.card),
         value.kind,
         abi_value::bit(value.flag),
-        abi_value::bit(read.commented),
-        byte(name.len),
-        byte(text.len),
-        byte(comment.len),
+        abi_value::bit(read.comment.is_some()),
+        byte(read.name.len),
+        byte(read.text.len),
+        byte(text_in(read.comment).len),
         0,
     ]
 }
 
 // A card's record.
-fn write_record(card: Card, read: CardRead, out: &mut [u8])
+fn write_record(read: &CardRead, out: &mut [u8])
     requires { length out.old ≡ 248 }
-    ensures { out.new ≡ record_of card read }
+    ensures { out.new ≡ record_of read.now }
 {
-    let front = head(read, class_number(card), card_told(card));
-    let name = read.name;
-    let name_bytes = name.bytes;
-    let text = read.text;
-    let text_bytes = text.bytes;
-    let comment = read.comment;
-    let comment_bytes = comment.bytes;
-    fill(out, &front, &name_bytes, &text_bytes, &comment_bytes);
-}
-
-// What a card was read as, in lent memory.
-fn write_card(read: CardRead, out: &mut [u8], number: &mut i64, column: &mut usize) -> u8
-    requires { length out.old ≡ 248 }
-    ensures { card_outcome result out.new number.new column.new
-        ≡ recorded_as read.answer read out.old number.old column.old }
-{
-    let answer = read.answer;
-    match answer {
-        CardAnswer::Refused(fault) => {
-            let at = fault.column;
-            *column = abi_value::column_after(at, *column);
-            fault.number()
-        }
-        CardAnswer::Read(c) => {
-            write_record(c, read, out);
-            let value = card_told(c);
-            let z = value.number;
-            *number = z;
-            0
-        }
-    }
+    let front = head(read, card_told(read.card));
+    let comment = text_in(read.comment);
+    fill(
+        out,
+        &front,
+        &read.name.bytes,
+        &read.text.bytes,
+        &comment.bytes,
+    );
 }
 
 // A record's four parts, one behind the other.

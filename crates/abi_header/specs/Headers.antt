@@ -1,23 +1,20 @@
 -- What the C boundary writes of a header: where END stands, an entry's value and its comment, the list of its names, and a name.
-use Rattle.std.specs.Prelude.{ℕ, ◌≡◌, Bool, cond, ◌&&◌, List, [], ◌∷◌, eqb, ℤ, length, set}
+use Rattle.std.specs.Prelude.{ℕ, ◌≡◌, Bool, cond, ◌&&◌, List, [], ◌∷◌, eqb, ℤ, length, set, Err, Ok, Result}
 use Rattle.laws.specs.Lending.{Lent}
 use Rattle.refusal.specs.Numbers.{number_of}
 use Rattle.text.specs.Text.{size}
 use Rattle.abi_value.specs.declared.Told.{Told}
 use Rattle.abi_value.specs.Telling.{value_told, bit_of, wrong_length, column_after}
-use Rattle.finding.specs.declared.Header.{Header}
-use Rattle.finding.specs.declared.Header.TheVariants.{Accepted, Refused}
-use Rattle.entries.specs.declared.LookupAnswer.{LookupAnswer}
-use Rattle.entries.specs.declared.LookupAnswer.TheVariants as L
-use Rattle.entries.specs.declared.CommentAnswer.{CommentAnswer}
-use Rattle.entries.specs.declared.CommentAnswer.TheVariants as C
+use Rattle.numbers.specs.declared.Value.{Value}
+use Rattle.entries.specs.declared.NoEntry.{NoEntry}
+use Rattle.entries.specs.declared.NoEntry.TheVariants as N
 use Rattle.entries.specs.declared.ValueHalf.{ValueHalf}
 use Rattle.entries.specs.Halves.{ValueOutcome, CommentOutcome}
 use Rattle.listing.specs.declared.Listing.{Listing}
 use Rattle.listing.specs.Listing.{places}
-use Rattle.naming.specs.declared.Named.{Named}
-use Rattle.naming.specs.declared.Named.TheVariants as N
 use Rattle.naming.specs.Naming.{NameOutcome}
+use Rattle.finding.specs.declared.Stop.{Stop}
+use Rattle.refusal.specs.declared.Fault.{Fault}
 
 -- ---- where END stands
 
@@ -28,13 +25,13 @@ pub record HeaderOutcome : Type 0 where
   pub column : ℕ
 
 -- 0, with the number of END; or the refusal's number, with the number of the card at which the header is refused and its column
-abbrev pub header_told : Header → ℕ → HeaderOutcome
-header_told (Accepted end) column = record { answer = 0; card = end; column = column }
-header_told (Refused s) column =
+abbrev pub header_told : Result ℕ Stop → ℕ → HeaderOutcome
+header_told (Ok end) column = record { answer = 0; card = end; column = column }
+header_told (Err s) column =
     record { answer = number_of s.fault.why; card = s.card; column = column_after s.fault.column column }
 
 -- what saying where END stands leaves, where x is what the header is read as and r the answer
-abbrev pub HeaderLeft : Header → Lent ℕ → Lent ℕ → ℕ → Type 0
+abbrev pub HeaderLeft : Result ℕ Stop → Lent ℕ → Lent ℕ → ℕ → Type 0
 HeaderLeft x card column r =
     ◌≡◌ {A = HeaderOutcome} (record { answer = r; card = card.left; column = column.left }) (header_told x column.was)
 
@@ -49,34 +46,34 @@ abbrev pub numbers_of : Told → ValueHalf → List ℕ
 numbers_of t r = 0 ∷ t.kind ∷ bit_of t.flag ∷ r.text ∷ r.digits.len ∷ []
 
 -- 0, or the refusal's number
-abbrev pub value_said : LookupAnswer → ℕ
-value_said (L.Found v) = 0
-value_said (L.Header s) = number_of s.fault.why
-value_said (L.Refused f) = number_of f.why
+abbrev pub value_said : Result Value NoEntry → ℕ
+value_said (Ok v) = 0
+value_said (Err (N.Header s)) = number_of s.fault.why
+value_said (Err (N.Refused f)) = number_of f.why
 
 -- a refused header leaves the card's number in the first place; 12 and 13 leave the room that is wanted in that of the text's length
-abbrev pub numbers_after : LookupAnswer → ValueHalf → List ℕ → List ℕ
-numbers_after (L.Found v) r o = numbers_of (value_told v) r
-numbers_after (L.Header s) r o = set o 0 s.card
-numbers_after (L.Refused f) r o = set o 3 r.text
+abbrev pub numbers_after : Result Value NoEntry → ValueHalf → List ℕ → List ℕ
+numbers_after (Ok v) r o = numbers_of (value_told v) r
+numbers_after (Err (N.Header s)) r o = set o 0 s.card
+numbers_after (Err (N.Refused f)) r o = set o 3 r.text
 
 -- a decimal's digits, then zeros; a refusal leaves all as it was
-abbrev pub digits_after : LookupAnswer → ValueHalf → List ℕ → List ℕ
-digits_after (L.Found v) r d = r.digits.bytes
-digits_after (L.Header s) r d = d
-digits_after (L.Refused f) r d = d
+abbrev pub digits_after : Result Value NoEntry → ValueHalf → List ℕ → List ℕ
+digits_after (Ok v) r d = r.digits.bytes
+digits_after (Err (N.Header s)) r d = d
+digits_after (Err (N.Refused f)) r d = d
 
 -- the integer or the power of ten; a refusal leaves it as it was
-abbrev pub number_after : LookupAnswer → ℤ → ℤ
-number_after (L.Found v) z = (value_told v).number
-number_after (L.Header s) z = z
-number_after (L.Refused f) z = z
+abbrev pub number_after : Result Value NoEntry → ℤ → ℤ
+number_after (Ok v) z = (value_told v).number
+number_after (Err (N.Header s)) z = z
+number_after (Err (N.Refused f)) z = z
 
 -- the column of a refusal; otherwise it stays as it was
-abbrev pub value_column : LookupAnswer → ℕ → ℕ
-value_column (L.Found v) column = column
-value_column (L.Header s) column = column_after s.fault.column column
-value_column (L.Refused f) column = column_after f.column column
+abbrev pub value_column : Result Value NoEntry → ℕ → ℕ
+value_column (Ok v) column = column
+value_column (Err (N.Header s)) column = column_after s.fault.column column
+value_column (Err (N.Refused f)) column = column_after f.column column
 
 -- an answer, and the lent memory after it
 pub record ValueMemory : Type 0 where
@@ -136,10 +133,10 @@ pub record CommentMemory : Type 0 where
 
 -- 0, with whether there is a comment and its length; or the refusal's number, with the card's number and the column of a refused header,
 -- or the room that is wanted
-abbrev pub comment_stored : CommentAnswer → ℕ → List ℕ → ℕ → ℕ → ℕ → ℕ → CommentMemory
-comment_stored (C.Found there) n comment commented bytes card column =
+abbrev pub comment_stored : Result Bool NoEntry → ℕ → List ℕ → ℕ → ℕ → ℕ → ℕ → CommentMemory
+comment_stored (Ok there) n comment commented bytes card column =
     record { answer = 0; comment = comment; commented = bit_of there; bytes = n; card = card; column = column }
-comment_stored (C.Header s) n comment commented bytes card column =
+comment_stored (Err (N.Header s)) n comment commented bytes card column =
     record {
       answer = number_of s.fault.why;
       comment = comment;
@@ -148,7 +145,7 @@ comment_stored (C.Header s) n comment commented bytes card column =
       card = s.card;
       column = column_after s.fault.column column;
     }
-comment_stored (C.Refused f) n comment commented bytes card column =
+comment_stored (Err (N.Refused f)) n comment commented bytes card column =
     record {
       answer = number_of f.why;
       comment = comment;
@@ -189,10 +186,10 @@ list_outcome answer first last times count column =
     record { answer = answer; first = first; last = last; times = times; count = count; column = column }
 
 -- 0, with the places and the number of names; or the refusal's number, with the card's number as the count and its column
-abbrev pub list_told : Header → Listing → List ℕ → List ℕ → List ℕ → ℕ → ListOutcome
-list_told (Accepted end) x first last times column =
+abbrev pub list_told : Result ℕ Stop → Listing → List ℕ → List ℕ → List ℕ → ℕ → ListOutcome
+list_told (Ok end) x first last times column =
     list_outcome 0 x.first x.last x.times x.count column
-list_told (Refused s) x first last times column =
+list_told (Err s) x first last times column =
     list_outcome (number_of s.fault.why) first last times s.card (column_after s.fault.column column)
 
 -- the lengths that are asked for: those of first cards, last entries and numbers
@@ -221,9 +218,9 @@ pub record NamedOutcome : Type 0 where
   pub column : ℕ
 
 -- 0, with the length of the name; or the refusal's number, with its column, and the length stays as it was
-abbrev pub name_told : Named → List ℕ → ℕ → ℕ → NamedOutcome
-name_told (N.Bears n) name bytes column = record { answer = 0; name = name; bytes = n; column = column }
-name_told (N.Refused f) name bytes column =
+abbrev pub name_told : Result ℕ Fault → List ℕ → ℕ → ℕ → NamedOutcome
+name_told (Ok n) name bytes column = record { answer = 0; name = name; bytes = n; column = column }
+name_told (Err f) name bytes column =
     record { answer = number_of f.why; name = name; bytes = bytes; column = column_after f.column column }
 
 -- what reading a name leaves: `read` says what is read with the lent buffer, and r is the answer

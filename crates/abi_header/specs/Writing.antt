@@ -1,17 +1,17 @@
 -- What is written of an answer that is known.
-use Rattle.std.specs.Prelude.{ℕ, ◌≡◌, List, ℤ}
+use Rattle.std.specs.Prelude.{ℕ, ◌≡◌, List, ℤ, Result, Bool}
 use Rattle.laws.specs.Lending.{Lent}
-use Rattle.finding.specs.declared.Header.{Header}
-use Rattle.entries.specs.declared.LookupAnswer.{LookupAnswer}
-use Rattle.entries.specs.declared.CommentAnswer.{CommentAnswer}
+use Rattle.numbers.specs.declared.Value.{Value}
+use Rattle.entries.specs.declared.NoEntry.{NoEntry}
 use Rattle.entries.specs.declared.ValueHalf.{ValueHalf}
 use Rattle.listing.specs.declared.Listing.{Listing}
 use Rattle.abi_header.specs.Headers.{value_said, digits_after, numbers_after, number_after, value_column}
 use Rattle.abi_header.specs.Headers.{CommentMemory, comment_stored, list_outcome, list_told}
+use Rattle.finding.specs.declared.Stop.{Stop}
 
 -- the value that was read, where a is its answer
 pub record ValueWritten
-    (a : LookupAnswer) (read : ValueHalf) (digits out : Lent (List ℕ)) (number : Lent ℤ) (column : Lent ℕ) (r : ℕ) : Type 0 where
+    (a : Result Value NoEntry) (read : ValueHalf) (digits out : Lent (List ℕ)) (number : Lent ℤ) (column : Lent ℕ) (r : ℕ) : Type 0 where
   pub said : r ≡ value_said a
   pub in_digits : digits.left ≡ digits_after a read digits.was
   pub in_numbers : out.left ≡ numbers_after a read out.was
@@ -19,7 +19,7 @@ pub record ValueWritten
   pub in_column : column.left ≡ value_column a column.was
 
 -- the comment that was read, where a is its answer and n its length, whatever its buffer holds
-abbrev pub CommentWritten : CommentAnswer → ℕ → Lent ℕ → Lent ℕ → Lent ℕ → Lent ℕ → ℕ → Type 0
+abbrev pub CommentWritten : Result Bool NoEntry → ℕ → Lent ℕ → Lent ℕ → Lent ℕ → Lent ℕ → ℕ → Type 0
 CommentWritten a n commented bytes card column r =
     (c : List ℕ)
     → ◌≡◌ {A = CommentMemory}
@@ -35,7 +35,7 @@ CommentWritten a n commented bytes card column r =
 
 -- what was listed, where a is the header's answer
 abbrev pub ListWritten :
-    Header → Listing → Lent (List ℕ) → Lent (List ℕ) → Lent (List ℕ) → Lent ℕ → Lent ℕ → ℕ → Type 0
+    Result ℕ Stop → Listing → Lent (List ℕ) → Lent (List ℕ) → Lent (List ℕ) → Lent ℕ → Lent ℕ → ℕ → Type 0
 ListWritten a read first last times count column r =
     list_outcome r first.left last.left times.left count.left column.left
     ≡ list_told a read first.was last.was times.was column.was

@@ -11,10 +11,8 @@ ghost use Rattle.abi_header.specs.Headers.{numbers_of, HeaderLeft, ValueLeft, Co
 ghost use Rattle.abi_header.specs.Writing.{ValueWritten, CommentWritten, ListWritten};
 
 use abi_value::Told;
-use entries::{CommentAnswer, CommentHalf, LookupAnswer, ValueHalf};
-use finding::Header;
+use entries::{CommentHalf, NoEntry, ValueHalf};
 use listing::{Listed, PLACES};
-use naming::Named;
 
 // The numbers of a value, and the bytes of its digits.
 const NUMBERS: usize = 5;
@@ -27,15 +25,12 @@ pub fn header_into(header: &[u8], card: &mut usize, column: &mut usize) -> u8
     ensures { HeaderLeft (header_of header.now) (lent_of card) (lent_of column) result }
 {
     match finding::read_header(header) {
-        Header::Refused(stop) => {
-            let fault = stop.fault;
-            let i = stop.card;
-            *card = i;
-            let at = fault.column;
-            *column = abi_value::column_after(at, *column);
-            fault.number()
+        Err(stop) => {
+            *card = stop.card;
+            *column = abi_value::column_after(stop.fault.column, *column);
+            stop.fault.number()
         }
-        Header::Accepted(end) => {
+        Ok(end) => {
             *card = end;
             0
         }
@@ -58,7 +53,7 @@ pub fn lookup_value_into(
     ensures { ValueLeft (value_named header.now name.now)
         (lent_of text) (lent_of digits) (lent_of out) (lent_of number) (lent_of column) result }
 {
-    if (digits.len() == DIGITS) & (out.len() == NUMBERS) {
+    if digits.len() == DIGITS && out.len() == NUMBERS {
         let read = entries::lookup_value(header, name, text);
         return write_value(read, digits, out, number, column);
     }
@@ -78,7 +73,7 @@ pub fn entry_value_into(
     ensures { ValueLeft (value_numbered header.now card)
         (lent_of text) (lent_of digits) (lent_of out) (lent_of number) (lent_of column) result }
 {
-    if (digits.len() == DIGITS) & (out.len() == NUMBERS) {
+    if digits.len() == DIGITS && out.len() == NUMBERS {
         let read = entries::value_at(header, card, text);
         return write_value(read, digits, out, number, column);
     }
@@ -135,7 +130,7 @@ pub fn list_into(
     ensures { ListLeft (list_of header.now)
         (lent_of first) (lent_of last) (lent_of times) (lent_of count) (lent_of column) result }
 {
-    if (first.len() == PLACES) & (last.len() == PLACES) & (times.len() == PLACES) {
+    if first.len() == PLACES && last.len() == PLACES && times.len() == PLACES {
         let mut firsts: [usize; 720] = [0; 720];
         let mut lasts: [usize; 720] = [0; 720];
         let mut borne: [usize; 720] = [0; 720];
@@ -158,15 +153,13 @@ pub fn name_into(
 ) -> u8
     ensures { NameLeft (name_at header.now card) (lent_of name) (lent_of length) (lent_of column) result }
 {
-    let read = naming::read_name(header, card, name);
-    match read {
-        Named::Bears(n) => {
+    match naming::read_name(header, card, name) {
+        Ok(n) => {
             *length = n;
             0
         }
-        Named::Refused(fault) => {
-            let at = fault.column;
-            *column = abi_value::column_after(at, *column);
+        Err(fault) => {
+            *column = abi_value::column_after(fault.column, *column);
             fault.number()
         }
     }
@@ -183,31 +176,23 @@ fn write_value(
     requires { (length digits.old ≡ 80) × (length out.old ≡ 5) }
     ensures { ValueWritten read.answer read (lent_of digits) (lent_of out) (lent_of number) (lent_of column) result }
 {
-    let answer = read.answer;
-    match answer {
-        LookupAnswer::Header(stop) => {
-            let fault = stop.fault;
-            out[0] = stop.card;
-            let at = fault.column;
-            *column = abi_value::column_after(at, *column);
-            fault.number()
-        }
-        LookupAnswer::Refused(fault) => {
-            out[3] = read.text;
-            let at = fault.column;
-            *column = abi_value::column_after(at, *column);
-            fault.number()
-        }
-        LookupAnswer::Found(v) => {
+    match read.answer {
+        Ok(v) => {
             let value = abi_value::value_told(v);
-            let numbers = numbers_of(value, read);
-            put_numbers(&numbers, out);
-            let own = read.digits;
-            let places = own.bytes;
-            text::put_at(&places, digits, 0);
-            let z = value.number;
-            *number = z;
+            out.copy_from_slice(&numbers_of(value, read));
+            digits.copy_from_slice(&read.digits.bytes);
+            *number = value.number;
             0
+        }
+        Err(NoEntry::Header(stop)) => {
+            out[0] = stop.card;
+            *column = abi_value::column_after(stop.fault.column, *column);
+            stop.fault.number()
+        }
+        Err(NoEntry::Refused(fault)) => {
+            out[3] = read.text;
+            *column = abi_value::column_after(fault.column, *column);
+            fault.number()
         }
     }
 }
@@ -223,25 +208,21 @@ fn write_comment(
     ensures { CommentWritten read.answer read.comment
         (lent_of commented) (lent_of length) (lent_of card) (lent_of column) result }
 {
-    let answer = read.answer;
-    match answer {
-        CommentAnswer::Header(stop) => {
-            let fault = stop.fault;
-            *card = stop.card;
-            let at = fault.column;
-            *column = abi_value::column_after(at, *column);
-            fault.number()
-        }
-        CommentAnswer::Refused(fault) => {
-            *length = read.comment;
-            let at = fault.column;
-            *column = abi_value::column_after(at, *column);
-            fault.number()
-        }
-        CommentAnswer::Found(there) => {
+    match read.answer {
+        Ok(there) => {
             *commented = abi_value::bit(there) as usize;
             *length = read.comment;
             0
+        }
+        Err(NoEntry::Header(stop)) => {
+            *card = stop.card;
+            *column = abi_value::column_after(stop.fault.column, *column);
+            stop.fault.number()
+        }
+        Err(NoEntry::Refused(fault)) => {
+            *length = read.comment;
+            *column = abi_value::column_after(fault.column, *column);
+            fault.number()
         }
     }
 }
@@ -263,23 +244,18 @@ fn write_listing(
     ensures { ListWritten read.header (listing_by read firsts.now lasts.now borne.now)
         (lent_of first) (lent_of last) (lent_of times) (lent_of count) (lent_of column) result }
 {
-    let answer = read.header;
-    match answer {
-        Header::Refused(stop) => {
-            let fault = stop.fault;
-            let card = stop.card;
-            *count = card;
-            let at = fault.column;
-            *column = abi_value::column_after(at, *column);
-            fault.number()
-        }
-        Header::Accepted(_) => {
-            put_numbers(firsts, first);
-            put_numbers(lasts, last);
-            put_numbers(borne, times);
-            let n = read.count;
-            *count = n;
+    match read.header {
+        Ok(_) => {
+            first.copy_from_slice(firsts);
+            last.copy_from_slice(lasts);
+            times.copy_from_slice(borne);
+            *count = read.count;
             0
+        }
+        Err(stop) => {
+            *count = stop.card;
+            *column = abi_value::column_after(stop.fault.column, *column);
+            stop.fault.number()
         }
     }
 }
@@ -288,24 +264,11 @@ fn write_listing(
 fn numbers_of(value: Told, read: ValueHalf) -> [usize; 5]
     ensures { result ≡ numbers_of value read }
 {
-    let own = read.digits;
     [
         0,
         value.kind as usize,
         abi_value::bit(value.flag) as usize,
         read.text,
-        own.len,
+        read.digits.len,
     ]
-}
-
-// One slice laid over another of the same length.
-fn put_numbers(s: &[usize], out: &mut [usize])
-    requires { length s.now ≡ length out.old }
-    ensures { out.new ≡ s.now }
-{
-    let mut i = 0;
-    while i < s.len() {
-        out[i] = s[i];
-        i += 1;
-    }
 }

@@ -1,15 +1,11 @@
 -- What the C boundary says of a tile: its answers and counts in numbers, and the cursor that is left.
-use Rattle.std.specs.Prelude.{ℕ, ◌≡◌, List, ℤ}
+use Rattle.std.specs.Prelude.{ℕ, ◌≡◌, Option, Some, None, Result, Ok, Err, List, ℤ}
 use Rattle.laws.specs.Lending.{Lent, Passed}
 use Rattle.refusal.specs.Numbers.{number_of}
+use Rattle.refusal.specs.declared.Fault.{Fault}
 use Rattle.rice.specs.Steps.{open_of, step_of, decode_of}
 use Rattle.rice.specs.declared.Cursor.{Cursor}
-use Rattle.rice.specs.declared.Opened.{Opened}
-use Rattle.rice.specs.declared.Opened.TheVariants as O
-use Rattle.rice.specs.declared.Stepped.{Stepped}
-use Rattle.rice.specs.declared.Stepped.TheVariants as S
-use Rattle.rice.specs.declared.Decoded.{Decoded}
-use Rattle.rice.specs.declared.Decoded.TheVariants as D
+use Rattle.rice.specs.declared.Broken.{Broken}
 
 -- a cursor in three numbers
 abbrev pub cursor_of : ℕ → ℕ → ℤ → Cursor
@@ -24,14 +20,14 @@ cursor_in bit done last = record {
 -- ---- opening
 
 -- 0, or the refusal's number
-abbrev pub open_said : Opened → ℕ
-open_said (O.At c) = 0
-open_said (O.Refused fault) = number_of fault.why
+abbrev pub open_said : Result Cursor Fault → ℕ
+open_said (Ok c) = 0
+open_said (Err fault) = number_of fault.why
 
 -- a refusal leaves the cursor as it was
-abbrev pub cursor_after : Opened → Cursor → Cursor
-cursor_after (O.At c) was = c
-cursor_after (O.Refused fault) was = was
+abbrev pub cursor_after : Result Cursor Fault → Cursor → Cursor
+cursor_after (Ok c) was = c
+cursor_after (Err fault) was = was
 
 -- what opening a tile leaves: its answer r, and the cursor
 pub record OpenLeft (tile : List ℕ) (nx nblock bits : ℕ) (cursor : Lent Cursor) (r : ℕ) : Type 0 where
@@ -45,22 +41,22 @@ abbrev pub nothing_left : ℕ
 nothing_left = 254
 
 -- 0 where a step was made, or the refusal's number
-abbrev pub step_said : Stepped → ℕ
-step_said S.Done = nothing_left
-step_said (S.Next c) = 0
-step_said (S.Refused fault n) = number_of fault.why
+abbrev pub step_said : Result (Option Cursor) Broken → ℕ
+step_said (Ok None) = nothing_left
+step_said (Ok (Some c)) = 0
+step_said (Err b) = number_of b.fault.why
 
 -- only a step that was made moves the cursor
-abbrev pub stepped_to : Stepped → Cursor → Cursor
-stepped_to S.Done was = was
-stepped_to (S.Next c) was = c
-stepped_to (S.Refused fault n) was = was
+abbrev pub stepped_to : Result (Option Cursor) Broken → Cursor → Cursor
+stepped_to (Ok None) was = was
+stepped_to (Ok (Some c)) was = c
+stepped_to (Err b) was = was
 
 -- only a refusal says how many pixels of the step were written
-abbrev pub written_after : Stepped → ℕ → ℕ
-written_after S.Done was = was
-written_after (S.Next c) was = was
-written_after (S.Refused fault n) was = n
+abbrev pub written_after : Result (Option Cursor) Broken → ℕ → ℕ
+written_after (Ok None) was = was
+written_after (Ok (Some c)) was = was
+written_after (Err b) was = b.written
 
 -- what a step leaves: its answer r, the cursor, the pixels, and how many of them were written
 pub record StepLeft (tile : List ℕ) (nx nblock bits : ℕ) (cursor : Lent Cursor) (pixels : Lent (List ℤ))
@@ -73,14 +69,14 @@ pub record StepLeft (tile : List ℕ) (nx nblock bits : ℕ) (cursor : Lent Curs
 -- ---- whole decoding
 
 -- 0, or the refusal's number
-abbrev pub decode_said : Decoded → ℕ
-decode_said (D.Whole used) = 0
-decode_said (D.Refused fault n) = number_of fault.why
+abbrev pub decode_said : Result ℕ Broken → ℕ
+decode_said (Ok used) = 0
+decode_said (Err b) = number_of b.fault.why
 
 -- the bits used; after a refusal the pixels written
-abbrev pub count_of : Decoded → ℕ
-count_of (D.Whole used) = used
-count_of (D.Refused fault n) = n
+abbrev pub count_of : Result ℕ Broken → ℕ
+count_of (Ok used) = used
+count_of (Err b) = b.written
 
 -- what whole decoding leaves: its answer r, the pixels, and the count
 pub record DecodeLeft (tile : List ℕ) (nx nblock bits : ℕ) (pixels : Lent (List ℤ)) (count : Lent ℕ) (r : ℕ) : Type 0 where

@@ -4,7 +4,7 @@
 ghost use Rattle.laws.specs.Lending.{lent_of};
 ghost use Rattle.abi_tile.specs.Tiles.{cursor_in, OpenLeft, StepLeft, DecodeLeft};
 
-use rice::{Cursor, Decoded, Opened, Stepped};
+use rice::{Broken, Cursor};
 
 // The answer to a step where nothing is left: no refusal has this number.
 pub const NOTHING_LEFT: u8 = 254;
@@ -22,7 +22,7 @@ pub fn open_into(
     ensures { OpenLeft tile.now nx nblock bits (cursor_in bit done last) result }
 {
     match rice::open(tile, nx, nblock, bits) {
-        Opened::At(c) => {
+        Ok(c) => {
             let b = c.bit;
             let d = c.done;
             let l = c.last;
@@ -31,7 +31,7 @@ pub fn open_into(
             *last = l;
             0
         }
-        Opened::Refused(fault) => fault.number(),
+        Err(fault) => fault.number(),
     }
 }
 
@@ -59,8 +59,8 @@ pub fn step_into(
         last: l,
     };
     match c.step(tile, nx, nblock, bits, pixels) {
-        Stepped::Done => NOTHING_LEFT,
-        Stepped::Next(n) => {
+        Ok(None) => NOTHING_LEFT,
+        Ok(Some(n)) => {
             let nb = n.bit;
             let nd = n.done;
             let nl = n.last;
@@ -69,7 +69,7 @@ pub fn step_into(
             *last = nl;
             0
         }
-        Stepped::Refused { fault, written: n } => {
+        Err(Broken { fault, written: n }) => {
             *written = n;
             fault.number()
         }
@@ -88,11 +88,11 @@ pub fn decode_into(
     ensures { DecodeLeft tile.now nx nblock bits (lent_of pixels) (lent_of count) result }
 {
     match rice::decode(tile, nx, nblock, bits, pixels) {
-        Decoded::Whole(used) => {
+        Ok(used) => {
             *count = used;
             0
         }
-        Decoded::Refused { fault, written } => {
+        Err(Broken { fault, written }) => {
             *count = written;
             fault.number()
         }

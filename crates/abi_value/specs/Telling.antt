@@ -1,14 +1,10 @@
 -- What the C boundary says of a value, a unit's end, a wrong length and a column.
-use Rattle.std.specs.Prelude.{ℕ, ◌≡◌, Bool, false, cond, ℤ, pos}
+use Rattle.std.specs.Prelude.{ℕ, ◌≡◌, Bool, false, cond, ℤ, pos, None, Option, Some}
 use Rattle.laws.specs.Lending.{Lent}
-use Rattle.refusal.specs.declared.Column.{Column}
-use Rattle.refusal.specs.declared.Column.TheVariants.{At, Absent}
 use Rattle.numbers.specs.declared.Size.{Size}
 use Rattle.numbers.specs.declared.Size.TheVariants.{Finite, Infinite, Nan}
 use Rattle.numbers.specs.declared.Value.{Value}
 use Rattle.numbers.specs.declared.Value.TheVariants.{Integer, Float, Logical, String, Undefined, Invalid}
-use Rattle.value.specs.declared.UnitPlace.{UnitPlace}
-use Rattle.value.specs.declared.UnitPlace.TheVariants.{Between, Nowhere}
 use Rattle.abi_value.specs.declared.Told.{Told}
 
 -- a kind, whether it is true or negative, and its integer or power of ten
@@ -37,9 +33,9 @@ abbrev pub wrong_length : ℕ
 wrong_length = 255
 
 -- the end of a unit, which starts at byte 1; 0 where there is none
-abbrev pub unit_end : UnitPlace → ℕ
-unit_end (Between from to) = to
-unit_end Nowhere = 0
+abbrev pub unit_end : Option (ℕ × ℕ) → ℕ
+unit_end (Some (from, to)) = to
+unit_end None = 0
 
 -- an answer, and the lent start after it
 pub record UnitOutcome : Type 0 where
@@ -47,15 +43,15 @@ pub record UnitOutcome : Type 0 where
   pub start : ℕ
 
 -- the end of a unit, and where it starts; 0 where there is none, and the start stays
-abbrev pub unit_told : UnitPlace → ℕ → UnitOutcome
-unit_told (Between from to) start = record { answer = to; start = from }
-unit_told Nowhere start = record { answer = 0; start = start }
+abbrev pub unit_told : Option (ℕ × ℕ) → ℕ → UnitOutcome
+unit_told (Some (from, to)) start = record { answer = to; start = from }
+unit_told None start = record { answer = 0; start = start }
 
 -- what reading a unit past a space leaves, where x is its place and r the answer
-abbrev pub UnitLeft : UnitPlace → Lent ℕ → ℕ → Type 0
+abbrev pub UnitLeft : Option (ℕ × ℕ) → Lent ℕ → ℕ → Type 0
 UnitLeft x start r = ◌≡◌ {A = UnitOutcome} (record { answer = r; start = start.left }) (unit_told x start.was)
 
 -- what a lent column holds behind a refusal: the byte of the refused card; where the refusal has none the column stays
-abbrev pub column_after : Column → ℕ → ℕ
-column_after (At byte) was = byte
-column_after Absent was = was
+abbrev pub column_after : Option ℕ → ℕ → ℕ
+column_after (Some byte) was = byte
+column_after None was = was

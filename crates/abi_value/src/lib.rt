@@ -7,8 +7,6 @@ ghost use Rattle.value.specs.Units.{unit_of, unit_past_space};
 ghost use Rattle.abi_value.specs.Telling.{size_told, value_told, bit_of, unit_end, UnitLeft, column_after};
 
 use numbers::{Size, Value};
-use refusal::Column;
-use value::UnitPlace;
 
 // What a value comes to in numbers: its kind, whether it is true or negative, and its integer or power of ten.
 #[derive(Clone, Copy)]
@@ -88,11 +86,7 @@ pub fn bit(t: bool) -> u8
 pub fn unit_end(comment: &[u8]) -> usize
     ensures { result ≡ unit_end (unit_of comment.now) }
 {
-    let place = value::unit(comment);
-    match place {
-        UnitPlace::Between(_, end) => end,
-        UnitPlace::Nowhere => 0,
-    }
+    value::unit(comment).map_or(0, |(_, end)| end)
 }
 
 // The end of the unit that a comment names, with one space in front passed over, and where it starts; 0 where it names none, and the start
@@ -100,19 +94,18 @@ pub fn unit_end(comment: &[u8]) -> usize
 pub fn unit_past_space_end(comment: &[u8], start: &mut usize) -> usize
     ensures { UnitLeft (unit_past_space comment.now) (lent_of start) result }
 {
-    let UnitPlace::Between(from, end) = value::unit_past_space(comment) else {
-        return 0;
-    };
-    *start = from;
-    end
+    match value::unit_past_space(comment) {
+        Some((from, end)) => {
+            *start = from;
+            end
+        }
+        None => 0,
+    }
 }
 
 // What a lent column holds behind a refusal: the byte of the refused card. Where the refusal has none the column stays.
-pub fn column_after(column: Column, was: usize) -> usize
+pub fn column_after(column: Option<usize>, was: usize) -> usize
     ensures { result ≡ column_after column was }
 {
-    match column {
-        Column::At(byte) => byte,
-        Column::Absent => was,
-    }
+    column.unwrap_or(was)
 }

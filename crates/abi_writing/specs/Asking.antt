@@ -1,13 +1,12 @@
 -- What the C boundary asks to be written, in numbers, and what it answers.
-use Rattle.std.specs.Prelude.{ℕ, ◌≡◌, Bool, cond, not, List, eqb, ℤ}
+use Rattle.std.specs.Prelude.{ℕ, ◌≡◌, Bool, cond, not, List, eqb, ℤ, Err, Ok, Result}
 use Rattle.laws.specs.Lending.{Lent}
 use Rattle.refusal.specs.Numbers.{number_of}
 use Rattle.numbers.specs.declared.Size.TheVariants.{Finite, Infinite, Nan}
 use Rattle.numbers.specs.declared.Value.{Value}
 use Rattle.numbers.specs.declared.Value.TheVariants.{Integer, Float, Logical, String, Undefined, Invalid}
-use Rattle.writing.specs.declared.WriteAnswer.{WriteAnswer}
-use Rattle.writing.specs.declared.WriteAnswer.TheVariants.{Cards, Refused}
 use Rattle.writing.specs.Block.{WriteOutcome}
+use Rattle.refusal.specs.declared.Fault.{Fault}
 
 -- a number that stands for a truth: 0 is false, any other true
 abbrev pub is_set : ℕ → Bool
@@ -32,9 +31,9 @@ pub record WrittenOutcome : Type 0 where
   pub count : ℕ
 
 -- 0, with the number of cards; or the refusal's number, and the count stays as it was
-abbrev pub written_told : WriteAnswer → List ℕ → ℕ → WrittenOutcome
-written_told (Cards n) block count = record { answer = 0; block = block; count = n }
-written_told (Refused fault) block count = record { answer = number_of fault.why; block = block; count = count }
+abbrev pub written_told : Result ℕ Fault → List ℕ → ℕ → WrittenOutcome
+written_told (Ok n) block count = record { answer = 0; block = block; count = n }
+written_told (Err fault) block count = record { answer = number_of fault.why; block = block; count = count }
 
 -- what writing leaves: `write` says what is written with the lent block, and r is the answer
 abbrev pub WriteLeft : (List ℕ → WriteOutcome) → Lent (List ℕ) → Lent ℕ → ℕ → Type 0

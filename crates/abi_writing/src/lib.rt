@@ -9,7 +9,6 @@ ghost use Rattle.writing.specs.Block.{write_of};
 ghost use Rattle.abi_writing.specs.Asking.{is_set, value_asked, WriteLeft};
 
 use numbers::{Size, Value};
-use writing::WriteAnswer;
 
 // Writes the cards of a name and its value into a lent block. Answers 0, with the number of cards as the count; or the refusal's number,
 // and block and count stay as they are.
@@ -28,13 +27,13 @@ pub fn write_into(
         (comment_of (is_set commented) comment.now)) (lent_of block) (lent_of count) result }
 {
     let value = value_asked(kind, is_set(flag), number);
-    let answer = writing::write(name, value, text, is_set(commented), comment, block);
-    match answer {
-        WriteAnswer::Cards(n) => {
+    let comment = is_set(commented).then_some(comment);
+    match writing::write(name, value, text, comment, block) {
+        Ok(n) => {
             *count = n;
             0
         }
-        WriteAnswer::Refused(fault) => fault.number(),
+        Err(fault) => fault.number(),
     }
 }
 
@@ -46,31 +45,20 @@ fn is_set(n: usize) -> bool
 }
 
 // The value of a kind with its flag and number.
+#[tactic(auto, unfolding(crate::specs::Asking::value_asked))]
 fn value_asked(kind: usize, flag: bool, number: i64) -> Value
     ensures { result ≡ value_asked kind flag number }
 {
-    if kind == 1 {
-        return Value::Integer(number);
+    match kind {
+        1 => Value::Integer(number),
+        2 => decimal(flag, Size::Finite(number)),
+        3 => decimal(flag, Size::Infinite),
+        4 => decimal(flag, Size::Nan),
+        5 => Value::Logical(flag),
+        6 => Value::String,
+        7 => Value::Undefined,
+        _ => Value::Invalid,
     }
-    if kind == 2 {
-        return decimal(flag, Size::Finite(number));
-    }
-    if kind == 3 {
-        return decimal(flag, Size::Infinite);
-    }
-    if kind == 4 {
-        return decimal(flag, Size::Nan);
-    }
-    if kind == 5 {
-        return Value::Logical(flag);
-    }
-    if kind == 6 {
-        return Value::String;
-    }
-    if kind == 7 {
-        return Value::Undefined;
-    }
-    Value::Invalid
 }
 
 // A float of a sign and a size.

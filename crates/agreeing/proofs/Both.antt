@@ -1,9 +1,9 @@
 -- Both halves at once, by what a header holds for its reader; and what `Agreeing` states of them.
+use Rattle.std.specs.Prelude.{Err, Ok, Result, Option, None, Some}
 use Prim.Native.Nat.{ℕ}
 use mathlib.Core.Path.{◌≡◌, refl, sym, ap, ◌∙◌}
 use mathlib.Core.Bool.{Bool, true, false, cond, ◌&&◌}
 use mathlib.Core.List.{List}
-use mathlib.Core.Option.{Option, none, some}
 use lib.Dec.{leb}
 use lib.ListN.{length, get_or, drop}
 use lib.Seq.{sets}
@@ -14,10 +14,8 @@ use Rattle.roles.specs.Roles.{Held, Role}
 use Rattle.roles.specs.Cards.{roles_of, is_bad_length}
 use Rattle.joining.specs.Lookup.{lookup}
 use Rattle.finding.specs.declared.Stop.{Stop}
-use Rattle.finding.specs.declared.Header.{Header}
-use Rattle.finding.specs.declared.Header.TheVariants.{Accepted, Refused}
 use Rattle.finding.specs.Finding.{stop_at, header_of}
-use Rattle.entries.specs.declared.LookupAnswer.TheVariants as L
+use Rattle.entries.specs.declared.NoEntry.TheVariants as N
 use Rattle.entries.specs.Answers.{LookupOutcome, left_by, found_as, bytes_in, untouched, written, given, looked_up, lookup_of}
 use Rattle.entries.specs.Answers.{entry_head, met_head, unless_met, entry_from, entry_by, entry_of}
 use Rattle.entries.specs.Halves.{Sought, stops, missing, holds, held_in, sought_in, named}
@@ -29,20 +27,20 @@ use Rattle.agreeing.proofs.Halves.{missing-named, only_missing-named, refused-na
 use Rattle.agreeing.proofs.Unmet.{unmet_numbered}
 
 abbrev pub both_in : Sought → List ℕ → List ℕ → LookupOutcome
-both_in (stops s) text comment = untouched (L.Header s) text comment
-both_in missing text comment = untouched (L.Refused (fault_of R.NameNotFound)) text comment
+both_in (stops s) text comment = untouched (N.Header s) text comment
+both_in missing text comment = untouched (N.Refused (fault_of R.NameNotFound)) text comment
 both_in (holds v) text comment = written v text comment
 
 pub both_held : (o : Option Held) (text comment : List ℕ) → both_in (held_in o) text comment ≡ given o text comment
-both_held none text comment = refl
-both_held (some v) text comment = refl
+both_held None text comment = refl
+both_held (Some v) text comment = refl
 
 -- by any roles, and by those of a header
 module _ (text comment : List ℕ) where
-  pub looked_both : (x : Header) (roles : List Role) (name : List ℕ)
+  pub looked_both : (x : Result ℕ Stop) (roles : List Role) (name : List ℕ)
       → looked_up x roles name text comment ≡ both_in (sought_in x (lookup name roles)) text comment
-  looked_both (Accepted end) roles name = sym (both_held (lookup name roles) text comment)
-  looked_both (Refused s) roles name = refl
+  looked_both (Ok end) roles name = sym (both_held (lookup name roles) text comment)
+  looked_both (Err s) roles name = refl
 
   pub entry_by_both : (n : ℕ) (roles : List Role) (i : ℕ)
       → entry_by n roles i text comment ≡ both_in (numbered_by n roles i) text comment
@@ -55,11 +53,11 @@ module _ (text comment : List ℕ) where
       bad = stop_at (fault_of R.HeaderLength) 0
 
       by : (m : Option Stop) → unless_met m (given at text comment) text comment ≡ both_in (unless_stopped m at) text comment
-      by none = sym (both_held at text comment)
-      by (some s) = refl
+      by None = sym (both_held at text comment)
+      by (Some s) = refl
 
       go : (b : Bool)
-          → cond b (untouched (L.Header bad) text comment) (entry_from (drop i roles) i text comment)
+          → cond b (untouched (N.Header bad) text comment) (entry_from (drop i roles) i text comment)
           ≡ both_in (cond b (stops bad) (numbered_from (drop i roles) i)) text comment
       go true = refl
       go false = by (met_head (drop i roles) i)
@@ -86,7 +84,7 @@ module _ (text comment : List ℕ) where
   both_told h name x e = lookup_both h name text comment ∙ ap (λ (y : Sought). both_in y text comment) e
 
   -- only a missing name is answered 12
-  only_12 : (x : Sought) → (both_in x text comment).answer.answer ≡ L.Refused (fault_of R.NameNotFound) → x ≡ missing
+  only_12 : (x : Sought) → (both_in x text comment).answer.answer ≡ Err (N.Refused (fault_of R.NameNotFound)) → x ≡ missing
   unfolding written
   only_12 (stops s) e = cc
   only_12 missing e = refl
@@ -102,9 +100,9 @@ module _ (text comment : List ℕ) where
       fits = left_by (found_as v) (sets text 0 s) (sets comment 0 c)
 
       short : LookupOutcome
-      short = untouched (L.Refused (fault_of R.BufferShort)) text comment
+      short = untouched (N.Refused (fault_of R.BufferShort)) text comment
 
-      go : (b : Bool) → (cond b fits short).answer.answer ≡ L.Refused (fault_of R.NameNotFound) → holds v ≡ missing
+      go : (b : Bool) → (cond b fits short).answer.answer ≡ Err (N.Refused (fault_of R.NameNotFound)) → holds v ≡ missing
       go true d = cc
       go false d =
           let fault : fault_of R.BufferShort ≡ fault_of R.NameNotFound = cc in

@@ -1,4 +1,5 @@
 -- Numbers that are added up, and the entries of a header counted.
+use Rattle.std.specs.Prelude.{Err, Ok, Result}
 use Prim.Native.Nat.{ℕ, zero, suc, ◌+◌, ◌-◌, ◌<◌}
 use native.Mathlib.Omega.{arith}
 use mathlib.Core.Path.{◌≡◌, refl, ap}
@@ -7,12 +8,12 @@ use mathlib.Core.List.{List, [], ◌∷◌, ◌++◌, map}
 use lib.ListN.{length, get_or, set, replicate}
 use Rattle.text.specs.Text.{filled}
 use Rattle.card.specs.declared.Card.TheVariants as C
-use Rattle.card.specs.declared.CardAnswer.{CardAnswer}
-use Rattle.card.specs.declared.CardAnswer.TheVariants as A
 use Rattle.card.specs.declared.CardRead.{CardRead}
 use Rattle.card.specs.Cards.{card_of}
-use Rattle.roles.specs.Roles.{Role, entry, more, neutral, last, refused, role_by, role_in, role_of}
-use Rattle.agreeing.specs.Times.{and_card, bearers_in, sum_of}
+use Rattle.roles.specs.Roles.{Role, entry, more, neutral, last, refused, role_by, role_in, role_read, role_of}
+use Rattle.agreeing.specs.Times.{and_card, and_read, bearers_in, sum_of}
+use Rattle.card.specs.declared.Card.{Card}
+use Rattle.refusal.specs.declared.Fault.{Fault}
 
 -- ---- sums
 sum-append : (l m : List ℕ) → sum_of (l ++ m) ≡ sum_of l + sum_of m
@@ -61,17 +62,21 @@ entries_in (refused f ∷ rs) = entries_in rs
 pub entries_are : (cards : List (List ℕ)) → entries_in (map role_of cards) ≡ bearers_in cards
 unfolding entries_in bearers_in
 entries_are [] = refl
-entries_are (c ∷ cards) = go (card_of c).answer (card_of c) (entries_are cards)
+entries_are (c ∷ cards) = go (card_of c) (entries_are cards)
   where
-    go : (a : CardAnswer) (r : CardRead) → entries_in (map role_of cards) ≡ bearers_in cards
-        → entries_in (role_in (role_by a) r ∷ map role_of cards) ≡ and_card a (bearers_in cards)
-    go (A.Read (C.Value v)) r then = ap suc then
-    go (A.Read (C.Hierarch v)) r then = ap suc then
-    go (A.Read C.Xtension) r then = ap suc then
-    go (A.Read C.Continuation) r then = then
-    go (A.Read C.Comment) r then = then
-    go (A.Read C.History) r then = then
-    go (A.Read C.Space) r then = then
-    go (A.Read C.Undefined) r then = then
-    go (A.Read C.End) r then = refl
-    go (A.Refused f) r then = then
+    of_card : (card : Card) (r : CardRead) → entries_in (map role_of cards) ≡ bearers_in cards
+        → entries_in (role_in (role_by card) r ∷ map role_of cards) ≡ and_card card (bearers_in cards)
+    of_card (C.Value v) r then = ap suc then
+    of_card (C.Hierarch v) r then = ap suc then
+    of_card C.Xtension r then = ap suc then
+    of_card C.Continuation r then = then
+    of_card C.Comment r then = then
+    of_card C.History r then = then
+    of_card C.Space r then = then
+    of_card C.Undefined r then = then
+    of_card C.End r then = refl
+
+    go : (a : Result CardRead Fault) → entries_in (map role_of cards) ≡ bearers_in cards
+        → entries_in (role_read a ∷ map role_of cards) ≡ and_read a (bearers_in cards)
+    go (Ok r) then = of_card r.card r then
+    go (Err f) then = then

@@ -1,15 +1,16 @@
 -- The list agrees with both halves, for it agrees with what the header holds for their reader.
+use Rattle.std.specs.Prelude.{Result}
 use Prim.Native.Nat.{ℕ}
 use native.Mathlib.Omega.{arith}
 use mathlib.Core.Path.{◌≡◌, sym, ap, ◌∙◌}
 use Rattle.roles.specs.Cards.{roles_of}
 use Rattle.joining.specs.Lookup.{lookup}
-use Rattle.finding.specs.declared.Header.{Header}
 use Rattle.entries.specs.Halves.{Sought, missing, holds, held_in, sought_in, named, value_in, comment_in}
 use Rattle.listing.specs.Listing.{place_of_value, place_of_comment}
 use Rattle.agreeing.specs.Agreeing.{FoundIn}
 use Rattle.agreeing.specs.Halves.{ValueAgreement, CommentAgreement, MissingNamed, OnlyMissingNamed, RefusedNamed}
 use Rattle.agreeing.proofs.Agreed.{by_cards, sought_at_lem, none_found, each_standing}
+use Rattle.finding.specs.declared.Stop.{Stop}
 
 pub value_agreement : ValueAgreement
 unfolding place_of_value
@@ -31,4 +32,4 @@ only_missing-named h end a name e s =
 
 pub refused-named : RefusedNamed
 unfolding named
-refused-named h s e name = ap (λ (x : Header). sought_in x (lookup name (roles_of h))) e
+refused-named h s e name = ap (λ (x : Result ℕ Stop). sought_in x (lookup name (roles_of h))) e

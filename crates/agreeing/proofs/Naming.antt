@@ -1,13 +1,14 @@
 -- The name at a place of the list: it stands on the first card there, and is read from it.
-use Prim.Native.Nat.{ℕ, zero, suc, ◌-◌, ◌≤◌, ◌<◌}
+use Rattle.std.specs.Prelude.{Ok}
+use Rattle.std.proofs.lemmas.List.{get_or-map, get_or-take}
+use Prim.Native.Nat.{ℕ, ◌-◌, ◌≤◌, ◌<◌}
 use native.Mathlib.Omega.{arith}
-use mathlib.Core.Path.{◌≡◌, refl, sym, ap, ◌∙◌}
-use mathlib.Core.List.{List, [], ◌∷◌, map}
+use mathlib.Core.Path.{◌≡◌, sym, ap, ◌∙◌}
+use mathlib.Core.List.{List, []}
 use lib.ListN.{length, get_or, take, replicate, length-append, length-take}
 use Rattle.text.specs.Text.{filled}
 use Rattle.roles.specs.Roles.{Role, neutral}
 use Rattle.roles.specs.Cards.{roles_of}
-use Rattle.finding.specs.declared.Header.TheVariants.{Accepted}
 use Rattle.finding.specs.Finding.{header_of}
 use Rattle.entries.proofs.Looking.{accepted_good}
 use Rattle.listing.specs.declared.Listing.{Listing}
@@ -17,24 +18,12 @@ use Rattle.agreeing.specs.Firsts.{firsts_of}
 use Rattle.agreeing.specs.Agreeing.{StandsAt, PlaceTaken, names_listed, NameRead}
 use Rattle.agreeing.proofs.Agreed.{each_taken, contents}
 
--- ---- lists
-pub at_map : {A B : Type 0} (f : A → B) (l : List A) (k : ℕ) (d : A) (e : B) → k < length l → get_or (map f l) k e ≡ f (get_or l k d)
-at_map f [] k d e p = absurd (omega arith)
-at_map f (x ∷ l) zero d e p = refl
-at_map f (x ∷ l) (suc k) d e p = at_map f l k d e (omega arith)
-
-at_take : (l : List ℕ) (n k d : ℕ) → k < n → get_or (take n l) k d ≡ get_or l k d
-at_take l zero k d p = absurd (omega arith)
-at_take [] (suc n) k d p = refl
-at_take (x ∷ l) (suc n) zero d p = refl
-at_take (x ∷ l) (suc n) (suc k) d p = at_take l n k d (omega arith)
-
-pub filled-long : (mark n : ℕ) (l : List ℕ) → length l ≤ length (filled mark n l)
+filled-long : (mark n : ℕ) (l : List ℕ) → length l ≤ length (filled mark n l)
 unfolding filled
 filled-long mark n l = omega (arith, length-append l (replicate (n - length l) mark))
 
 -- ---- the name at place k of an accepted header
-module _ (h : List ℕ) (end : ℕ) (a : header_of h ≡ Accepted end) where
+module _ (h : List ℕ) (end : ℕ) (a : header_of h ≡ Ok end) where
   -- its table is long enough for every place
   pub first-long : (list_of h).count ≤ length (list_of h).first
   first-long =
@@ -50,11 +39,11 @@ module _ (h : List ℕ) (end : ℕ) (a : header_of h ≡ Accepted end) where
       let named : ℕ → List ℕ = λ i. name_of (get_or (roles_of h) i neutral) in
       let firsts = take (list_of h).count (list_of h).first in
       let long : k < length firsts = omega (arith, s.within, first-long, length-take (list_of h).count (list_of h).first) in
-      at_map named firsts k free [] long
-      ∙ ap named (at_take (list_of h).first (list_of h).count k free s.within)
+      get_or-map named firsts k free [] long
+      ∙ ap named (get_or-take (list_of h).count (list_of h).first k free s.within)
       ∙ ap name_of s.bears
 
-by_card_lem : (h : List ℕ) (end : ℕ) → header_of h ≡ Accepted end → (i : ℕ) (name : List ℕ)
+by_card_lem : (h : List ℕ) (end : ℕ) → header_of h ≡ Ok end → (i : ℕ) (name : List ℕ)
     → name_at h i name ≡ name_by (get_or (roles_of h) i neutral) name
 unfolding name_at
 by_card_lem h end a i name = rw (accepted_good h end a)

@@ -1,11 +1,11 @@
 -- Small headers, computed: the first cards, the last entries, and how many bear each name.
+use Rattle.std.specs.Prelude.{None}
 use Prim.Native.Nat.{ℕ}
 use Prim.Native.Char.{code}
 use Prim.Native.String.{String}
 use mathlib.Core.Path.{◌≡◌, refl}
 use mathlib.Core.Bool.{false}
 use mathlib.Core.List.{List, [], ◌∷◌, map}
-use mathlib.Core.Option.{none}
 use Rattle.text.specs.Bytes.{ascii, is_space, is_blank, is_printable, shown}
 use Rattle.text.specs.Trim.{trim_start, cons_trimmed, trim_end, trim}
 use Rattle.text.specs.Same.{same}
@@ -25,7 +25,7 @@ use Rattle.agreeing.specs.Firsts.{is_among, firsts_from, firsts_of, lasts_of, ti
 use Rattle.agreeing.specs.Times.{bearers_in, sum_of}
 
 abbrev held : Held
-held = record { value = Undefined; digits = []; words = record { text = []; comment = none; joins = false } }
+held = record { value = Undefined; digits = []; words = record { text = []; comment = None; joins = false } }
 
 abbrev bare : List ℕ → Role
 bare name = entry name held
@@ -81,6 +81,6 @@ unfolding is_space is_blank is_printable shown trim_start cons_trimmed trim_end 
 bearers_row = refl
 
 -- no entry: no place
-pub none_row : firsts_of (neutral ∷ more [] none ∷ last ∷ []) ≡ []
+pub none_row : firsts_of (neutral ∷ more [] None ∷ last ∷ []) ≡ []
 unfolding firsts_from
 none_row = refl

@@ -1,4 +1,5 @@
 -- What the cards of a header up to END come to in a table.
+use Rattle.std.specs.Prelude.{None, Option, Some}
 use Prim.Native.Nat.{ℕ, suc, ◌+◌, ◌<◌, ◌≤◌}
 use native.Mathlib.Omega.{arith}
 use mathlib.Core.Path.{◌≡◌, refl, sym, ap, ap₂, subst, ◌∙◌}
@@ -8,8 +9,6 @@ use borrow.Author.Tests.{ltb-true, ltb-false}
 use lib.Dec.{ltb}
 use lib.ListN.{length, get_or, take, drop, length-append, length-set, get_or-append}
 use lib.Seq.{get_or_at}
-use Rattle.text.specs.declared.Place.{Place}
-use Rattle.text.specs.declared.Place.TheVariants.{At, Nowhere}
 use Rattle.text.specs.Same.{same}
 use Rattle.text.proofs.Comparing.{same_self}
 use Rattle.roles.specs.Roles.{Comment, Held, Role, entry, more, neutral, last}
@@ -43,7 +42,7 @@ EntryNo roles i = IsNamed (get_or roles i neutral) (name_no roles i)
 pub record Sound (roles : List Role) (t : Table) : Type 0 where
   pub alike : length t.last ≡ length t.first
   pub counted : length t.times ≡ length t.first
-  pub own : (k : ℕ) → k < length t.first → place_of_name roles t.first (name_no roles (get_or t.first k free)) ≡ At k
+  pub own : (k : ℕ) → k < length t.first → place_of_name roles t.first (name_no roles (get_or t.first k free)) ≡ Some k
   pub entries : (k : ℕ) → k < length t.first → EntryNo roles (get_or t.first k free)
 
 -- the names that were seen are those of the table
@@ -70,7 +69,7 @@ module _ (roles : List Role) (t : Table) (S : Sound roles t) where
         entries = S.entries;
       }
 
-  module _ (n : List ℕ) (v : Held) (i : ℕ) (role : get_or roles i neutral ≡ entry n v) (e : place_of_name roles t.first n ≡ Nowhere) where
+  module _ (n : List ℕ) (v : Held) (i : ℕ) (role : get_or roles i neutral ≡ entry n v) (e : place_of_name roles t.first n ≡ None) where
     -- the first cards then
     abbrev firsts₁ : List ℕ
     firsts₁ = t.first ++ i ∷ []
@@ -94,19 +93,19 @@ module _ (roles : List Role) (t : Table) (S : Sound roles t) where
 
     -- a place by the name of a card
     abbrev Own : ℕ → ℕ → Type 0
-    Own x k = place_of_name roles firsts₁ (name_no roles x) ≡ At k
+    Own x k = place_of_name roles firsts₁ (name_no roles x) ≡ Some k
 
     own_old : (k : ℕ) → k < length t.first → Own (get_or t.first k free) k
     own_old k p =
         let name = name_no roles (get_or t.first k free) in
         place-put roles name t.first i n (ap name_of role)
-        ∙ ap (λ (q : Place). or_place q (if_named (same n name) (length t.first))) (S.own k p)
+        ∙ ap (λ (q : Option ℕ). or_place q (if_named (same n name) (length t.first))) (S.own k p)
 
     own_new : Own i (length t.first)
     own_new =
         ap (place_of_name roles firsts₁) (ap name_of role)
         ∙ place-put roles n t.first i n (ap name_of role)
-        ∙ ap₂ (λ (q : Place) (b : Bool). or_place q (if_named b (length t.first))) e (same_self n)
+        ∙ ap₂ (λ (q : Option ℕ) (b : Bool). or_place q (if_named b (length t.first))) e (same_self n)
 
     entry_new : EntryNo roles i
     entry_new = record { held = v; is = role ∙ ap (λ (m : List ℕ). entry m v) (sym (ap name_of role)) }
@@ -140,12 +139,12 @@ module _ (roles : List Role) (t : Table) (S : Sound roles t) where
               ∙ ap is_place (sym (place-put roles name t.first i n (ap name_of role)));
         }
       where
-        go : (name : List ℕ) (b : Bool) (p : Place) → is_among name seen ≡ is_place p
+        go : (name : List ℕ) (b : Bool) (p : Option ℕ) → is_among name seen ≡ is_place p
             → cond b true (is_among name seen) ≡ is_place (or_place p (if_named b (length t.first)))
-        go name true (At j) h = refl
-        go name true Nowhere h = refl
-        go name false (At j) h = h
-        go name false Nowhere h = h
+        go name true (Some j) h = refl
+        go name true None h = refl
+        go name false (Some j) h = h
+        go name false None h = h
 
   module _ (n : List ℕ) (v : Held) (rs : List Role) (seen : List (List ℕ)) (k i : ℕ) (s : Seen roles seen t) where
     -- what is read off a table for a name, where this entry gives x
@@ -153,8 +152,8 @@ module _ (roles : List Role) (t : Table) (S : Sound roles t) where
     Gives then x was = (name : List ℕ) → then name ≡ cond (same n name) (x name) (was name)
 
     -- an entry that goes to place p, or behind the others
-    on_entry_lem : (p : Place) → place_of_name roles t.first n ≡ p
-        → Gives (last_in_table roles (put p i t)) (λ (name : List ℕ). At i) (last_in_table roles t)
+    on_entry_lem : (p : Option ℕ) → place_of_name roles t.first n ≡ p
+        → Gives (last_in_table roles (put p i t)) (λ (name : List ℕ). Some i) (last_in_table roles t)
         → Gives (times_in_table roles (put p i t)) (λ (name : List ℕ). suc (times_in_table roles t name)) (times_in_table roles t)
         → sum_of (put p i t).times ≡ suc (sum_of t.times)
         → (seen₁ : List (List ℕ))
@@ -165,7 +164,7 @@ module _ (roles : List Role) (t : Table) (S : Sound roles t) where
     on_entry_lem p e lasts bear sum seen₁ firsts r =
         record {
           u = r.u;
-          is = ap (λ (q : Place). list_from roles (take k rs) (suc i) (put q i t)) e ∙ r.is;
+          is = ap (λ (q : Option ℕ). list_from roles (take k rs) (suc i) (put q i t)) e ∙ r.is;
           sound = r.sound;
           lasts = λ name. r.lasts name ∙ ap (last_from name rs (suc i)) (lasts name);
           bear =
@@ -181,24 +180,24 @@ module _ (roles : List Role) (t : Table) (S : Sound roles t) where
               (sym (s.names n ∙ ap is_place e));
         }
 
-    on_known : (j : ℕ) → place_of_name roles t.first n ≡ At j → Comes roles rs seen k (suc i) (put_again t j i)
+    on_known : (j : ℕ) → place_of_name roles t.first n ≡ Some j → Comes roles rs seen k (suc i) (put_again t j i)
         → Comes roles (entry n v ∷ rs) seen (suc k) i t
     on_known j e =
         let read = read_known roles t.first in
         let one = suc (get_or t.times j 0) in
-        on_entry_lem (At j) e
+        on_entry_lem (Some j) e
         (read t.last S.alike free n i j e)
-        (λ name. one_more roles t n (At j) e name _ (read t.times S.counted 0 n one j e name))
+        (λ name. one_more roles t n (Some j) e name _ (read t.times S.counted 0 n one j e name))
         (sum_more t.times j (omega (arith, S.counted, hit_under roles n t.first j e)))
         seen refl
 
-    on_new : name_no roles i ≡ n → place_of_name roles t.first n ≡ Nowhere
+    on_new : name_no roles i ≡ n → place_of_name roles t.first n ≡ None
         → Comes roles rs (n ∷ seen) k (suc i) (put_new t i) → Comes roles (entry n v ∷ rs) seen (suc k) i t
     on_new is e =
         let read = read-new roles t.first in
-        on_entry_lem Nowhere e
+        on_entry_lem None e
         (read t.last S.alike free n i i is e)
-        (λ name. one_more roles t n Nowhere e name _ (read t.times S.counted 0 n 1 i is e name))
+        (λ name. one_more roles t n None e name _ (read t.times S.counted 0 n 1 i is e name))
         (sum-put t.times)
         (n ∷ seen) (append_assoc t.first (i ∷ []) (firsts_from (n ∷ seen) rs (suc i)))
 
@@ -235,14 +234,14 @@ comes roles (past_entry n v {k} {rs} until) seen i t at S s =
     role : get_or roles i neutral ≡ entry n v
     role = role_first roles i (entry n v) rs at
 
-    go : (p : Place) → place_of_name roles t.first n ≡ p
+    go : (p : Option ℕ) → place_of_name roles t.first n ≡ p
         → ((x : List (List ℕ)) (u : Table) → Sound roles u → Seen roles x u → Comes roles rs x k (suc i) u)
         → Comes roles (entry n v ∷ rs) seen (suc k) i t
-    go (At j) e then =
+    go (Some j) e then =
         let sound = sound_known roles t S j i in
         on_known roles t S n v rs seen k i s j e
         (then seen (put_again t j i) sound (record { names = s.names }))
-    go Nowhere e then =
+    go None e then =
         let sound = sound_new roles t S n v i role e in
         on_new roles t S n v rs seen k i s (ap name_of role) e
         (then (n ∷ seen) (put_new t i) sound (seen-new roles t S n v i role e seen s))

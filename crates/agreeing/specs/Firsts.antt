@@ -1,8 +1,6 @@
 -- The names of a header in the order of their first cards, with the last entry of each and how many bear it: over roles, with no table
 -- and no insertion.
-use Rattle.std.specs.Prelude.{ℕ, suc, Bool, true, false, cond, List, [], ◌∷◌, map, get_or}
-use Rattle.text.specs.declared.Place.{Place}
-use Rattle.text.specs.declared.Place.TheVariants.{At, Nowhere}
+use Rattle.std.specs.Prelude.{ℕ, suc, Bool, true, false, cond, List, [], ◌∷◌, map, get_or, None, Option, Some}
 use Rattle.text.specs.Same.{same}
 use Rattle.roles.specs.Roles.{Role, entry, more, neutral, last, refused}
 use Rattle.finding.specs.Finding.{last_of}
@@ -27,9 +25,9 @@ abbrev pub firsts_of : List Role → List ℕ
 firsts_of roles = firsts_from [] roles 0
 
 -- the number of the last entry that bears a name
-abbrev pub number_at : Place → ℕ
-number_at (At i) = i
-number_at Nowhere = free
+abbrev pub number_at : Option ℕ → ℕ
+number_at (Some i) = i
+number_at None = free
 
 abbrev pub last_number : List Role → List ℕ → ℕ
 last_number roles name = number_at (last_of name roles)

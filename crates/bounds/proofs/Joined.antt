@@ -1,10 +1,10 @@
 -- How long joined words can be, and what a name is answered with.
+use Rattle.std.specs.Prelude.{Option, None, Some}
 use Prim.Native.Nat.{ℕ, zero, suc, ◌+◌, ◌-◌, ◌*◌, ◌/◌, ◌≤◌}
 use native.Mathlib.Omega.{arith}
 use mathlib.Core.Path.{◌≡◌, refl, subst, sym, ◌∙◌}
 use mathlib.Core.Bool.{Bool, true, false, cond, true≢false}
 use mathlib.Core.List.{List, [], ◌∷◌, ◌++◌, map}
-use mathlib.Core.Option.{Option, none, some}
 use lib.ListN.{length, take, drop, length-append, length-drop, length-take}
 use Rattle.laws.proofs.Truths.{and_both}
 use Rattle.text.specs.Bytes.{line_feed, is_space}
@@ -53,9 +53,9 @@ text-short s t e h = go (adds_nothing t)
 
 remark_short : (k c : Comment) → length (bytes_in c) ≤ card_words → length (bytes_in (join_comment k c)) ≤ length (bytes_in k) + 73
 unfolding join_comment
-remark_short none c h = omega arith
-remark_short (some a) none h = omega arith
-remark_short (some a) (some c) h = omega (arith, length-append a (line_feed ∷ c))
+remark_short None c h = omega arith
+remark_short (Some a) None h = omega arith
+remark_short (Some a) (Some c) h = omega (arith, length-append a (line_feed ∷ c))
 
 -- ---- all cards that are joined
 record Grown (w : Words) (n : ℕ) (x : Words) : Type 0 where
@@ -100,7 +100,7 @@ record Within (n : ℕ) (v : Held) : Type 0 where
 wider : (n : ℕ) (v : Held) → Within n v → Within (suc n) v
 wider n v x = record { text = omega (arith, x.text); comment = omega (arith, x.comment) }
 
-answer-within : (name : List ℕ) (rs : List Role) → AllShort rs → (v : Held) → lookup name rs ≡ some v → Within (length rs) v
+answer-within : (name : List ℕ) (rs : List Role) → AllShort rs → (v : Held) → lookup name rs ≡ Some v → Within (length rs) v
 unfolding lookup
 answer-within name [] h v e = absurd (let z : ◌≡◌ {A = ℕ} 0 1 = cc in omega arith)
 answer-within name (entry m u ∷ rs) h v e = go (lookup name rs) refl (same m name) e (answer-within name rs h.1 v)
@@ -110,11 +110,11 @@ answer-within name (entry m u ∷ rs) h v e = go (lookup name rs) refl (same m n
         let g = joined_grown u.words rs h.1 in
         record { text = omega (arith, g.text, h.0.0); comment = omega (arith, g.comment, h.0.1) }
 
-    go : (o : Option Held) → lookup name rs ≡ o → (b : Bool) → or_else o (cond b (some (whole u rs)) none) ≡ some v
-        → (lookup name rs ≡ some v → Within (length rs) v) → Within (suc (length rs)) v
-    go (some x) d b i rest = wider (length rs) v (rest (d ∙ i))
-    go none d true i rest = let is : whole u rs ≡ v = cc in subst (Within (suc (length rs))) is own
-    go none d false i rest = absurd (let z : ◌≡◌ {A = ℕ} 0 1 = cc in omega arith)
+    go : (o : Option Held) → lookup name rs ≡ o → (b : Bool) → or_else o (cond b (Some (whole u rs)) None) ≡ Some v
+        → (lookup name rs ≡ Some v → Within (length rs) v) → Within (suc (length rs)) v
+    go (Some x) d b i rest = wider (length rs) v (rest (d ∙ i))
+    go None d true i rest = let is : whole u rs ≡ v = cc in subst (Within (suc (length rs))) is own
+    go None d false i rest = absurd (let z : ◌≡◌ {A = ℕ} 0 1 = cc in omega arith)
 answer-within name (more t c ∷ rs) h v e = wider (length rs) v (answer-within name rs h.1 v e)
 answer-within name (neutral ∷ rs) h v e = wider (length rs) v (answer-within name rs h.1 v e)
 answer-within name (last ∷ rs) h v e = absurd (let z : ◌≡◌ {A = ℕ} 0 1 = cc in omega arith)

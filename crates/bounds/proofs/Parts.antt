@@ -1,8 +1,9 @@
 -- How long the words of one card are.
+use Rattle.std.specs.Prelude.{Option, None, Some, Result, Err, Ok}
 use Prim.Native.Char.{code}
 use Prim.Native.Nat.{ℕ, suc, ◌-◌, ◌≤◌}
 use native.Mathlib.Omega.{arith}
-use mathlib.Core.Path.{◌≡◌, subst}
+use mathlib.Core.Path.{◌≡◌}
 use mathlib.Core.Bool.{Bool, true, false, cond}
 use mathlib.Core.List.{List, [], ◌∷◌, map}
 use lib.ListN.{length, drop, length-drop, length-map, length-take}
@@ -13,7 +14,7 @@ use Rattle.text.specs.declared.Text.{Text}
 use Rattle.text.specs.Bytes.{is_space, is_blank, shown}
 use Rattle.text.specs.Trim.{trim, trim_end}
 use Rattle.text.specs.Ends.{stem, ends_with}
-use Rattle.text.specs.Text.{text_of, bytes_of}
+use Rattle.text.specs.Text.{bytes_of}
 use Rattle.text.proofs.Trimming.{shorter, end_shorter}
 use Rattle.numbers.specs.declared.Value.{Value}
 use Rattle.numbers.specs.declared.Value.TheVariants as Val
@@ -21,31 +22,34 @@ use Rattle.numbers.specs.Numbers.{read_number}
 use Rattle.numbers.proofs.Lengths.{held_len, number_short}
 use Rattle.splitting.specs.declared.Slash.{Slash}
 use Rattle.splitting.specs.declared.Slash.TheVariants as S
-use Rattle.splitting.specs.declared.SplitAnswer.{SplitAnswer}
-use Rattle.splitting.specs.declared.SplitAnswer.TheVariants.{Bare, Commented, Refused as Refused-split}
-use Rattle.splitting.specs.declared.Quoted.{Quoted}
-use Rattle.splitting.specs.declared.Quoted.TheVariants.{Str, Refused as Refused-string}
-use Rattle.splitting.specs.declared.StringRead.{StringRead}
 use Rattle.splitting.specs.declared.Quoting.TheVariants.{Outside}
 use Rattle.splitting.specs.declared.Halves.{Halves}
 use Rattle.splitting.specs.Scan.{Scan, scan_from}
 use Rattle.splitting.specs.Split.{parts_at, split_of}
-use Rattle.splitting.specs.Strings.{is_quote, or_space, settled_of, reads, string_refused, opened, unopened, string_of}
+use Rattle.splitting.specs.Strings.{is_quote, or_space, settled_of, reads, opened, unopened, string_of}
 use Rattle.splitting.proofs.Splitting.{scan_within}
-use Rattle.value.specs.declared.ValueAnswer.TheVariants.{Read as Read-value, Refused as Refused-value}
 use Rattle.value.specs.declared.ValueRead.{ValueRead}
 use Rattle.value.specs.declared.Start.{Start}
 use Rattle.value.specs.declared.Start.TheVariants as St
-use Rattle.value.specs.Values.{keeps_comment, value_as, value_refused, by_quotes, of_string, of_number}
+use Rattle.value.specs.Values.{keeps_comment, value_as, by_quotes, of_string, of_number}
 use Rattle.value.specs.Values.{by_start, by_bytes, start_of, value_with, by_parts, value_of}
 use Rattle.roles.specs.Roles.{has_text}
 
--- ---- splitting
-pub record SplitShort (n : ℕ) (h : Halves) : Type 0 where
-  pub value : h.value.len ≤ n
-  pub comment : h.comment.len ≤ n
+-- ---- a text that may be missing, and an answer that may be refused
+abbrev pub text_len : Option Text → ℕ
+text_len (Some t) = t.len
+text_len None = 0
 
-pub split_short : (t : List ℕ) → SplitShort (length t) (split_of t)
+abbrev pub ReadShort : {A : Type 0} → (A → Type 0) → Result A Fault → Type 0
+ReadShort Short (Ok a) = Short a
+ReadShort Short (Err f) = Unit {0}
+
+-- ---- splitting
+pub record HalvesShort (n : ℕ) (h : Halves) : Type 0 where
+  pub value : h.value.len ≤ n
+  pub comment : text_len h.comment ≤ n
+
+pub split_short : (t : List ℕ) → ReadShort (HalvesShort (length t)) (split_of t)
 unfolding split_of
 split_short t = go r.place
   where
@@ -58,13 +62,13 @@ split_short t = go r.place
     value : length (trim is_space r.value) ≤ length t
     value = omega (arith, shorter is_space r.value, (scan_within Outside s 0).0, shorter is_blank t)
 
-    go : (p : Slash) → SplitShort (length t) (parts_at p s r.value)
+    go : (p : Slash) → ReadShort (HalvesShort (length t)) (parts_at p s r.value)
     go (S.At i) =
         let rest = map shown (drop (suc i) s) in
         let same : length rest ≡ length (drop (suc i) s) = length-map (drop (suc i) s) shown in
         record { value = value; comment = omega (arith, end_shorter is_space rest, same, length-drop (suc i) s, shorter is_blank t) }
     go S.Nowhere = record { value = value; comment = omega arith }
-    go (S.Bad i) = record { value = omega arith; comment = omega arith }
+    go (S.Bad i) = tt
 
 -- a text has as many bytes as its length, or fewer
 pub bytes_len : (t : Text) → length (bytes_of t) ≤ t.len
@@ -84,19 +88,23 @@ stem-short : (s : List ℕ) → length (stem s) ≤ length s
 unfolding stem
 stem-short s = omega (arith, length-take (length s - 1) s)
 
+-- a string's text is short
+abbrev pub StringShort : ℕ → Result Text Fault → Type 0
+StringShort n = ReadShort (λ (t : Text). t.len ≤ n)
+
 -- one of two strings
-either : (n : ℕ) (t : Bool) (x y : StringRead) → x.text.len ≤ n → y.text.len ≤ n → (cond t x y).text.len ≤ n
+either : (n : ℕ) (t : Bool) (x y : Result Text Fault) → StringShort n x → StringShort n y → StringShort n (cond t x y)
 either n true x y a b = a
 either n false x y a b = b
 
-pub string-short : (s : List ℕ) → (string_of s).text.len ≤ length s
+pub string-short : (s : List ℕ) → StringShort (length s) (string_of s)
 unfolding string_of opened unopened
 string-short [] = settled_short []
 string-short (b ∷ s) =
     either (suc (length s)) (is_quote b) (opened s) (unopened (b ∷ s))
-    (either (suc (length s)) (ends_with (code "'") s) (reads (stem s)) (string_refused (fault_of R.StringNotClosed))
-    (omega (arith, settled_short (stem s), stem-short s)) (omega arith))
-    (either (suc (length s)) (ends_with (code "'") (b ∷ s)) (string_refused (fault_of R.StringNotOpened)) (reads (b ∷ s)) (omega arith)
+    (either (suc (length s)) (ends_with (code "'") s) (reads (stem s)) (Err (fault_of R.StringNotClosed))
+    (omega (arith, settled_short (stem s), stem-short s)) tt)
+    (either (suc (length s)) (ends_with (code "'") (b ∷ s)) (Err (fault_of R.StringNotOpened)) (reads (b ∷ s)) tt
     (settled_short (b ∷ s)))
 
 -- ---- the text of a value, where it is shown
@@ -113,67 +121,46 @@ number-shown Val.Invalid n = omega arith
 
 -- ---- values
 pub record ValueShort (n : ℕ) (r : ValueRead) : Type 0 where
-  pub text : (v : Value) → r.answer ≡ Read-value v → shown_len v r.text.len ≤ n
-  pub comment : r.comment.len ≤ n
+  pub text : shown_len r.value r.text.len ≤ n
+  pub comment : text_len r.comment ≤ n
 
 -- a value with a text and a comment of which both are short
-as_short : (n : ℕ) (v : Value) (t : Text) (commented : Bool) (c : Text) → shown_len v t.len ≤ n → c.len ≤ n
-    → ValueShort n (value_as v t commented c)
-as_short n v t commented c a b =
-    record {
-      text = λ (w : Value) (e : Read-value v ≡ Read-value w). let same : v ≡ w = cc in subst
-          (λ (x : Value). shown_len x t.len ≤ n) same a;
-      comment = go (keeps_comment v);
-    }
+as_short : (n : ℕ) (v : Value) (t : Text) (c : Option Text) → shown_len v t.len ≤ n → text_len c ≤ n
+    → ValueShort n (value_as v t c)
+as_short n v t c a b = record { text = a; comment = go (keeps_comment v) }
   where
-    go : (k : Bool) → (cond k c (text_of [])).len ≤ n
+    go : (k : Bool) → text_len (cond k c None) ≤ n
     go true = b
     go false = omega arith
 
-refused-short : (n : ℕ) (f : Fault) → ValueShort n (value_refused f)
-refused-short n f =
-    record {
-      text = λ (w : Value) (e : Refused-value f ≡ Read-value w). absurd (let z : ◌≡◌ {A = ℕ} 0 1 = cc in omega arith);
-      comment = omega arith;
-    }
-
-module _ (n : ℕ) (v : Text) (raw : List ℕ) (commented : Bool) (c : Text) (a : length (bytes_of v) ≤ n) (b : c.len ≤ n)
+module _ (n : ℕ) (v : Text) (raw : List ℕ) (c : Option Text) (a : length (bytes_of v) ≤ n) (b : text_len c ≤ n)
     (r : length raw ≤ n) where
-  started_short : (x : Start) → ValueShort n (by_start x v raw commented c)
+  started_short : (x : Start) → ReadShort (ValueShort n) (by_start x v raw c)
   unfolding of_string of_number
-  started_short St.Quote = go (string_of (bytes_of v)).answer
+  started_short St.Quote = go (string_of (bytes_of v)) (string-short (bytes_of v))
     where
-      go : (q : Quoted) → ValueShort n (by_quotes q (string_of (bytes_of v)).text commented c)
-      go Str = as_short n Val.String _ commented c (omega (arith, string-short (bytes_of v))) b
-      go (Refused-string f) = refused-short n f
-  started_short (St.Truth t) = as_short n (Val.Logical t) _ commented c (omega arith) b
+      go : (q : Result Text Fault) → StringShort (length (bytes_of v)) q → ReadShort (ValueShort n) (by_quotes q c)
+      go (Ok t) h = as_short n Val.String t c (omega (arith, h)) b
+      go (Err f) h = tt
+  started_short (St.Truth t) = as_short n (Val.Logical t) _ c (omega arith) b
   started_short St.Number =
       let x = read_number (bytes_of v) in
-      as_short n x.value x.text commented c (omega (arith, number-shown x.value x.text.len, number_short (bytes_of v))) b
-  started_short St.Complex = refused-short n _
-  started_short St.Else = as_short n Val.Invalid _ commented c r b
+      as_short n x.value x.text c (omega (arith, number-shown x.value x.text.len, number_short (bytes_of v))) b
+  started_short St.Complex = tt
+  started_short St.Else = as_short n Val.Invalid _ c r b
 
-  with_short : ValueShort n (value_with v raw commented c)
+  with_short : ReadShort (ValueShort n) (value_with v raw c)
   unfolding value_with
   with_short = go (bytes_of v)
     where
-      go : (l : List ℕ) → ValueShort n (by_bytes l v raw commented c)
-      go [] = as_short n Val.Undefined _ commented c (omega arith) b
+      go : (l : List ℕ) → ReadShort (ValueShort n) (by_bytes l v raw c)
+      go [] = as_short n Val.Undefined _ c (omega arith) b
       go (x ∷ l) = started_short (start_of x)
 
-pub value-short : (raw : List ℕ) → ValueShort (length raw) (value_of raw)
+pub value-short : (raw : List ℕ) → ReadShort (ValueShort (length raw)) (value_of raw)
 unfolding value_of
-value-short raw = go h.answer
+value-short raw = go (split_of raw) (split_short raw)
   where
-    h : Halves
-    h = split_of raw
-
-    short : (commented : Bool) → ValueShort (length raw) (value_with h.value raw commented h.comment)
-    short commented =
-        with_short (length raw) h.value raw commented h.comment (omega (arith, bytes_len h.value, (split_short raw).value))
-        (split_short raw).comment (omega arith)
-
-    go : (x : SplitAnswer) → ValueShort (length raw) (by_parts x h.value raw h.comment)
-    go Bare = short false
-    go Commented = short true
-    go (Refused-split f) = refused-short (length raw) f
+    go : (x : Result Halves Fault) → ReadShort (HalvesShort (length raw)) x → ReadShort (ValueShort (length raw)) (by_parts x raw)
+    go (Ok h) s = with_short (length raw) h.value raw h.comment (omega (arith, bytes_len h.value, s.value)) s.comment (omega arith)
+    go (Err f) s = tt

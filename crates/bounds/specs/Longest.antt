@@ -1,7 +1,6 @@
 -- How long the text and the comment of an entry can be. A card has 72 bytes from byte 8 on, so its text and its comment have no more. A
 -- header has 720 cards at most. Where one is joined to another, the & of the text before it goes, and a line feed stands between comments.
-use Rattle.std.specs.Prelude.{ℕ, ◌+◌, ◌*◌, ◌≤◌, ◌≡◌, List, false, length}
-use Rattle.std.proofs.Math.Option.{some}
+use Rattle.std.specs.Prelude.{ℕ, ◌+◌, ◌*◌, ◌≤◌, ◌≡◌, List, false, length, Some}
 use Rattle.roles.specs.Roles.{Held}
 use Rattle.roles.specs.Cards.{roles_of, is_bad_length}
 use Rattle.joining.specs.Lookup.{lookup}
@@ -25,4 +24,4 @@ pub record Short (v : Held) : Type 0 where
 -- whatever a name is answered is short
 abbrev pub EachShort : Type 0
 EachShort =
-    (h name : List ℕ) (v : Held) → is_bad_length (length h) ≡ false → lookup name (roles_of h) ≡ some v → Short v
+    (h name : List ℕ) (v : Held) → is_bad_length (length h) ≡ false → lookup name (roles_of h) ≡ Some v → Short v

@@ -124,7 +124,7 @@ module _ {s bytes : List ℕ} {n : ℕ} {gap : Bool} {i : ℕ} (N : Named s byte
         spared false = omega (arith, N.fewer)
 
     pub on_stop : gap ≡ true → is_blank (get_or s i 0) ≡ false → length s ≤ size
-        → Named s (set (set bytes n (code ".")) (n + 1) (get_or s i 0)) (n + 2) false (i + 1)
+        → Named s (set (set bytes n (code ".")) (n + 1) (get_or s i 0)) (n + 1 + 1) false (i + 1)
     on_stop g e small =
         let b = get_or s i 0 in
         let w = N.v ++ code "." ∷ [] in
@@ -144,7 +144,7 @@ module _ {s bytes : List ℕ} {n : ℕ} {gap : Bool} {i : ℕ} (N : Named s byte
               ∙ padded-put size w b (omega arith);
           count = omega (arith, N.count);
           left =
-              ap (λ (k : ℕ). (w ++ b ∷ []) ++ rest false k (drop (i + 1) s)) (let k : n + 2 ≡ suc (n + 1) = omega arith in k)
+              ap (λ (k : ℕ). (w ++ b ∷ []) ++ rest false k (drop (i + 1) s)) (let k : n + 1 + 1 ≡ suc (n + 1) = omega arith in k)
               ∙ append_assoc w (b ∷ []) later
               ∙ append_assoc N.v (code "." ∷ []) (b ∷ later)
               ∙ ap (λ (t : List ℕ). N.v ++ t) (sym (next ∙ ap behind g ∙ stop_next b (drop (i + 1) s) n e))

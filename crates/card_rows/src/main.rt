@@ -4,12 +4,11 @@
 // printed in hexadecimal.
 #![tactic(auto)]
 
-use card::{CARD, Card, CardAnswer, CardRead};
+use card::{CARD, Card, CardRead};
 use numbers::{Size, Value};
-use refusal::{Column, Fault};
-use test_output::{put, put_integer, put_number};
+use refusal::Fault;
+use test_output::{put, put_quoted};
 use text::Text;
-use value::UnitPlace;
 
 fn main(rt: HostRuntime) {
     edge_rows(&rt);
@@ -218,66 +217,54 @@ fn row(rt: &impl Print, s: &[u8]) {
 // A text with spaces behind it, up to a card's 80 bytes.
 fn padded_card(s: &[u8]) -> [u8; CARD] {
     let mut card = [b' '; CARD];
-    let mut i = 0;
-    while i < s.len() && i < CARD {
-        card[i] = s[i];
-        i += 1;
-    }
+    text::put_at(s, &mut card, 0);
     card
 }
 
 // ---- a reading
 
-fn put_reading(rt: &impl Print, read: CardRead) {
-    let answer = read.answer;
+fn put_reading(rt: &impl Print, answer: Result<CardRead, Fault>) {
     match answer {
-        CardAnswer::Read(card) => put_card(rt, card, read),
-        CardAnswer::Refused(fault) => put_refusal(rt, fault),
+        Ok(read) => put_card(rt, read),
+        Err(fault) => put_refusal(rt, fault),
     }
 }
 
 // The number, and the byte of the card. Every refusal of a card has one.
 fn put_refusal(rt: &impl Print, fault: Fault) {
-    let column = fault.column;
-    put(rt, b"refusal ");
-    put_number(rt, fault.number() as usize);
-    let Column::At(byte) = column else {
-        return;
-    };
-    put(rt, b" at ");
-    put_number(rt, byte);
+    let _ = print!(rt; "refusal {}", fault.number());
+    if let Some(byte) = fault.column {
+        let _ = print!(rt; " at {byte}");
+    }
 }
 
 // The class, the name, the value or the text, and the comment with its unit.
-fn put_card(rt: &impl Print, card: Card, read: CardRead) {
-    let text = read.text;
-    let comment = read.comment;
-    put_class(rt, card);
+fn put_card(rt: &impl Print, read: CardRead) {
+    let _ = print!(rt; "{} ", class_word(read.card));
     put_text(rt, read.name);
     put(rt, b" ");
-    match card {
-        Card::Value(value) => put_value(rt, value, text),
-        Card::Hierarch(value) => put_value(rt, value, text),
-        _ => put_text(rt, text),
+    match read.card {
+        Card::Value(value) | Card::Hierarch(value) => put_value(rt, value, read.text),
+        _ => put_text(rt, read.text),
     }
-    if read.commented {
+    if let Some(comment) = read.comment {
         put(rt, b" comment ");
         put_text(rt, comment);
         put_unit(rt, comment);
     }
 }
 
-fn put_class(rt: &impl Print, card: Card) {
+fn class_word(card: Card) -> &'static str {
     match card {
-        Card::Value(_) => put(rt, b"value "),
-        Card::Continuation => put(rt, b"continuation "),
-        Card::Xtension => put(rt, b"xtension "),
-        Card::Comment => put(rt, b"comment "),
-        Card::History => put(rt, b"history "),
-        Card::Hierarch(_) => put(rt, b"hierarch "),
-        Card::Space => put(rt, b"space "),
-        Card::End => put(rt, b"end "),
-        Card::Undefined => put(rt, b"undefined "),
+        Card::Value(_) => "value",
+        Card::Continuation => "continuation",
+        Card::Xtension => "xtension",
+        Card::Comment => "comment",
+        Card::History => "history",
+        Card::Hierarch(_) => "hierarch",
+        Card::Space => "space",
+        Card::End => "end",
+        Card::Undefined => "undefined",
     }
 }
 
@@ -285,8 +272,7 @@ fn put_class(rt: &impl Print, card: Card) {
 fn put_value(rt: &impl Print, value: Value, text: Text) {
     match value {
         Value::Integer(z) => {
-            put(rt, b"integer ");
-            put_integer(rt, z);
+            let _ = print!(rt; "integer {z}");
         }
         Value::Float { minus, size } => put_decimal(rt, minus, size, text),
         Value::Logical(truth) => put_truth(rt, truth),
@@ -303,11 +289,8 @@ fn put_value(rt: &impl Print, value: Value, text: Text) {
 }
 
 fn put_truth(rt: &impl Print, truth: bool) {
-    if truth {
-        put(rt, b"logical T");
-        return;
-    }
-    put(rt, b"logical F");
+    let word: &[u8] = if truth { b"logical T" } else { b"logical F" };
+    put(rt, word);
 }
 
 fn put_decimal(rt: &impl Print, minus: bool, size: Size, digits: Text) {
@@ -318,8 +301,7 @@ fn put_decimal(rt: &impl Print, minus: bool, size: Size, digits: Text) {
     match size {
         Size::Finite(power) => {
             put_text(rt, digits);
-            put(rt, b" power ");
-            put_integer(rt, power);
+            let _ = print!(rt; " power {power}");
         }
         Size::Infinite => put(rt, b"infinite"),
         Size::Nan => put(rt, b"nan"),
@@ -328,37 +310,20 @@ fn put_decimal(rt: &impl Print, minus: bool, size: Size, digits: Text) {
 
 // The unit that a comment names, where it names one.
 fn put_unit(rt: &impl Print, comment: Text) {
-    let bytes = comment.bytes;
-    let s = text::first_of(&bytes, comment.len);
-    let UnitPlace::Between(from, to) = value::unit(s) else {
-        return;
-    };
-    put(rt, b" unit ");
-    put_bytes(rt, text::rest_of(text::first_of(s, to), from));
+    let s = comment.as_slice();
+    if let Some((from, to)) = value::unit(s) {
+        put(rt, b" unit ");
+        put_bytes(rt, text::rest_of(text::first_of(s, to), from));
+    }
 }
 
 // ---- texts and numbers
 
 fn put_text(rt: &impl Print, t: Text) {
-    let bytes = t.bytes;
-    put_bytes(rt, text::first_of(&bytes, t.len));
+    put_bytes(rt, t.as_slice());
 }
 
 // Bytes within double quotes.
 fn put_bytes(rt: &impl Print, s: &[u8]) {
-    put(rt, b"\"");
-    for b in s {
-        put_byte(rt, *b);
-    }
-    put(rt, b"\"");
-}
-
-fn put_byte(rt: &impl Print, b: u8) {
-    if text::is_printable(b) {
-        put(rt, &[b]);
-        return;
-    }
-    put(rt, b"<");
-    let _ = print!(rt; "{b:02x}");
-    put(rt, b">");
+    put_quoted(rt, s, b"", "<", ">");
 }

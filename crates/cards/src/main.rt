@@ -3,23 +3,35 @@
 // which each file begins, tells on standard error why one is refused, and says on descriptor 3 as its last act how all of it went.
 #![tactic(auto)]
 
-use finding::{Header, Stop};
+use finding::Stop;
 use output::Printed;
-use refusal::{Column, Refusal};
+use refusal::Refusal;
 use std::env::{Env, FillError};
 use std::fs::{File, OpenOptions};
 use std::io::{Cursor, IsTerminal, Read, Stderr, Stdout, Write};
 use std::{fmt, io};
 
-// How it went, as the digit of the command's exit status: each header was read and written; one was refused; a file could not be read;
-// standard output could not be written.
-const READ: u8 = b'0';
+// How it went: each header was read and written; one was refused; a file could not be read; standard output could not be written. The
+// later one of two is the worse.
+#[derive(Clone, Copy, PartialEq, Eq, PartialOrd, Ord)]
+enum Ending {
+    Read,
+    Refused,
+    Unreadable,
+    Unwritten,
+}
 
-const REFUSED: u8 = b'1';
-
-const UNREADABLE: u8 = b'3';
-
-const UNWRITTEN: u8 = b'4';
+impl Ending {
+    // The digit of the command's exit status.
+    fn digit(self) -> u8 {
+        match self {
+            Ending::Read => b'0',
+            Ending::Refused => b'1',
+            Ending::Unreadable => b'3',
+            Ending::Unwritten => b'4',
+        }
+    }
+}
 
 // Where that is said: descriptor 3.
 const SAYS: &str = "/dev/fd/3";
@@ -49,13 +61,6 @@ pub struct Asked {
     pub bare: bool,
     pub several: bool,
     pub escaped: bool,
-}
-
-// How many bytes of an input were read, or that it failed.
-#[derive(Clone, Copy)]
-pub enum Got {
-    Bytes(usize),
-    Failed,
 }
 
 // Standard output, and the last error of a write to it.
@@ -91,10 +96,10 @@ fn main(rt: HostRuntime) {
     let count = arg_count(&rt);
     let asked = asked_for(&rt, count);
     let end = inputs_end(count);
-    let mut worst = READ;
+    let mut worst = Ending::Read;
     for i in FILES..end {
-        worst = larger(worst, print_input(&rt, &mut paper, i, asked, &mut buffer));
-        if worst == UNWRITTEN {
+        worst = worst.max(print_input(&rt, &mut paper, i, asked, &mut buffer));
+        if worst == Ending::Unwritten {
             break;
         }
     }
@@ -104,13 +109,13 @@ fn main(rt: HostRuntime) {
 }
 
 // Says on descriptor 3 how it went.
-fn say(rt: &HostRuntime, how: u8) {
+fn say(rt: &HostRuntime, how: Ending) {
     let mut options = OpenOptions::new();
     options.append(true);
     let Ok(mut file) = options.open(rt, SAYS) else {
         return;
     };
-    let _ = file.write_all(&[how]);
+    let _ = file.write_all(&[how.digit()]);
 }
 
 // ---- one file
@@ -123,30 +128,26 @@ fn print_input(
     i: usize,
     asked: Asked,
     buffer: &mut [u8],
-) -> u8 {
-    let Got::Bytes(n) = read_input(rt, i, asked.bare, buffer) else {
-        return UNREADABLE;
+) -> Ending {
+    let Some(n) = read_input(rt, i, asked.bare, buffer) else {
+        return Ending::Unreadable;
     };
-    if asked.several {
-        if !print_name(rt, paper, i, asked.escaped) {
-            return unwritten(rt, paper.error);
-        }
+    if asked.several && print_name(rt, paper, i, asked.escaped).is_err() {
+        return unwritten(rt, paper.error);
     }
     let header = text::first_of(buffer, taken(n, asked.bare));
     let report = printing::print_header(paper, header, asked.escaped);
-    let printed = report.printed;
-    let Printed::Whole(_) = printed else {
+    if report.printed.is_err() {
         return unwritten(rt, paper.error);
-    };
-    let answer = report.header;
-    let Header::Refused(stop) = answer else {
-        return READ;
+    }
+    let Err(stop) = report.header else {
+        return Ending::Read;
     };
     if !asked.bare {
         tell_input(rt, i);
         tell_refusal(&mut rt.stderr(), stop, header, LONGEST < n);
     }
-    REFUSED
+    Ending::Refused
 }
 
 // How many of the bytes read are taken: all of a bare header, the whole cards of a file's front.
@@ -154,23 +155,16 @@ fn taken(n: usize, bare: bool) -> usize {
     if bare {
         return n;
     }
-    if LONGEST < n {
-        return LONGEST;
-    }
-    n - n % CARD
+    let front = n.min(LONGEST);
+    front - front % CARD
 }
 
 // Standard output could not be written: tells why.
-fn unwritten(rt: &HostRuntime, error: io::Error) -> u8 {
+fn unwritten(rt: &HostRuntime, error: io::Error) -> Ending {
     let mut told = rt.stderr();
     tell(&mut told, b"cards: standard output cannot be written: ");
     tell_error(rt, error);
-    UNWRITTEN
-}
-
-// The larger of two endings.
-fn larger(a: u8, b: u8) -> u8 {
-    if a < b { b } else { a }
+    Ending::Unwritten
 }
 
 // ---- arguments
@@ -190,7 +184,7 @@ fn arg_count(rt: &HostRuntime) -> usize {
 fn asked_for(rt: &HostRuntime, count: usize) -> Asked {
     let bare = count <= FILES;
     Asked {
-        bare: bare,
+        bare,
         several: FILES + 1 < count,
         escaped: !bare && is_escaped(rt),
     }
@@ -198,36 +192,38 @@ fn asked_for(rt: &HostRuntime, count: usize) -> Asked {
 
 // The number behind that of the last input: a bare header is one input, though no argument names it.
 fn inputs_end(count: usize) -> usize {
-    if count <= FILES {
-        return FILES + 1;
-    }
-    count
+    count.max(FILES + 1)
 }
 
 // Whether lines are made visible: where the first argument says so, and on a terminal.
 fn is_escaped(rt: &HostRuntime) -> bool {
     let mut word = [0u8; 16];
-    if let Ok(n) = rt.arg(SHOWN, &mut word) {
-        if text::same_bytes(&word[..n], b"escaped") {
-            return true;
-        }
+    if let Ok(n) = rt.arg(SHOWN, &mut word)
+        && text::same_bytes(&word[..n], b"escaped")
+    {
+        return true;
     }
     rt.stdout().is_terminal()
 }
 
-// Reads the front of an input: of standard input for a bare header and for a minus sign, of a file otherwise. Tells why where that fails.
-fn read_input(rt: &HostRuntime, i: usize, bare: bool, buffer: &mut [u8]) -> Got {
+// Reads the front of an input: of standard input for a bare header and for a minus sign, of a file otherwise. Answers how many bytes were
+// read, and tells why where that fails.
+fn read_input(rt: &HostRuntime, i: usize, bare: bool, buffer: &mut [u8]) -> Option<usize> {
     let mut path = [0u8; 4096];
     let mut n = 0;
     if !bare {
         let Ok(len) = rt.arg(i, &mut path) else {
-            return unread(rt, b"", io::Error::from_raw_os_error(ENAMETOOLONG));
+            unread(rt, b"", io::Error::from_raw_os_error(ENAMETOOLONG));
+            return None;
         };
         n = len;
     }
     match front_of(rt, i, &path[..n], bare, buffer) {
-        Ok(got) => Got::Bytes(got),
-        Err(e) => unread(rt, &path[..n], e),
+        Ok(got) => Some(got),
+        Err(e) => {
+            unread(rt, &path[..n], e);
+            None
+        }
     }
 }
 
@@ -268,18 +264,14 @@ fn open_link(rt: &HostRuntime, i: usize) -> io::Result<File> {
 // Puts the path of an input's link at the front of a buffer. Answers how long it is, where there is a folder of links and the path has
 // room.
 fn link_len(rt: &HostRuntime, i: usize, path: &mut [u8]) -> Option<usize> {
-    let Ok(n) = rt.var(LINKS, path) else {
-        return None;
-    };
+    let n = rt.var(LINKS, path).ok()?;
     let mut put = Cursor::new(path);
     put.set_position(n as u64);
-    match write!(put, "/{i}") {
-        Ok(_) => Some(put.position() as usize),
-        Err(_) => None,
-    }
+    write!(put, "/{i}").ok()?;
+    Some(put.position() as usize)
 }
 
-// Reads until a buffer is full or the input ends.
+// Reads until a buffer is full or the input ends. The reader says how far it comes, so that no range does.
 fn read_front(from: &mut impl Read, buffer: &mut [u8]) -> io::Result<usize> {
     let mut done = 0;
     while done < buffer.len() {
@@ -294,38 +286,32 @@ fn read_front(from: &mut impl Read, buffer: &mut [u8]) -> io::Result<usize> {
 
 // ---- what is told
 
-// Prints a file's name and a colon on a line of its own. Says whether that was written.
-fn print_name(rt: &HostRuntime, paper: &mut Paper, i: usize, escaped: bool) -> bool {
+// Prints a file's name and a colon on a line of its own.
+fn print_name(rt: &HostRuntime, paper: &mut Paper, i: usize, escaped: bool) -> Printed {
     let mut path = [0u8; 4096];
     let n = name_len(rt, i, &mut path);
-    put_shown(paper, text::first_of(&path, n), escaped) && put_shown(paper, b":\n", false)
+    put_shown(paper, text::first_of(&path, n), escaped)?;
+    output::write(paper, b":\n")
 }
 
 // Puts the argument of an input at the front of a buffer. Answers how long it is; 0 where it is longer than the buffer.
 fn name_len(rt: &HostRuntime, i: usize, path: &mut [u8]) -> usize {
-    match rt.arg(i, path) {
-        Ok(n) => n,
-        Err(_) => 0,
-    }
+    rt.arg(i, path).unwrap_or(0)
 }
 
-// Writes a text to standard output as it stands, or made visible. Says whether it was written.
-fn put_shown(paper: &mut Paper, s: &[u8], escaped: bool) -> bool {
-    let printed = if escaped {
+// Writes a text to standard output as it stands, or made visible: by a bool, as the clause of `printing::print_header` takes it.
+fn put_shown(paper: &mut Paper, s: &[u8], escaped: bool) -> Printed {
+    if escaped {
         output::write_visibly(paper, s)
     } else {
         output::write(paper, s)
-    };
-    match printed {
-        Printed::Whole(_) => true,
-        Printed::Cut => false,
     }
 }
 
 // Begins a line on standard error with a file's name.
 fn tell_name(told: &mut impl Write, path: &[u8]) {
     tell(told, b"cards: ");
-    output::write_visibly(told, path);
+    let _ = output::write_visibly(told, path);
     tell(told, b": ");
 }
 
@@ -337,12 +323,11 @@ fn tell_input(rt: &HostRuntime, i: usize) {
 }
 
 // A file could not be read: tells why.
-fn unread(rt: &HostRuntime, path: &[u8], error: io::Error) -> Got {
+fn unread(rt: &HostRuntime, path: &[u8], error: io::Error) {
     let mut told = rt.stderr();
     tell_name(&mut told, path);
     tell(&mut told, b"cannot be read: ");
     tell_error(rt, error);
-    Got::Failed
 }
 
 // Ends a line on standard error with what the system says of an error.
@@ -377,10 +362,8 @@ impl fmt::Write for Words {
 // Tells in one line why a header is refused, and shows the card. `more` says that bytes follow behind 720 cards.
 fn tell_refusal(told: &mut impl Write, stop: Stop, header: &[u8], more: bool) {
     tell(told, b"refused ");
-    let fault = stop.fault;
-    tell_number(told, fault.number() as usize);
-    let why = fault.why;
-    match why {
+    tell_number(told, usize::from(stop.fault.number()));
+    match stop.fault.why {
         Refusal::HeaderLength => tell(told, b": there is no whole card of 80 bytes"),
         Refusal::NoEnd => tell_no_end(told, stop.card, more),
         _ => tell_card(told, stop, header),
@@ -388,9 +371,10 @@ fn tell_refusal(told: &mut impl Write, stop: Stop, header: &[u8], more: bool) {
     tell(told, b"\n");
 }
 
-// Writes to standard error.
+// Writes to standard error. Texts are bytes, and a part is tried though the one before it failed, as one `write!` of a whole line would
+// not: so lines are told part by part, and numbers alone take a format.
 fn tell(told: &mut impl Write, s: &[u8]) {
-    output::write(told, s);
+    let _ = output::write(told, s);
 }
 
 fn tell_number(told: &mut impl Write, n: usize) {
@@ -415,30 +399,17 @@ fn tell_no_end(told: &mut impl Write, cards: usize, more: bool) {
 
 // Tells of a refused card: its number, its byte where the refusal has one, what is wrong in words, and its 80 bytes made visible.
 fn tell_card(told: &mut impl Write, stop: Stop, header: &[u8]) {
-    let card = stop.card;
     tell(told, b" at card ");
-    tell_number(told, card);
-    let fault = stop.fault;
-    let column = fault.column;
-    let byte = tell_byte(told, column);
-    tell(told, b": ");
-    let words = meanings::meaning(fault);
-    let bytes = words.bytes;
-    tell(told, text::first_of(&bytes, words.len));
-    tell(told, b": ");
-    tell_parts(told, text::first_of(card_bytes(header, card), CARD), byte);
-}
-
-// Tells the byte of a card. Answers where the card is parted: at its front where there is no such byte.
-fn tell_byte(told: &mut impl Write, column: Column) -> usize {
-    match column {
-        Column::At(byte) => {
-            tell(told, b", byte ");
-            tell_number(told, byte);
-            byte
-        }
-        Column::Absent => 0,
+    tell_number(told, stop.card);
+    if let Some(byte) = stop.fault.column {
+        tell(told, b", byte ");
+        tell_number(told, byte);
     }
+    tell(told, b": ");
+    tell(told, meanings::meaning(stop.fault).as_slice());
+    tell(told, b": ");
+    let card = text::first_of(card_bytes(header, stop.card), CARD);
+    tell_parts(told, card, stop.fault.column.unwrap_or(0));
 }
 
 // Shows the bytes of a card before the one where it is refused, and those from it on; at its front there are none before.
@@ -453,7 +424,7 @@ fn tell_parts(told: &mut impl Write, card: &[u8], byte: usize) {
 // Shows bytes in double quotes, made visible.
 fn tell_quoted(told: &mut impl Write, s: &[u8]) {
     tell(told, b"\"");
-    output::write_visibly(told, s);
+    let _ = output::write_visibly(told, s);
     tell(told, b"\"");
 }
 

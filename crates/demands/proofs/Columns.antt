@@ -1,56 +1,49 @@
 -- The column stands beside the answers: taking it away commutes with reading a header, looking up, reading an entry, listing and naming.
+use Rattle.std.specs.Prelude.{Err, None, Ok, Option, Result, Some}
 use Prim.Native.Nat.{ℕ, zero, suc, ◌+◌, ◌*◌, ◌/◌, ◌<◌, ◌≤◌}
 use native.Mathlib.Numerals.{add-one}
 use native.Mathlib.Omega.{arith}
 use mathlib.Core.Path.{◌≡◌, refl, sym, ap, ap₂, subst, ◌∙◌}
 use mathlib.Core.Bool.{Bool, true, false, cond, ◌&&◌}
 use mathlib.Core.List.{List, [], ◌∷◌, map}
-use mathlib.Core.Option.{Option, none, some}
 use lib.Dec.{leb}
 use lib.ListN.{length, get_or, take, drop, length-drop}
 use lib.Seq.{sets, get_or-drop, length-take-le}
-use Rattle.refusal.specs.declared.Column.{Column}
-use Rattle.refusal.specs.declared.Column.TheVariants.{At, Absent}
 use Rattle.refusal.specs.declared.Fault.{Fault}
 use Rattle.refusal.specs.declared.Refusal.TheVariants as R
-use Rattle.refusal.specs.Numbers.{number_of, fault_of, unplaced}
-use Rattle.text.specs.declared.Place.{Place}
-use Rattle.text.specs.declared.Place.TheVariants as P
+use Rattle.refusal.specs.Numbers.{number_of, fault_of, unplaced, answer_placed}
 use Rattle.text.specs.Same.{same}
 use Rattle.splitting.proofs.Within.{Within}
 use Rattle.card.specs.declared.Card.TheVariants as C
-use Rattle.card.specs.declared.CardAnswer.{CardAnswer}
-use Rattle.card.specs.declared.CardAnswer.TheVariants as A
 use Rattle.card.specs.declared.CardRead.{CardRead}
 use Rattle.card.specs.Columns.{column_of}
-use Rattle.card.specs.Cards.{card_answer_placed, unplaced_of, card_of}
-use Rattle.card.proofs.Placing.{CardBy}
+use Rattle.card.specs.Cards.{unplaced_of, card_of}
+use Rattle.refusal.proofs.Placing.{RefusedBy}
 use Rattle.card.proofs.Refusing.{nowhere, card-unplaced}
 use Rattle.card.proofs.Within.{card-within}
 use Rattle.roles.specs.Roles.{Words, Held, Role, entry, more, neutral, last, refused, role_by, role_in, role_read, role_of}
 use Rattle.roles.specs.Cards.{cards_of, card_no, roles_of, is_bad_length}
-use Rattle.roles.proofs.Cards.{drop-map, role_count, role_first, roles_from, role_is}
+use Rattle.std.proofs.lemmas.List.{drop-map}
+use Rattle.roles.proofs.Cards.{role_count, role_first, roles_from, role_is}
 use Rattle.roles.proofs.Placing.{role_placed_lem, role_placed}
 use Rattle.joining.specs.Words.{opens, join_words}
 use Rattle.joining.specs.Lookup.{join_on, whole, if_same, or_else, lookup}
 use Rattle.finding.specs.declared.Stop.{Stop}
-use Rattle.finding.specs.declared.Header.{Header}
-use Rattle.finding.specs.declared.Header.TheVariants.{Accepted, Refused}
 use Rattle.finding.specs.Finding.{stop_at, header_from, header_of, last_from, last_of, find_by, find_of}
 use Rattle.entries.specs.Answers.{LookupOutcome, bytes_in, written, entry_head, met_on, met_head}
 use Rattle.entries.specs.Halves.{Sought, stops, missing, holds, held_in, sought_in, named, unless_stopped, numbered_from, numbered}
 use Rattle.entries.specs.Halves.{ValueOutcome, value_in, CommentOutcome, comment_in}
 use Rattle.listing.specs.Listing.{Table, name_of, place_in, put, put_role, list_from, tabled, empty, by_header, list_of}
-use Rattle.naming.specs.declared.Named.TheVariants as N
 use Rattle.naming.specs.Naming.{NameOutcome, naming_by, unnamed, name_written, name_by, name_at}
 use Rattle.agreeing.proofs.Both.{both_in, looked_both, entry_by_both, lookup_both, entry_both}
-use Rattle.demands.specs.Columns.{alone, stop_alone, header_alone, found_alone, outcome_alone, sought_alone, value_alone, comment_alone}
+use Rattle.demands.specs.Columns.{alone, stop_alone, header_alone, outcome_alone, sought_alone, value_alone, comment_alone}
 use Rattle.demands.specs.Columns.{list_alone, naming_alone, unplaced_roles, unplaced_header}
 use Rattle.demands.specs.Columns.{CardAlone, HeaderAlone, FindAlone, LookupAlone, EntryAlone, NamedAlone, NumberedAlone}
 use Rattle.demands.specs.Columns.{ValueAlone, CommentAlone, ListAlone, NameAlone}
-use Rattle.demands.specs.Columns.{OnCard, ColumnAt, header_column, found_column, answer_column, sought_column, name_column}
+use Rattle.demands.specs.Columns.{OnCard, ColumnAt, header_column, answer_column, sought_column, name_column}
 use Rattle.demands.specs.Columns.{CardColumn, HeaderColumn, FindColumn, LookupColumn, EntryColumn, NamedColumn, NumberedColumn}
 use Rattle.demands.specs.Columns.{NameColumn}
+use Rattle.card.specs.declared.Card.{Card}
 
 -- what holds of both cases
 either : {A : Type 0} (P : A → Type 0) (b : Bool) (x y : A) → P x → P y → P (cond b x y)
@@ -60,16 +53,12 @@ either P false x y d e = e
 -- ---- a card
 
 -- taking the column away is placing none
-alone_nowhere : (a : CardAnswer) → alone a ≡ card_answer_placed nowhere a
-alone_nowhere (A.Read card) = refl
-alone_nowhere (A.Refused x) = refl
+alone_nowhere : (a : Result CardRead Fault) → alone a ≡ answer_placed nowhere a
+alone_nowhere (Ok r) = refl
+alone_nowhere (Err x) = refl
 
 pub card_alone_lem : CardAlone
-card_alone_lem c =
-    let r = card_of c in
-    ap (λ (a : CardAnswer). record { answer = a; name = r.name; text = r.text; commented = r.commented; comment = r.comment })
-    (alone_nowhere r.answer)
-    ∙ card-unplaced c
+card_alone_lem c = alone_nowhere (card_of c) ∙ card-unplaced c
 
 -- ---- roles
 abbrev bare : Role → Role
@@ -96,17 +85,17 @@ unfolding header_of
 header_alone_lem h = go (is_bad_length (length h))
   where
     go : (b : Bool)
-        → header_alone (cond b (Refused (stop_at (fault_of R.HeaderLength) 0)) (header_from (roles_of h) 0))
-        ≡ cond b (Refused (stop_at (fault_of R.HeaderLength) 0)) (header_from (unplaced_roles h) 0)
+        → header_alone (cond b (Err (stop_at (fault_of R.HeaderLength) 0)) (header_from (roles_of h) 0))
+        ≡ cond b (Err (stop_at (fault_of R.HeaderLength) 0)) (header_from (unplaced_roles h) 0)
     go true = refl
     go false = sym (header_bare (roles_of h) 0) ∙ ap (λ (rs : List Role). header_from rs 0) (sym (roles_bare (cards_of h)))
 
 -- ---- finding a name
 
-last_bare : (name : List ℕ) (rs : List Role) (i : ℕ) (p : Place) → last_from name (map bare rs) i p ≡ last_from name rs i p
+last_bare : (name : List ℕ) (rs : List Role) (i : ℕ) (p : Option ℕ) → last_from name (map bare rs) i p ≡ last_from name rs i p
 unfolding last_from
 last_bare name [] i p = refl
-last_bare name (entry m v ∷ rs) i p = last_bare name rs (suc i) (cond (same m name) (P.At i) p)
+last_bare name (entry m v ∷ rs) i p = last_bare name rs (suc i) (cond (same m name) (Some i) p)
 last_bare name (more t c ∷ rs) i p = last_bare name rs (suc i) p
 last_bare name (neutral ∷ rs) i p = last_bare name rs (suc i) p
 last_bare name (last ∷ rs) i p = refl
@@ -117,11 +106,11 @@ unfolding find_of
 find_alone h name =
     go (header_of h)
     ∙ ap₂ find_by (header_alone_lem h)
-    (sym (last_bare name (roles_of h) 0 P.Nowhere) ∙ ap (last_of name) (sym (roles_bare (cards_of h))))
+    (sym (last_bare name (roles_of h) 0 None) ∙ ap (last_of name) (sym (roles_bare (cards_of h))))
   where
-    go : (x : Header) → found_alone (find_by x (last_of name (roles_of h))) ≡ find_by (header_alone x) (last_of name (roles_of h))
-    go (Accepted end) = refl
-    go (Refused s) = refl
+    go : (x : Result ℕ Stop) → header_alone (find_by x (last_of name (roles_of h))) ≡ find_by (header_alone x) (last_of name (roles_of h))
+    go (Ok end) = refl
+    go (Err s) = refl
 
 -- ---- a lookup
 
@@ -148,8 +137,8 @@ lookup_bare name (last ∷ rs) = refl
 lookup_bare name (refused x ∷ rs) = lookup_bare name rs
 
 held-alone : (o : Option Held) → sought_alone (held_in o) ≡ held_in o
-held-alone none = refl
-held-alone (some v) = refl
+held-alone None = refl
+held-alone (Some v) = refl
 
 pub named-alone : NamedAlone
 unfolding named
@@ -157,9 +146,9 @@ named-alone h name =
     go (header_of h)
     ∙ ap₂ sought_in (header_alone_lem h) (sym (lookup_bare name (roles_of h)) ∙ ap (lookup name) (sym (roles_bare (cards_of h))))
   where
-    go : (x : Header) → sought_alone (sought_in x (lookup name (roles_of h))) ≡ sought_in (header_alone x) (lookup name (roles_of h))
-    go (Accepted end) = held-alone (lookup name (roles_of h))
-    go (Refused s) = refl
+    go : (x : Result ℕ Stop) → sought_alone (sought_in x (lookup name (roles_of h))) ≡ sought_in (header_alone x) (lookup name (roles_of h))
+    go (Ok end) = held-alone (lookup name (roles_of h))
+    go (Err s) = refl
 
 -- 12 and 13 have no column
 pub value_alone_lem : ValueAlone
@@ -195,17 +184,17 @@ lookup-alone h name text comment =
 
 head_bare : (rs : List Role) → entry_head (map bare rs) ≡ entry_head rs
 head_bare [] = refl
-head_bare (entry n v ∷ rs) = ap some (whole_bare v rs)
+head_bare (entry n v ∷ rs) = ap Some (whole_bare v rs)
 head_bare (more t c ∷ rs) = refl
 head_bare (neutral ∷ rs) = refl
 head_bare (last ∷ rs) = refl
 head_bare (refused x ∷ rs) = refl
 
 abbrev met_alone : Option Stop → Option Stop
-met_alone none = none
-met_alone (some s) = some (stop_alone s)
+met_alone None = None
+met_alone (Some s) = Some (stop_alone s)
 
-met_if : (b : Bool) (m n : Option Stop) → m ≡ met_alone n → cond b m none ≡ met_alone (cond b n none)
+met_if : (b : Bool) (m n : Option Stop) → m ≡ met_alone n → cond b m None ≡ met_alone (cond b n None)
 met_if true m n e = e
 met_if false m n e = refl
 
@@ -218,7 +207,7 @@ met_on_bare w (more t c ∷ rs) j =
     (met_on_bare (join_words w t c) rs (suc j))
 met_on_bare w (neutral ∷ rs) j = met_on_bare w rs (suc j)
 met_on_bare w (last ∷ rs) j = refl
-met_on_bare w (refused x ∷ rs) j = met_if (opens w) (some (stop_at (unplaced x) j)) (some (stop_at x j)) refl
+met_on_bare w (refused x ∷ rs) j = met_if (opens w) (Some (stop_at (unplaced x) j)) (Some (stop_at x j)) refl
 
 met_bare : (rs : List Role) (i : ℕ) → met_head (map bare rs) i ≡ met_alone (met_head rs i)
 met_bare [] i = refl
@@ -232,8 +221,8 @@ from_bare : (rs : List Role) (i : ℕ) → sought_alone (numbered_from rs i) ≡
 from_bare rs i = go (met_head rs i) ∙ ap₂ unless_stopped (sym (met_bare rs i)) (sym (head_bare rs))
   where
     go : (m : Option Stop) → sought_alone (unless_stopped m (entry_head rs)) ≡ unless_stopped (met_alone m) (entry_head rs)
-    go none = held-alone (entry_head rs)
-    go (some s) = refl
+    go None = held-alone (entry_head rs)
+    go (Some s) = refl
 
 pub numbered-alone : NumberedAlone
 unfolding numbered
@@ -248,7 +237,7 @@ numbered-alone h i = go (is_bad_length (length h))
     go false =
         from_bare (drop i (roles_of h)) i
         ∙ ap (λ (rs : List Role). numbered_from rs i)
-        (sym (drop-map bare (roles_of h) i) ∙ ap (drop i) (sym (roles_bare (cards_of h))))
+        (sym (drop-map bare i (roles_of h)) ∙ ap (drop i) (sym (roles_bare (cards_of h))))
 
 pub entry-alone : EntryAlone
 entry-alone h i text comment =
@@ -276,11 +265,11 @@ place_bare : (rs : List Role) (name is : List ℕ) (k : ℕ) → place_in (map b
 unfolding place_in
 place_bare rs name [] k = refl
 place_bare rs name (i ∷ is) k =
-    ap₂ (λ (m : List ℕ) (p : Place). cond (same m name) (P.At k) p)
+    ap₂ (λ (m : List ℕ) (p : Option ℕ). cond (same m name) (Some k) p)
     (ap name_of (at_bare rs i) ∙ name_bare (get_or rs i neutral)) (place_bare rs name is (suc k))
 
 put_bare : (rs : List Role) (r : Role) (i : ℕ) (t : Table) → put_role (map bare rs) (bare r) i t ≡ put_role rs r i t
-put_bare rs (entry n v) i t = ap (λ (p : Place). put p i t) (place_bare rs n t.first 0)
+put_bare rs (entry n v) i t = ap (λ (p : Option ℕ). put p i t) (place_bare rs n t.first 0)
 put_bare rs (more s c) i t = refl
 put_bare rs neutral i t = refl
 put_bare rs last i t = refl
@@ -300,14 +289,14 @@ take_bare (suc n) (r ∷ rs) = ap (λ (l : List Role). bare r ∷ l) (take_bare 
 pub list_alone_lem : ListAlone
 unfolding list_of
 list_alone_lem h =
-    go (header_of h) ∙ ap₂ (λ (x : Header) (rs : List Role). by_header x rs) (header_alone_lem h) (sym (roles_bare (cards_of h)))
+    go (header_of h) ∙ ap₂ (λ (x : Result ℕ Stop) (rs : List Role). by_header x rs) (header_alone_lem h) (sym (roles_bare (cards_of h)))
   where
-    go : (x : Header) → list_alone (by_header x (roles_of h)) ≡ by_header (header_alone x) (map bare (roles_of h))
-    go (Accepted end) =
+    go : (x : Result ℕ Stop) → list_alone (by_header x (roles_of h)) ≡ by_header (header_alone x) (map bare (roles_of h))
+    go (Ok end) =
         let roles = roles_of h in
         let same-cards = ap (λ (rs : List Role). list_from (map bare roles) rs 0 empty) (take_bare end roles) in
-        ap (tabled (Accepted end)) (sym (same-cards ∙ list_bare roles (take end roles) 0 empty))
-    go (Refused s) = refl
+        ap (tabled (Ok end)) (sym (same-cards ∙ list_bare roles (take end roles) 0 empty))
+    go (Err s) = refl
 
 pub name_alone_lem : NameAlone
 unfolding name_at name_written
@@ -334,26 +323,26 @@ name_alone_lem h i name = go (is_bad_length (length h))
 
 -- ---- where the columns stand
 
-on_card : (x : Column) → Within x → OnCard x
-on_card (At b) h = record { byte = b; is = refl; within = h }
-on_card Absent h = absurd h
+on_card : (x : Option ℕ) → Within x → OnCard x
+on_card (Some b) h = record { byte = b; is = refl; within = h }
+on_card None h = absurd h
 
 -- a refusal that is not of a card has none
 off_card : (c : List ℕ) (x : Fault) → x.column ≡ column_of c x.why → (number_of x.why ≤ 8 → ⊥) → ColumnAt c x
 off_card c x e high = record { column = e; within = λ (low : number_of x.why ≤ 8). absurd (high low) }
 
-abbrev card_column : List ℕ → CardAnswer → Type 0
-card_column c (A.Read card) = Unit {0}
-card_column c (A.Refused x) = ColumnAt c x
+abbrev card_column : List ℕ → Result CardRead Fault → Type 0
+card_column c (Ok r) = Unit {0}
+card_column c (Err x) = ColumnAt c x
 
-card_told_lem : (c : List ℕ) → length c ≡ 80 → card_column c (card_of c).answer
+card_told_lem : (c : List ℕ) → length c ≡ 80 → card_column c (card_of c)
 unfolding card_of
-card_told_lem c whole = go (unplaced_of c).answer (card-within c whole)
+card_told_lem c whole = go (unplaced_of c) (card-within c whole)
   where
-    go : (a : CardAnswer) → CardBy (λ (y : Fault). Within y.column) (card_answer_placed (column_of c) a)
-        → card_column c (card_answer_placed (column_of c) a)
-    go (A.Read card) h = tt
-    go (A.Refused x) h = record { column = refl; within = λ (low : number_of x.why ≤ 8). on_card (column_of c x.why) h }
+    go : (a : Result CardRead Fault) → RefusedBy (λ (y : Fault). Within y.column) (answer_placed (column_of c) a)
+        → card_column c (answer_placed (column_of c) a)
+    go (Ok r) h = tt
+    go (Err x) h = record { column = refl; within = λ (low : number_of x.why ≤ 8). on_card (column_of c x.why) h }
 
 pub card-column : CardColumn
 card-column c x whole e = subst (card_column c) e (card_told_lem c whole)
@@ -370,26 +359,29 @@ module _ (h : List ℕ) where
   role_told : (i : ℕ) → i < length h / 80 → role_column i (role_of (card_no h i))
   role_told i within =
       let whole = length-take-le 80 (drop (i * 80) h) (omega (arith, length-drop (i * 80) h)) in
-      go (card_of (card_no h i)).answer (card_of (card_no h i)) (card_told_lem (card_no h i) whole)
+      go (card_of (card_no h i)) (card_told_lem (card_no h i) whole)
     where
-      go : (a : CardAnswer) (r : CardRead) → card_column (card_no h i) a → role_column i (role_in (role_by a) r)
-      go (A.Read (C.Value v)) r told = tt
-      go (A.Read (C.Hierarch v)) r told = tt
-      go (A.Read C.Xtension) r told = tt
-      go (A.Read C.Continuation) r told = tt
-      go (A.Read C.Comment) r told = tt
-      go (A.Read C.History) r told = tt
-      go (A.Read C.Space) r told = tt
-      go (A.Read C.Undefined) r told = tt
-      go (A.Read C.End) r told = tt
-      go (A.Refused x) r told = told
+      of_card : (card : Card) (r : CardRead) → role_column i (role_in (role_by card) r)
+      of_card (C.Value v) r = tt
+      of_card (C.Hierarch v) r = tt
+      of_card C.Xtension r = tt
+      of_card C.Continuation r = tt
+      of_card C.Comment r = tt
+      of_card C.History r = tt
+      of_card C.Space r = tt
+      of_card C.Undefined r = tt
+      of_card C.End r = tt
+
+      go : (a : Result CardRead Fault) → card_column (card_no h i) a → role_column i (role_read a)
+      go (Ok r) told = of_card r.card r
+      go (Err x) told = told
 
   -- the first of the roles from number i on is that of card i, and the others follow
   module _ (i : ℕ) (r : Role) (rs : List Role) (e : drop i (roles_of h) ≡ r ∷ rs) where
     within : i < length h / 80
     within =
-        let some : length (drop i (roles_of h)) ≡ suc (length rs) = ap length e in
-        omega (arith, some, length-drop i (roles_of h), role_count h)
+        let Some : length (drop i (roles_of h)) ≡ suc (length rs) = ap length e in
+        omega (arith, Some, length-drop i (roles_of h), role_count h)
 
     first-told : role_column i r
     first-told = subst (role_column i) (sym (role_is h i within) ∙ role_first (roles_of h) i r rs e) (role_told i within)
@@ -412,19 +404,19 @@ module _ (h : List ℕ) where
 
   -- a refused card that an entry meets
   abbrev met_column : Option Stop → Type 0
-  met_column none = Unit {0}
-  met_column (some s) = ColumnAt (card_no h s.card) s.fault
+  met_column None = Unit {0}
+  met_column (Some s) = ColumnAt (card_no h s.card) s.fault
 
   met_on-told : (w : Words) (rs : List Role) (j : ℕ) → drop j (roles_of h) ≡ rs → met_column (met_on w rs j)
   unfolding met_on
   met_on-told w [] j e = tt
   met_on-told w (entry n v ∷ rs) j e = tt
   met_on-told w (more t c ∷ rs) j e =
-      either met_column (opens w) (met_on (join_words w t c) rs (suc j)) none
+      either met_column (opens w) (met_on (join_words w t c) rs (suc j)) None
       (met_on-told (join_words w t c) rs (suc j) (follow j (more t c) rs e)) tt
   met_on-told w (neutral ∷ rs) j e = met_on-told w rs (suc j) (follow j neutral rs e)
   met_on-told w (last ∷ rs) j e = tt
-  met_on-told w (refused x ∷ rs) j e = either met_column (opens w) (some (stop_at x j)) none (first-told j (refused x) rs e) tt
+  met_on-told w (refused x ∷ rs) j e = either met_column (opens w) (Some (stop_at x j)) None (first-told j (refused x) rs e) tt
 
   met-told : (rs : List Role) (i : ℕ) → drop i (roles_of h) ≡ rs → met_column (met_head rs i)
   met-told [] i e = tt
@@ -450,7 +442,7 @@ pub header_column_lem : HeaderColumn
 unfolding header_of
 header_column_lem h = go (is_bad_length (length h))
   where
-    go : (b : Bool) → header_column h (cond b (Refused (stop_at (fault_of R.HeaderLength) 0)) (header_from (roles_of h) 0))
+    go : (b : Bool) → header_column h (cond b (Err (stop_at (fault_of R.HeaderLength) 0)) (header_from (roles_of h) 0))
     go true = length-told h
     go false = from_told h (roles_of h) 0 refl
 
@@ -458,29 +450,29 @@ pub find_column : FindColumn
 unfolding find_of
 find_column h name = go (header_of h) (header_column_lem h)
   where
-    go : (x : Header) → header_column h x → found_column h (find_by x (last_of name (roles_of h)))
-    go (Accepted end) told = tt
-    go (Refused s) told = told
+    go : (x : Result ℕ Stop) → header_column h x → header_column h (find_by x (last_of name (roles_of h)))
+    go (Ok end) told = tt
+    go (Err s) told = told
 
 held-told : (h : List ℕ) (o : Option Held) → sought_column h (held_in o)
-held-told h none = tt
-held-told h (some v) = tt
+held-told h None = tt
+held-told h (Some v) = tt
 
 pub named-column : NamedColumn
 unfolding named
 named-column h name = go (header_of h) (header_column_lem h)
   where
-    go : (x : Header) → header_column h x → sought_column h (sought_in x (lookup name (roles_of h)))
-    go (Accepted end) told = held-told h (lookup name (roles_of h))
-    go (Refused s) told = told
+    go : (x : Result ℕ Stop) → header_column h x → sought_column h (sought_in x (lookup name (roles_of h)))
+    go (Ok end) told = held-told h (lookup name (roles_of h))
+    go (Err s) told = told
 
 pub numbered-column : NumberedColumn
 unfolding numbered
 numbered-column h i = go (is_bad_length (length h))
   where
     by : (m : Option Stop) → met_column h m → sought_column h (unless_stopped m (entry_head (drop i (roles_of h))))
-    by none told = held-told h (entry_head (drop i (roles_of h)))
-    by (some s) told = told
+    by None told = held-told h (entry_head (drop i (roles_of h)))
+    by (Some s) told = told
 
     go : (b : Bool)
         → sought_column h (cond b (stops (stop_at (fault_of R.HeaderLength) 0)) (numbered_from (drop i (roles_of h)) i))
@@ -511,7 +503,7 @@ name_column_lem h i name = go (is_bad_length (length h))
   where
     short : (b : Bool) (own : List ℕ)
         → name_column (card_no h i)
-        (cond b (naming_by (N.Bears (length own)) (sets name 0 own)) (unnamed (fault_of R.BufferShort) name)).answer
+        (cond b (naming_by (Ok (length own)) (sets name 0 own)) (unnamed (fault_of R.BufferShort) name)).answer
     short true own = tt
     short false own = off_card (card_no h i) (fault_of R.BufferShort) refl (λ (low : 13 ≤ 8). omega arith)
 

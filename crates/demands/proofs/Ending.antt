@@ -1,4 +1,5 @@
 -- Two accepted headers that are equal but for K up to END: card by card both bear K or do the same.
+use Rattle.std.specs.Prelude.{Err, Ok}
 use Prim.Native.Nat.{ℕ, zero, suc, ◌+◌, ◌≤◌}
 use native.Mathlib.Omega.{arith}
 use mathlib.Core.Path.{◌≡◌, refl, sym, ap, ap₂, subst, ◌∙◌}
@@ -12,7 +13,6 @@ use Rattle.joining.specs.Belonging.{Open, ended, idle, held, Effect, nothing, do
 use Rattle.joining.proofs.Names.{others}
 use Rattle.joining.proofs.Owning.{Alike, owned, own_after, effect, after}
 use Rattle.finding.specs.declared.Stop.{Stop}
-use Rattle.finding.specs.declared.Header.TheVariants.{Accepted, Refused}
 use Rattle.finding.specs.Finding.{header_from}
 
 abbrev is_last : Role → Bool
@@ -53,10 +53,10 @@ lookup_to_end name (last ∷ h) = refl
 lookup_to_end name (refused f ∷ h) = lookup_to_end name h
 
 -- ---- an accepted header goes on to its END
-apart : (s : Stop) (e : ℕ) → Refused s ≡ Accepted e → ⊥
+apart : (s : Stop) (e : ℕ) → Err s ≡ Ok e → ⊥
 apart s e d = let z : ◌≡◌ {A = ℕ} 0 1 = cc in omega arith
 
-accepted_from : (h : List Role) (i e : ℕ) → header_from h i ≡ Accepted e → i ≤ e
+accepted_from : (h : List Role) (i e : ℕ) → header_from h i ≡ Ok e → i ≤ e
 unfolding header_from
 accepted_from [] i e a = absurd (apart _ e a)
 accepted_from (entry n v ∷ h) i e a = omega (arith, accepted_from h (suc i) e a)
@@ -65,8 +65,8 @@ accepted_from (neutral ∷ h) i e a = omega (arith, accepted_from h (suc i) e a)
 accepted_from (last ∷ h) i e a = let is : i ≡ e = cc in omega arith
 accepted_from (refused f ∷ h) i e a = absurd (apart _ e a)
 
-goes_on : (c : Role) (h : List Role) (i e : ℕ) → header_from (c ∷ h) i ≡ Accepted e → is_last c ≡ false
-    → header_from h (suc i) ≡ Accepted e
+goes_on : (c : Role) (h : List Role) (i e : ℕ) → header_from (c ∷ h) i ≡ Ok e → is_last c ≡ false
+    → header_from h (suc i) ≡ Ok e
 unfolding header_from
 goes_on (entry n v) h i e a d = a
 goes_on (more t c) h i e a d = a
@@ -106,7 +106,7 @@ belongs-after k q h p = bears k (get_or (effects q h) p nothing)
 
 module _ (k : List ℕ) (z : Role) where
   pub twins : (q r : Open) → Alike k q r → (g h : List Role) (i j e d : ℕ)
-      → header_from g i ≡ Accepted e → header_from h j ≡ Accepted d
+      → header_from g i ≡ Ok e → header_from h j ≡ Ok d
       → ((p : ℕ) → i + p ≤ e → belongs-after k q g p ≡ belongs-after k r h p)
       → ((p : ℕ) → i + p ≤ e → belongs-after k q g p ≡ false → get_or g p z ≡ get_or h p z)
       → Twin k q r (to_end_lem g) (to_end_lem h)
@@ -133,13 +133,13 @@ module _ (k : List ℕ) (z : Role) where
 
       -- the cards behind an END, and behind two cards that are none
       behind : (x : Bool) → is_last c ≡ x → is_last f ≡ x → Alike k q₁ r₁
-          → (Alike k q₁ r₁ → header_from g (suc i) ≡ Accepted e → header_from h (suc j) ≡ Accepted d → Behind false false)
+          → (Alike k q₁ r₁ → header_from g (suc i) ≡ Ok e → header_from h (suc j) ≡ Ok d → Behind false false)
           → Behind (is_last c) (is_last f)
       behind true x y s' rest = rw (x, y) done
       behind false x y s' rest = rw (x, y) (rest s' (goes_on c g i e a x) (goes_on f h j d b y))
 
       go : (t : Bool) → bears k (does q c) ≡ t
-          → (Alike k q₁ r₁ → header_from g (suc i) ≡ Accepted e → header_from h (suc j) ≡ Accepted d → Behind false false)
+          → (Alike k q₁ r₁ → header_from g (suc i) ≡ Ok e → header_from h (suc j) ≡ Ok d → Behind false false)
           → Twin k q r (c ∷ unless (is_last c) (to_end_lem g)) (f ∷ unless (is_last f) (to_end_lem h))
       go true t rest =
           let t' : bears k (does r f) ≡ true = sym (places zero here) ∙ t in

@@ -1,4 +1,5 @@
 -- Demands 2 and 3 for the two halves: both are given by what the header holds for their reader, and so is the answer of both at once.
+use Rattle.std.specs.Prelude.{Err, Ok}
 use Prim.Native.Nat.{ℕ}
 use mathlib.Core.Path.{◌≡◌, refl, sym, ap, ◌∙◌}
 use mathlib.Core.Bool.{Bool, true, false, cond, not, ◌&&◌, ◌||◌, true≢false}
@@ -11,8 +12,7 @@ use Rattle.refusal.specs.declared.Refusal.TheVariants as R
 use Rattle.refusal.specs.Numbers.{fault_of}
 use Rattle.text.specs.Text.{text_of}
 use Rattle.roles.specs.Roles.{Held}
-use Rattle.entries.specs.declared.LookupAnswer.TheVariants as L
-use Rattle.entries.specs.declared.CommentAnswer.TheVariants as C
+use Rattle.entries.specs.declared.NoEntry.TheVariants as N
 use Rattle.entries.specs.Answers.{LookupOutcome, left_by, is_there, bytes_in, found_as, untouched, written, lookup_of, entry_of}
 use Rattle.entries.specs.Halves.{Sought, stops, missing, holds, named, numbered}
 use Rattle.entries.specs.Halves.{ValueOutcome, value_left, no_value, value_in}
@@ -46,18 +46,18 @@ module _ (v : Held) where
   abbrev value_by : Bool → List ℕ → ValueOutcome
   value_by b text =
       cond b
-      (value_left (record { answer = L.Found v.value; digits = text_of v.digits; text = length s }) (sets text 0 s))
-      (value_left (no_value (L.Refused (fault_of R.BufferShort)) (length s)) text)
+      (value_left (record { answer = Ok v.value; digits = text_of v.digits; text = length s }) (sets text 0 s))
+      (value_left (no_value (N.Refused (fault_of R.BufferShort)) (length s)) text)
 
   abbrev comment_by_lem : Bool → List ℕ → CommentOutcome
   comment_by_lem d lent =
       cond d
-      (comment_left (comment_half (C.Found (is_there v.words.comment)) (length c)) (sets lent 0 c))
-      (comment_left (comment_half (C.Refused (fault_of R.BufferShort)) (length c)) lent)
+      (comment_left (comment_half (Ok (is_there v.words.comment)) (length c)) (sets lent 0 c))
+      (comment_left (comment_half (Err (N.Refused (fault_of R.BufferShort))) (length c)) lent)
 
   abbrev both_by : Bool → List ℕ → List ℕ → LookupOutcome
   both_by b text lent =
-      cond b (left_by (found_as v) (sets text 0 s) (sets lent 0 c)) (untouched (L.Refused (fault_of R.BufferShort)) text lent)
+      cond b (left_by (found_as v) (sets text 0 s) (sets lent 0 c)) (untouched (N.Refused (fault_of R.BufferShort)) text lent)
 
   paired_by : (text lent : List ℕ) (b d : Bool) → is_short (value_by b text).answer.answer ≡ false
       → is_comment_short (comment_by_lem d lent).answer.answer ≡ false

@@ -1,4 +1,5 @@
 -- Demand 3, for lookups and for the list.
+use Rattle.std.specs.Prelude.{Err, Ok}
 use Prim.Native.Nat.{ℕ, ◌+◌, ◌≤◌}
 use native.Mathlib.Omega.{arith}
 use mathlib.Core.Path.{◌≡◌, refl, sym, ap, ◌∙◌}
@@ -14,7 +15,6 @@ use Rattle.joining.specs.Belonging.{idle, effects}
 use Rattle.joining.proofs.Names.{others, answer, answer-others}
 use Rattle.joining.proofs.Answers.{by_effects}
 use Rattle.joining.proofs.Owning.{equal}
-use Rattle.finding.specs.declared.Header.TheVariants.{Accepted, Refused}
 use Rattle.finding.specs.Finding.{stop_at, header_from, header_of}
 use Rattle.entries.specs.Halves.{held_in, named, numbered}
 use Rattle.entries.proofs.Looking.{accepted_good}
@@ -31,10 +31,10 @@ use Rattle.demands.proofs.Naming.{take-filled, first_names, names_are, twin_name
 use Rattle.demands.proofs.Naming as naming
 
 -- an accepted header is read from its first card on
-read_from : (h : List ℕ) (a : IsAccepted h) → header_from (roles_of h) 0 ≡ Accepted a.end
+read_from : (h : List ℕ) (a : IsAccepted h) → header_from (roles_of h) 0 ≡ Ok a.end
 unfolding header_of
 read_from h a =
-    sym (ap (λ (b : Bool). cond b (Refused (stop_at (fault_of R.HeaderLength) 0)) (header_from (roles_of h) 0))
+    sym (ap (λ (b : Bool). cond b (Err (stop_at (fault_of R.HeaderLength) 0)) (header_from (roles_of h) 0))
     (accepted_good h a.end a.accepted))
     ∙ a.accepted
 

@@ -1,65 +1,45 @@
 -- The column stands beside the answers and changes none of them (SPECIFICATION 2.4). Without it each answer is the one that the cards give
 -- when they are read without columns (`unplacedOf`). Where a card is refused, the column is the one that its bytes give (`columnOf`).
-use Rattle.std.specs.Prelude.{ℕ, ◌<◌, ◌≤◌, ◌≡◌, List, map, length}
-use Rattle.refusal.specs.declared.Column.{Column}
-use Rattle.refusal.specs.declared.Column.TheVariants.{At, Absent}
+use Rattle.std.specs.Prelude.{ℕ, ◌<◌, ◌≤◌, ◌≡◌, List, map, length, Err, None, Ok, Option, Result, Some, Bool}
 use Rattle.refusal.specs.declared.Fault.{Fault}
 use Rattle.refusal.specs.Numbers.{number_of, unplaced}
-use Rattle.card.specs.declared.CardAnswer.{CardAnswer}
-use Rattle.card.specs.declared.CardAnswer.TheVariants as A
-use Rattle.card.specs.declared.CardRead.{CardRead}
 use Rattle.card.specs.Columns.{column_of}
 use Rattle.card.specs.Cards.{unplaced_of, card_of}
 use Rattle.roles.specs.Roles.{Role, role_read}
 use Rattle.roles.specs.Cards.{cards_of, card_no}
 use Rattle.finding.specs.declared.Stop.{Stop}
-use Rattle.finding.specs.declared.Header.{Header}
-use Rattle.finding.specs.declared.Header.TheVariants.{Accepted, Refused}
-use Rattle.finding.specs.declared.Found.{Found}
-use Rattle.finding.specs.declared.Found.TheVariants as F
 use Rattle.finding.specs.Finding.{stop_at, header_by, header_of, last_of, find_by, find_of}
 use Rattle.joining.specs.Lookup.{lookup}
-use Rattle.entries.specs.declared.LookupAnswer.{LookupAnswer}
-use Rattle.entries.specs.declared.LookupAnswer.TheVariants as L
+use Rattle.numbers.specs.declared.Value.{Value}
+use Rattle.entries.specs.declared.NoEntry.{NoEntry}
+use Rattle.entries.specs.declared.NoEntry.TheVariants as N
 use Rattle.entries.specs.Answers.{Looked, LookupOutcome, left_by, looked_up, lookup_of, entry_by, entry_of}
-use Rattle.entries.specs.declared.CommentAnswer.{CommentAnswer}
-use Rattle.entries.specs.declared.CommentAnswer.TheVariants as H
 use Rattle.entries.specs.Halves.{Sought, stops, missing, holds, sought_in, named, numbered_by, numbered}
 use Rattle.entries.specs.Halves.{ValueOutcome, value_left, value_in, CommentOutcome, comment_left, comment_half, comment_in}
 use Rattle.listing.specs.declared.Listing.{Listing}
 use Rattle.listing.specs.Listing.{by_header, list_of}
-use Rattle.naming.specs.declared.Named.{Named}
-use Rattle.naming.specs.declared.Named.TheVariants as N
 use Rattle.naming.specs.Naming.{NameOutcome, naming_by, named_by, name_at}
 
 -- ---- answers without the column: the refusal stands alone, and all else is as it was
 
--- of a card
-abbrev pub alone : CardAnswer → CardAnswer
-alone (A.Read card) = A.Read card
-alone (A.Refused x) = A.Refused (unplaced x)
+-- of a card, and of a name
+abbrev pub alone : {A : Type 0} → Result A Fault → Result A Fault
+alone (Ok a) = Ok a
+alone (Err x) = Err (unplaced x)
 
-abbrev pub card_alone : CardRead → CardRead
-card_alone r = record { answer = alone r.answer; name = r.name; text = r.text; commented = r.commented; comment = r.comment }
-
--- of a header
+-- of a header, and of finding a name in it
 abbrev pub stop_alone : Stop → Stop
 stop_alone s = stop_at (unplaced s.fault) s.card
 
-abbrev pub header_alone : Header → Header
-header_alone (Accepted end) = Accepted end
-header_alone (Refused s) = Refused (stop_alone s)
-
--- of finding a name
-abbrev pub found_alone : Found → Found
-found_alone (F.Refused s) = F.Refused (stop_alone s)
-found_alone (F.Read end p) = F.Read end p
+abbrev pub header_alone : {A : Type 0} → Result A Stop → Result A Stop
+header_alone (Ok a) = Ok a
+header_alone (Err s) = Err (stop_alone s)
 
 -- of a lookup, and of an entry by its card
-abbrev pub answer_alone : LookupAnswer → LookupAnswer
-answer_alone (L.Found v) = L.Found v
-answer_alone (L.Header s) = L.Header (stop_alone s)
-answer_alone (L.Refused x) = L.Refused (unplaced x)
+abbrev pub answer_alone : Result Value NoEntry → Result Value NoEntry
+answer_alone (Ok v) = Ok v
+answer_alone (Err (N.Header s)) = Err (N.Header (stop_alone s))
+answer_alone (Err (N.Refused x)) = Err (N.Refused (unplaced x))
 
 abbrev pub looked_alone : Looked → Looked
 looked_alone r =
@@ -78,10 +58,10 @@ abbrev pub value_alone : ValueOutcome → ValueOutcome
 value_alone o =
     value_left (record { answer = answer_alone o.answer.answer; digits = o.answer.digits; text = o.answer.text }) o.text
 
-abbrev pub comment_answer_alone : CommentAnswer → CommentAnswer
-comment_answer_alone (H.Found there) = H.Found there
-comment_answer_alone (H.Header s) = H.Header (stop_alone s)
-comment_answer_alone (H.Refused x) = H.Refused (unplaced x)
+abbrev pub comment_answer_alone : Result Bool NoEntry → Result Bool NoEntry
+comment_answer_alone (Ok there) = Ok there
+comment_answer_alone (Err (N.Header s)) = Err (N.Header (stop_alone s))
+comment_answer_alone (Err (N.Refused x)) = Err (N.Refused (unplaced x))
 
 abbrev pub comment_alone : CommentOutcome → CommentOutcome
 comment_alone o = comment_left (comment_half (comment_answer_alone o.answer.answer) o.answer.comment) o.comment
@@ -91,19 +71,15 @@ abbrev pub list_alone : Listing → Listing
 list_alone x =
     record { header = header_alone x.header; first = x.first; last = x.last; times = x.times; count = x.count }
 
--- of a name
-abbrev pub name_alone : Named → Named
-name_alone (N.Bears n) = N.Bears n
-name_alone (N.Refused x) = N.Refused (unplaced x)
-
+-- of a name, with its bytes
 abbrev pub naming_alone : NameOutcome → NameOutcome
-naming_alone o = naming_by (name_alone o.answer) o.name
+naming_alone o = naming_by (alone o.answer) o.name
 
 -- ---- a card
 
 -- without its column the card is the one that is read without columns
 abbrev pub CardAlone : Type 0
-CardAlone = (c : List ℕ) → card_alone (card_of c) ≡ unplaced_of c
+CardAlone = (c : List ℕ) → alone (card_of c) ≡ unplaced_of c
 
 -- ---- a header
 
@@ -112,7 +88,7 @@ abbrev pub unplaced_roles : List ℕ → List Role
 unplaced_roles h = map (λ (c : List ℕ). role_read (unplaced_of c)) (cards_of h)
 
 -- the header by those roles
-abbrev pub unplaced_header : List ℕ → Header
+abbrev pub unplaced_header : List ℕ → Result ℕ Stop
 unplaced_header h = header_by (length h) (unplaced_roles h)
 
 -- without its column a header's answer is that one
@@ -123,7 +99,7 @@ HeaderAlone = (h : List ℕ) → header_alone (header_of h) ≡ unplaced_header 
 
 -- finding a name
 abbrev pub FindAlone : Type 0
-FindAlone = (h name : List ℕ) → found_alone (find_of h name) ≡ find_by (unplaced_header h) (last_of name (unplaced_roles h))
+FindAlone = (h name : List ℕ) → header_alone (find_of h name) ≡ find_by (unplaced_header h) (last_of name (unplaced_roles h))
 
 -- looking a name up
 abbrev pub LookupAlone : Type 0
@@ -163,9 +139,9 @@ NameAlone =
 -- ---- where the column stands
 
 -- a byte of a card
-pub record OnCard (x : Column) : Type 0 where
+pub record OnCard (x : Option ℕ) : Type 0 where
   pub byte : ℕ
-  pub is : x ≡ At byte
+  pub is : x ≡ Some byte
   pub within : byte < 80
 
 -- the column is the one that the bytes of card c give, so a refusal that is not of a card has none; 1 to 8 always have one
@@ -175,29 +151,24 @@ pub record ColumnAt (c : List ℕ) (x : Fault) : Type 0 where
 
 -- of a card of 80 bytes
 abbrev pub CardColumn : Type 0
-CardColumn = (c : List ℕ) (x : Fault) → length c ≡ 80 → (card_of c).answer ≡ A.Refused x → ColumnAt c x
+CardColumn = (c : List ℕ) (x : Fault) → length c ≡ 80 → card_of c ≡ Err x → ColumnAt c x
 
--- of a header: by the card at which it is refused
-abbrev pub header_column : List ℕ → Header → Type 0
-header_column h (Accepted end) = Unit {0}
-header_column h (Refused s) = ColumnAt (card_no h s.card) s.fault
+-- of a header, and of finding a name in it: by the card at which it is refused
+abbrev pub header_column : {A : Type 0} → List ℕ → Result A Stop → Type 0
+header_column h (Ok a) = Unit {0}
+header_column h (Err s) = ColumnAt (card_no h s.card) s.fault
 
 abbrev pub HeaderColumn : Type 0
 HeaderColumn = (h : List ℕ) → header_column h (header_of h)
 
--- of finding a name
-abbrev pub found_column : List ℕ → Found → Type 0
-found_column h (F.Refused s) = ColumnAt (card_no h s.card) s.fault
-found_column h (F.Read end p) = Unit {0}
-
 abbrev pub FindColumn : Type 0
-FindColumn = (h name : List ℕ) → found_column h (find_of h name)
+FindColumn = (h name : List ℕ) → header_column h (find_of h name)
 
 -- of a lookup and of an entry by its card: 12 and 13 have none
-abbrev pub answer_column : List ℕ → LookupAnswer → Type 0
-answer_column h (L.Found v) = Unit {0}
-answer_column h (L.Header s) = ColumnAt (card_no h s.card) s.fault
-answer_column h (L.Refused x) = x.column ≡ Absent
+abbrev pub answer_column : List ℕ → Result Value NoEntry → Type 0
+answer_column h (Ok v) = Unit {0}
+answer_column h (Err (N.Header s)) = ColumnAt (card_no h s.card) s.fault
+answer_column h (Err (N.Refused x)) = x.column ≡ None
 
 abbrev pub LookupColumn : Type 0
 LookupColumn = (h name text comment : List ℕ) → answer_column h (lookup_of h name text comment).answer.answer
@@ -218,9 +189,9 @@ abbrev pub NumberedColumn : Type 0
 NumberedColumn = (h : List ℕ) (i : ℕ) → sought_column h (numbered h i)
 
 -- of the name at card i
-abbrev pub name_column : List ℕ → Named → Type 0
-name_column c (N.Bears n) = Unit {0}
-name_column c (N.Refused x) = ColumnAt c x
+abbrev pub name_column : List ℕ → Result ℕ Fault → Type 0
+name_column c (Ok n) = Unit {0}
+name_column c (Err x) = ColumnAt c x
 
 abbrev pub NameColumn : Type 0
 NameColumn = (h : List ℕ) (i : ℕ) (name : List ℕ) → name_column (card_no h i) (name_at h i name).answer

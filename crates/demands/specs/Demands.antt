@@ -9,10 +9,9 @@
 --    stands beside the answer and changes nothing of it.
 -- 3. Isolation, stated here over `lookupOf`, and in `Halves` of each half: no card of K touches what another name is answered, nor the
 --    names of the list and their order, nor, as `Times` says, how many cards bear another name.
-use Rattle.std.specs.Prelude.{ℕ, ◌≤◌, ◌≡◌, Bool, false, List, [], length, get_or}
+use Rattle.std.specs.Prelude.{ℕ, ◌≤◌, ◌≡◌, Bool, false, List, [], length, get_or, Ok}
 use Rattle.joining.specs.Belonging.{belongs}
 use Rattle.roles.specs.Cards.{cards_of, roles_of}
-use Rattle.finding.specs.declared.Header.TheVariants.{Accepted}
 use Rattle.finding.specs.Finding.{header_of}
 use Rattle.entries.specs.Answers.{lookup_of}
 use Rattle.listing.specs.Listing.{list_of, place_of_entry}
@@ -21,7 +20,7 @@ use Rattle.agreeing.specs.Agreeing.{StandsAt, names_listed}
 -- the header h is accepted: its END stands at some card
 pub record IsAccepted (h : List ℕ) : Type 0 where
   pub end : ℕ
-  pub accepted : header_of h ≡ Accepted end
+  pub accepted : header_of h ≡ Ok end
 
 -- the card at place p bears K's entry, or is a CONTINUE card joined to such an entry
 abbrev pub is_of : List ℕ → List ℕ → ℕ → Bool

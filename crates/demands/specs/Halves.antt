@@ -1,11 +1,10 @@
 -- Demands 2 and 3 for the two halves of a lookup: the value with its text, and the comment, each with its own lent buffer.
-use Rattle.std.specs.Prelude.{ℕ, ◌≡◌, Bool, true, false, ◌||◌, List, [], eqb, ltb, length, get_or}
+use Rattle.std.specs.Prelude.{ℕ, ◌≡◌, Bool, true, false, ◌||◌, List, [], eqb, ltb, length, get_or, Result, Err, Ok}
 use Rattle.refusal.specs.Numbers.{number_of}
 use Rattle.roles.specs.Cards.{cards_of}
-use Rattle.entries.specs.declared.LookupAnswer.{LookupAnswer}
-use Rattle.entries.specs.declared.LookupAnswer.TheVariants as L
-use Rattle.entries.specs.declared.CommentAnswer.{CommentAnswer}
-use Rattle.entries.specs.declared.CommentAnswer.TheVariants as C
+use Rattle.numbers.specs.declared.Value.{Value}
+use Rattle.entries.specs.declared.NoEntry.{NoEntry}
+use Rattle.entries.specs.declared.NoEntry.TheVariants as N
 use Rattle.entries.specs.Answers.{LookupOutcome, left_by, lookup_of, entry_of}
 use Rattle.entries.specs.Halves.{ValueOutcome, CommentOutcome, value_named, value_numbered, comment_named, comment_numbered}
 use Rattle.listing.specs.Listing.{list_of, place_of_value, place_of_comment}
@@ -15,21 +14,21 @@ use Rattle.demands.specs.Demands.{IsAccepted, is_of, EqualBut}
 -- ---- demand 2: the pair of halves is the old answer
 
 -- the answer is 13
-abbrev pub is_short : LookupAnswer → Bool
-is_short (L.Found v) = false
-is_short (L.Header s) = false
-is_short (L.Refused f) = eqb (number_of f.why) 13
+abbrev pub is_short : Result Value NoEntry → Bool
+is_short (Ok v) = false
+is_short (Err (N.Header s)) = false
+is_short (Err (N.Refused f)) = eqb (number_of f.why) 13
 
-abbrev pub is_comment_short : CommentAnswer → Bool
-is_comment_short (C.Found there) = false
-is_comment_short (C.Header s) = false
-is_comment_short (C.Refused f) = eqb (number_of f.why) 13
+abbrev pub is_comment_short : Result Bool NoEntry → Bool
+is_comment_short (Ok there) = false
+is_comment_short (Err (N.Header s)) = false
+is_comment_short (Err (N.Refused f)) = eqb (number_of f.why) 13
 
 -- there is a comment
-abbrev pub says_there : CommentAnswer → Bool
-says_there (C.Found there) = there
-says_there (C.Header s) = false
-says_there (C.Refused f) = false
+abbrev pub says_there : Result Bool NoEntry → Bool
+says_there (Ok there) = there
+says_there (Err (N.Header s)) = false
+says_there (Err (N.Refused f)) = false
 
 -- the two halves read as one answer, with both buffers
 abbrev pub pair_of : ValueOutcome → CommentOutcome → LookupOutcome

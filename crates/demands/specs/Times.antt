@@ -1,8 +1,7 @@
 -- Demand 3 for the number of cards that bear a name. The lookup leaves the number out; it stands here beside it. K's own may differ, as its
 -- cards may: an entry and a CONTINUE card in one header, two entries in the other.
-use Rattle.std.specs.Prelude.{ℕ, zero, suc, ◌≡◌, refl, true, List, [], ◌∷◌, get_or}
+use Rattle.std.specs.Prelude.{ℕ, zero, suc, ◌≡◌, refl, true, List, [], ◌∷◌, get_or, None}
 use Prim.Native.String.{String}
-use Rattle.std.proofs.Math.Option.{none}
 use Rattle.text.specs.Bytes.{ascii, is_space}
 use Rattle.text.specs.Same.{same}
 use Rattle.text.specs.Ends.{stem, ends_with}
@@ -42,11 +41,11 @@ key = ascii "K"
 
 abbrev pub key_entry : String → Role
 key_entry t =
-    entry key (record { value = Str; digits = []; words = record { text = ascii t; comment = none; joins = true } })
+    entry key (record { value = Str; digits = []; words = record { text = ascii t; comment = None; joins = true } })
 
 -- K = 'a&', then CONTINUE 'b' or K = 'b', then END
 abbrev pub key_once : List Role
-key_once = key_entry "a&" ∷ more (ascii "b") none ∷ last ∷ []
+key_once = key_entry "a&" ∷ more (ascii "b") None ∷ last ∷ []
 
 abbrev pub key_twice : List Role
 key_twice = key_entry "a&" ∷ key_entry "b" ∷ last ∷ []

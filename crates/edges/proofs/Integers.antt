@@ -1,20 +1,20 @@
 -- The largest and the least integer as they are written: their digits are told in 20 turns, and the rest computes.
+use Rattle.std.specs.Prelude.{None}
 use Prim.Native.Nat.{ℕ}
 use native.Mathlib.Omega.{arith}
 use mathlib.Core.Path.{ap}
 use mathlib.Core.Bool.{Bool, true, cond, ◌&&◌}
 use mathlib.Core.List.{List, [], ◌∷◌, ◌++◌}
-use mathlib.Core.Option.{none}
 use lib.IntN.{pos, negsuc}
 use Rattle.refusal.specs.declared.Refusal.TheVariants as R
-use Rattle.text.specs.Bytes.{ascii, is_digit}
+use Rattle.text.specs.Bytes.{ascii, is_digit, every}
 use Rattle.text.specs.Same.{same}
 use Rattle.text.specs.Text.{filled}
 use Rattle.numerals.specs.Numerals.{digits_before, minus_of}
 use Rattle.numerals.proofs.Decimals.{digits-told}
 use Rattle.card.specs.Keywords.{class_of}
 use Rattle.writing.specs.Written.{name_front, justified, plain_cards}
-use Rattle.writing.specs.Rules.{every, is_name_byte, is_name, is_long, fits_card, is_writable}
+use Rattle.writing.specs.Rules.{is_name_byte, is_name, is_long, fits_card, is_writable}
 use Rattle.writing.specs.Block.{flat, WriteOutcome, not_written, put_cards, write_of}
 use Rattle.edges.specs.Writing.{Left, left_of, lent, Largest, Least}
 
@@ -22,7 +22,7 @@ use Rattle.edges.specs.Writing.{Left, left_of, lent, Largest, Least}
 abbrev outcome : Bool → List ℕ → WriteOutcome
 outcome long t =
     cond (is_name (ascii "N"))
-    (cond (true && (long && fits_card t none)) (put_cards (plain_cards (ascii "N") t none) (lent 83))
+    (cond (true && (long && fits_card t None)) (put_cards (plain_cards (ascii "N") t None) (lent 83))
     (not_written R.UnwritableValue (lent 83)))
     (not_written R.UnwritableName (lent 83))
 

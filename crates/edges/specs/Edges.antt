@@ -3,11 +3,9 @@
 -- number, rows of each refusal of a card with its column (SPECIFICATION 2.4), rows of both halves of a lookup (SPECIFICATION 10), and rows
 -- of a comment's unit by both readings (SPECIFICATION 8).
 use Rattle.std.specs.Prelude.{ℕ, ◌≡◌, refl, Bool, true, false, List, [], ◌∷◌, ◌++◌, map, ℤ, pos, replicate, take}
+use Rattle.std.specs.Prelude.{Option, None, Some, Result, Ok, Err}
 use Prim.Native.Char.{code}
 use Prim.Native.String.{String}
-use Rattle.std.proofs.Math.Option.{Option, none, some}
-use Rattle.refusal.specs.declared.Column.{Column}
-use Rattle.refusal.specs.declared.Column.TheVariants.{At, Absent}
 use Rattle.refusal.specs.declared.Fault.{Fault}
 use Rattle.refusal.specs.Numbers.{number_of}
 use Rattle.text.specs.Bytes.{ascii, tab, line_feed, delete, is_space, is_blank, is_printable, is_digit, is_zero, shown, d_to_e}
@@ -30,14 +28,10 @@ use Rattle.numbers.specs.Integers.{integer_of}
 use Rattle.numbers.specs.Decimals.{fraction_of, after_fraction, is_mark, written_of, exponent_of}
 use Rattle.numbers.specs.Decimals.{scaled, finite_of, lowered, is_word, decimal_of}
 use Rattle.numbers.specs.Numbers.{read_number}
-use Rattle.value.specs.declared.UnitPlace.{UnitPlace}
-use Rattle.value.specs.declared.UnitPlace.TheVariants.{Between, Nowhere}
 use Rattle.value.specs.Values.{starts_number, start_of, of_string, of_number, value_with, value_of}
 use Rattle.value.specs.Units.{unit_of, unit_past_space, unit_bytes}
 use Rattle.card.specs.declared.Card.{Card}
 use Rattle.card.specs.declared.Card.TheVariants as C
-use Rattle.card.specs.declared.CardAnswer.{CardAnswer}
-use Rattle.card.specs.declared.CardAnswer.TheVariants.{Read, Refused}
 use Rattle.card.specs.declared.CardRead.{CardRead}
 use Rattle.card.specs.Keywords.{has_high, class_of, name_pieces, join_pieces}
 use Rattle.card.specs.Columns.{high_from}
@@ -46,15 +40,12 @@ use Rattle.joining.specs.Words.{ends_open, adds_nothing, join_text, join_comment
 use Rattle.joining.specs.Lookup.{join_on, lookup}
 use Rattle.roles.specs.Cards.{cards_in, is_bad_length}
 use Rattle.finding.specs.Finding.{header_from, header_of}
-use Rattle.entries.specs.declared.LookupAnswer.{LookupAnswer}
-use Rattle.entries.specs.declared.LookupAnswer.TheVariants as L
-use Rattle.entries.specs.declared.CommentAnswer.{CommentAnswer}
-use Rattle.entries.specs.declared.CommentAnswer.TheVariants as N
+use Rattle.entries.specs.declared.NoEntry.{NoEntry}
+use Rattle.entries.specs.declared.NoEntry.TheVariants as N
 use Rattle.entries.specs.Answers.{met_on}
 use Rattle.entries.specs.Halves.{named, numbered, ValueOutcome, value_in, value_named, value_numbered}
 use Rattle.entries.specs.Halves.{CommentOutcome, comment_in, comment_named}
-use Rattle.rice.specs.declared.Decoded.{Decoded}
-use Rattle.rice.specs.declared.Decoded.TheVariants as D
+use Rattle.rice.specs.declared.Broken.{Broken}
 use Rattle.rice.specs.Tile.{bit_at, field_at, zeros_at}
 use Rattle.rice.specs.Widths.{pixel_of, in_width, modulo, wrap, difference}
 use Rattle.rice.specs.Reads.{field_read, run_read, diff_read}
@@ -107,18 +98,18 @@ pub data Reading : Type 0 where
   decimal : Bool → List ℕ → ℤ → Reading
   refusal : ℕ → Reading
   refused_at : ℕ → ℕ → Reading
-  refused_in : ℕ → ℕ → Column → Reading
+  refused_in : ℕ → ℕ → Option ℕ → Reading
   halves : Reading → ℕ → Reading → ℕ → Reading
-  unit_at : UnitPlace → Option (List ℕ) → Reading
+  unit_at : Option (ℕ × ℕ) → Option (List ℕ) → Reading
   both_units : Reading → Reading → Reading
   pixels : List ℤ → ℕ → Reading
   stopped : ℕ → ℕ → List ℤ → Reading
   other : Reading
 
 -- a refusal's, by its column
-abbrev pub by_column : Column → ℕ → Reading
-by_column (At byte) number = refused_at number byte
-by_column Absent number = refusal number
+abbrev pub by_column : Option ℕ → ℕ → Reading
+by_column (Some byte) number = refused_at number byte
+by_column None number = refusal number
 
 abbrev pub by_fault : Fault → Reading
 by_fault fault = by_column fault.column (number_of fault.why)
@@ -150,18 +141,15 @@ by_card C.Space text = other
 by_card C.End text = other
 by_card C.Undefined text = other
 
-abbrev pub by_card_answer : CardAnswer → List ℕ → Reading
-by_card_answer (Read c) text = by_card c text
-by_card_answer (Refused fault) text = by_fault fault
-
-abbrev pub of_card : CardRead → Reading
-of_card r = by_card_answer r.answer (bytes_of r.text)
+abbrev pub of_card : Result CardRead Fault → Reading
+of_card (Ok r) = by_card r.card (bytes_of r.text)
+of_card (Err fault) = by_fault fault
 
 -- the value's half of a lookup or of an entry, with its text in the lent buffer
-abbrev pub by_lookup : LookupAnswer → List ℕ → Reading
-by_lookup (L.Found v) text = by_value v text
-by_lookup (L.Header stop) text = refused_in (number_of stop.fault.why) stop.card stop.fault.column
-by_lookup (L.Refused fault) text = by_fault fault
+abbrev pub by_lookup : Result Value NoEntry → List ℕ → Reading
+by_lookup (Ok v) text = by_value v text
+by_lookup (Err (N.Header stop)) text = refused_in (number_of stop.fault.why) stop.card stop.fault.column
+by_lookup (Err (N.Refused fault)) text = by_fault fault
 
 abbrev pub of_value : ValueOutcome → Reading
 of_value o = by_lookup o.answer.answer (take o.answer.text o.text)
@@ -171,10 +159,10 @@ abbrev pub by_there : Bool → List ℕ → Reading
 by_there true comment = string comment
 by_there false comment = other
 
-abbrev pub by_comment_answer : CommentAnswer → List ℕ → Reading
-by_comment_answer (N.Found there) comment = by_there there comment
-by_comment_answer (N.Header stop) comment = refused_in (number_of stop.fault.why) stop.card stop.fault.column
-by_comment_answer (N.Refused fault) comment = by_fault fault
+abbrev pub by_comment_answer : Result Bool NoEntry → List ℕ → Reading
+by_comment_answer (Ok there) comment = by_there there comment
+by_comment_answer (Err (N.Header stop)) comment = refused_in (number_of stop.fault.why) stop.card stop.fault.column
+by_comment_answer (Err (N.Refused fault)) comment = by_fault fault
 
 abbrev pub of_halves : ValueOutcome → CommentOutcome → Reading
 of_halves v c =
@@ -182,7 +170,7 @@ of_halves v c =
     c.answer.comment
 
 -- a comment's unit, first as fitsrs reads it, then past a space
-abbrev pub of_place : UnitPlace → List ℕ → Reading
+abbrev pub of_place : Option (ℕ × ℕ) → List ℕ → Reading
 of_place p c = unit_at p (unit_bytes p c)
 
 abbrev pub of_units : List ℕ → Reading
@@ -192,13 +180,13 @@ abbrev pub of_kit : CommentOutcome → Reading
 of_kit o = of_units (take o.answer.comment o.comment)
 
 -- a tile's, with its pixels in the lent slice; its refusals have no column
-abbrev pub by_tile_column : Column → ℕ → ℕ → List ℤ → Reading
-by_tile_column (At byte) number n content = other
-by_tile_column Absent number n content = stopped number n content
+abbrev pub by_tile_column : Option ℕ → ℕ → ℕ → List ℤ → Reading
+by_tile_column (Some byte) number n content = other
+by_tile_column None number n content = stopped number n content
 
-abbrev pub by_decoded : Decoded → List ℤ → Reading
-by_decoded (D.Whole bits) content = pixels content bits
-by_decoded (D.Refused fault n) content = by_tile_column fault.column (number_of fault.why) n content
+abbrev pub by_decoded : Result ℕ Broken → List ℤ → Reading
+by_decoded (Ok bits) content = pixels content bits
+by_decoded (Err b) content = by_tile_column b.fault.column (number_of b.fault.why) b.written content
 
 abbrev pub of_decoding : DecodeOutcome → Reading
 of_decoding f = by_decoded f.answer f.content
@@ -238,9 +226,9 @@ table =
     ∷ row (header ("KIT     = 'FKM-&'" ∷ "COMMENT in between" ∷ "CONTINUE  '75'" ∷ "END" ∷ [])) (string (ascii "FKM-75"))
     ∷ row (header ("KIT     = 'FKM &'" ∷ "CONTINUE  ''" ∷ "END" ∷ [])) (string (ascii "FKM"))
     ∷ row (header ("KIT     = 'FKM-&'" ∷ "SIZE    = 5" ∷ "CONTINUE  '75'" ∷ "END" ∷ [])) (string (ascii "FKM-&"))
-    ∷ row (entry_no 0 ("KIT     = 'a&'" ∷ "WCS     = (1" ∷ "CONTINUE  'b'" ∷ "END" ∷ [])) (refused_in 5 1 (At 10))
-    ∷ row (entry_no 1 ("KIT     = 'a&'" ∷ "WCS     = (1" ∷ "CONTINUE  'b'" ∷ "END" ∷ [])) (refused_in 5 1 (At 10))
-    ∷ row (entry_no 0 ("KIT     = 'FKM-&'" ∷ "CONTINUE  '75-&" ∷ "CONTINUE  'A2'" ∷ "END" ∷ [])) (refused_in 3 1 (At 10))
+    ∷ row (entry_no 0 ("KIT     = 'a&'" ∷ "WCS     = (1" ∷ "CONTINUE  'b'" ∷ "END" ∷ [])) (refused_in 5 1 (Some 10))
+    ∷ row (entry_no 1 ("KIT     = 'a&'" ∷ "WCS     = (1" ∷ "CONTINUE  'b'" ∷ "END" ∷ [])) (refused_in 5 1 (Some 10))
+    ∷ row (entry_no 0 ("KIT     = 'FKM-&'" ∷ "CONTINUE  '75-&" ∷ "CONTINUE  'A2'" ∷ "END" ∷ [])) (refused_in 3 1 (Some 10))
     ∷ row (entry_no 0 ("KIT     = 'FKM-&'" ∷ "CONTINUE  '75'" ∷ "WCS     = (1" ∷ "END" ∷ [])) (string (ascii "FKM-75"))
     ∷ row (entry_no 2 ("KIT     = 'a'" ∷ "END" ∷ "KIT     = 'b'" ∷ [])) (string (ascii "b"))
     ∷ row (entry_no 1 ("KIT     = 'a'" ∷ "END" ∷ [])) (refusal 12)
@@ -311,14 +299,14 @@ column_table =
     ∷ row (with_bytes "A       = (" (vertical_tab ∷ []) "") (refused_at 2 11)
     ∷ row (with_bytes "XTENSION= a" (vertical_tab ∷ []) "") (refused_at 2 11)
     -- a refused header and a refused entry: the card, and its column
-    ∷ row (header ("KIT     = 5" ∷ "WCS     =  (1" ∷ "END" ∷ [])) (refused_in 5 1 (At 11))
-    ∷ row (header ("HIERARCH KIT 5" ∷ "END" ∷ [])) (refused_in 6 0 (At 9))
-    ∷ row (entry_no 0 ("KIT     = 'FKM-&'" ∷ "COMMENT in between" ∷ "CONTINUE'75-&" ∷ "END" ∷ [])) (refused_in 3 2 (At 8))
-    ∷ row (entry_no 1 ("KIT     = 5" ∷ "XTENSION=" ∷ "END" ∷ [])) (refused_in 8 1 (At 10))
+    ∷ row (header ("KIT     = 5" ∷ "WCS     =  (1" ∷ "END" ∷ [])) (refused_in 5 1 (Some 11))
+    ∷ row (header ("HIERARCH KIT 5" ∷ "END" ∷ [])) (refused_in 6 0 (Some 9))
+    ∷ row (entry_no 0 ("KIT     = 'FKM-&'" ∷ "COMMENT in between" ∷ "CONTINUE'75-&" ∷ "END" ∷ [])) (refused_in 3 2 (Some 8))
+    ∷ row (entry_no 1 ("KIT     = 5" ∷ "XTENSION=" ∷ "END" ∷ [])) (refused_in 8 1 (Some 10))
     -- 9 and 10 have a card and no column, 12 and 13 have neither
-    ∷ row (header []) (refused_in 9 0 Absent)
-    ∷ row (entry_no 0 []) (refused_in 9 0 Absent)
-    ∷ row (header ("KIT     = 5" ∷ [])) (refused_in 10 1 Absent)
+    ∷ row (header []) (refused_in 9 0 None)
+    ∷ row (entry_no 0 []) (refused_in 9 0 None)
+    ∷ row (header ("KIT     = 5" ∷ [])) (refused_in 10 1 None)
     ∷ row (header ("END" ∷ [])) (refusal 12)
     ∷ row
     (header
@@ -343,16 +331,16 @@ half_table =
     -- 12, and the header's refusals
     ∷ row (both_halves 0 0 ("END" ∷ [])) (halves (refusal 12) 0 (refusal 12) 0)
     ∷ row (both_halves 80 80 ("KIT     = 'a' /b" ∷ "WCS     =  (1" ∷ "END" ∷ []))
-    (halves (refused_in 5 1 (At 11)) 0 (refused_in 5 1 (At 11)) 0)
-    ∷ row (both_halves 80 80 []) (halves (refused_in 9 0 Absent) 0 (refused_in 9 0 Absent) 0)
+    (halves (refused_in 5 1 (Some 11)) 0 (refused_in 5 1 (Some 11)) 0)
+    ∷ row (both_halves 80 80 []) (halves (refused_in 9 0 None) 0 (refused_in 9 0 None) 0)
     ∷ []
 
 -- a unit from one byte up to another, and none
 abbrev pub unit_found : ℕ → ℕ → List ℕ → Reading
-unit_found from to bytes = unit_at (Between from to) (some bytes)
+unit_found from to bytes = unit_at (Some (from, to)) (Some bytes)
 
 abbrev pub no_unit : Reading
-no_unit = unit_at Nowhere none
+no_unit = unit_at None None
 
 -- the unit of a comment by both readings
 abbrev pub unit_table : List Row

@@ -1,14 +1,12 @@
 -- Open words, and the cards that are joined to them, one by one. Text and comment are joined in two loops that stand alike to these words.
+use Rattle.std.specs.Prelude.{Option, None, Some}
 use Prim.Native.Nat.{ℕ, zero, suc, ◌+◌, ◌/◌, ◌<◌, ◌≤◌}
 use native.Mathlib.Numerals.{add-one}
 use native.Mathlib.Omega.{arith}
 use mathlib.Core.Path.{◌≡◌, refl, sym, ap, ◌∙◌}
 use mathlib.Core.Bool.{Bool, true, false, cond, true≢false}
 use mathlib.Core.List.{List, [], ◌∷◌}
-use mathlib.Core.Option.{Option, none, some}
 use lib.ListN.{length, take, drop}
-use types.Run.{OneOf, miss}
-use denote.Enum.Declared.{tag_of}
 use Rattle.laws.proofs.Truths.{and_both, and_false}
 use Rattle.text.specs.Ends.{ends_with}
 use Rattle.roles.specs.Roles.{Words, Role, entry, more, neutral, last, refused}
@@ -22,7 +20,6 @@ use Rattle.entries.specs.declared.Reach.{Reach}
 use Rattle.entries.specs.declared.Reach.TheVariants.{On, Ended, Met}
 use Rattle.entries.specs.Answers.{met_on}
 use Rattle.entries.specs.Passes.{words_at, joined_words, met_at, text_by, comment_by, reach_by, stop_in, IsOpenAt}
-use Rattle.entries.specs.contracts.Reach as reaching
 
 -- ---- open texts and words
 -- a text that is open is not empty
@@ -49,7 +46,7 @@ text_shut w e = and_false w.joins (ends_open w.text) e
 
 -- ---- what joining comes to
 -- nothing is met where nothing is joined
-pub met_shut : (w : Words) → opens w ≡ false → (h : List Role) (j : ℕ) → met_on w h j ≡ none
+pub met_shut : (w : Words) → opens w ≡ false → (h : List Role) (j : ℕ) → met_on w h j ≡ None
 unfolding met_on
 met_shut w e [] j = refl
 met_shut w e (entry n v ∷ h) j = refl
@@ -64,8 +61,8 @@ pub data Joint : Type 0 where
   met : Stop → Joint
 
 abbrev pub joint_by : Option Stop → Words → Joint
-joint_by none w = whole w
-joint_by (some s) w = met s
+joint_by None w = whole w
+joint_by (Some s) w = met s
 
 abbrev joint : Words → List Role → ℕ → Joint
 joint w h j = joint_by (met_on w h j) (join_on w h)
@@ -80,15 +77,15 @@ joint_shut : (w : Words) → opens w ≡ false → (h : List Role) (j : ℕ) →
 joint_shut w e h j = ap (λ (m : Option Stop). joint_by m (join_on w h)) (met_shut w e h j) ∙ ap whole (join_on_shut w e h)
 
 -- the words and the refused card, by what joining comes to
-joint_whole : (m : Option Stop) (w v : Words) → whole w ≡ joint_by m v → (m ≡ none) × (w ≡ v)
-joint_whole none w v e = (refl, cc)
-joint_whole (some s) w v e = (cc, cc)
+joint_whole : (m : Option Stop) (w v : Words) → whole w ≡ joint_by m v → (m ≡ None) × (w ≡ v)
+joint_whole None w v e = (refl, cc)
+joint_whole (Some s) w v e = (cc, cc)
 
-joint_met : (m : Option Stop) (s : Stop) (v : Words) → met s ≡ joint_by m v → m ≡ some s
-joint_met none s v e = cc
-joint_met (some t) s v e = let same : s ≡ t = cc in ap (λ (u : Stop). some u) (sym same)
+joint_met : (m : Option Stop) (s : Stop) (v : Words) → met s ≡ joint_by m v → m ≡ Some s
+joint_met None s v e = cc
+joint_met (Some t) s v e = let same : s ≡ t = cc in ap (λ (u : Stop). Some u) (sym same)
 
-unmet : (s : Stop) → some s ≡ none → ⊥
+unmet : (s : Stop) → Some s ≡ None → ⊥
 unmet s e = let z : ◌≡◌ {A = ℕ} 0 1 = cc in omega arith
 
 -- ---- one card behind open words
@@ -136,7 +133,7 @@ pub record Going (h : List ℕ) (i : ℕ) (w : Words) (reach : Reach) (j : ℕ) 
 -- where it ends: the words are those of card i with all that is joined to it, or a refused card was met
 pub record Ends (h : List ℕ) (i : ℕ) (w : Words) (reach : Reach) : Type 0 where
   pub met : stop_in reach ≡ met_at h i
-  pub words : met_at h i ≡ none → w ≡ joined_words h i
+  pub words : met_at h i ≡ None → w ≡ joined_words h i
 
 -- it begins behind card i
 pub begin : {h : List ℕ} {i : ℕ} → IsOpenAt h i → Going h i (words_at h i) On (i + 1)
@@ -176,7 +173,7 @@ module _ {h : List ℕ} {i : ℕ} {w : Words} {reach : Reach} {j : ℕ} (G : Goi
       }
 
   -- all is joined, or a refused card was met
-  whole_ends : whole w ≡ joint_by (met_at h i) (joined_words h i) → stop_in reach ≡ none → Ends h i w reach
+  whole_ends : whole w ≡ joint_by (met_at h i) (joined_words h i) → stop_in reach ≡ None → Ends h i w reach
   whole_ends e d =
       let is = joint_whole (met_at h i) w (joined_words h i) e in
       record { met = d ∙ sym is.0; words = λ _. is.1 }
@@ -184,16 +181,7 @@ module _ {h : List ℕ} {i : ℕ} {w : Words} {reach : Reach} {j : ℕ} (G : Goi
   met_ends : (s : Stop) → reach ≡ Met s → Ends h i w reach
   met_ends s e =
       let is = joint_met (met_at h i) s (joined_words h i) (by_reach (Met s) e) in
-      record { met = ap stop_in e ∙ sym is; words = λ (d : met_at h i ≡ none). absurd (unmet s (sym is ∙ d)) }
-
-  -- no more may be joined
-  pub at_stop : OneOf (1 ∷ 2 ∷ []) (tag_of reaching.the_type reach) → Ends h i w reach
-  at_stop = go reach refl
-    where
-      go : (r : Reach) → reach ≡ r → OneOf (1 ∷ 2 ∷ []) (tag_of reaching.the_type r) → Ends h i w reach
-      go On e o = absurd (miss (1 ∷ 2 ∷ []) 0 tt o)
-      go Ended e o = whole_ends (by_reach Ended e) (ap stop_in e)
-      go (Met s) e o = met_ends s e
+      record { met = ap stop_in e ∙ sym is; words = λ (d : met_at h i ≡ None). absurd (unmet s (sym is ∙ d)) }
 
   -- no more cards are there
   pub at_end : length h / 80 ≤ j → Ends h i w reach

@@ -1,5 +1,4 @@
 -- What is proved of entries and of looking names up.
-pub mod Telling
 pub mod Looking
 pub mod Joining
 pub mod Numbered

@@ -1,5 +1,5 @@
 -- Texts joined in scratch.
-use Prim.Native.Nat.{ℕ, zero, suc, ◌+◌, ◌-◌, ◌*◌, ◌/◌, ◌<◌, ◌≤◌}
+use Prim.Native.Nat.{ℕ, ◌+◌, ◌-◌, ◌*◌, ◌/◌, ◌<◌, ◌≤◌}
 use native.Mathlib.Nat.{zero-add}
 use native.Mathlib.Omega.{arith}
 use mathlib.Core.Path.{◌≡◌, refl, sym, ap, ◌∙◌}
@@ -7,8 +7,6 @@ use mathlib.Core.Bool.{Bool, true, false, cond}
 use mathlib.Core.List.{List, [], ◌∷◌, ◌++◌}
 use lib.ListN.{length, take, length-take}
 use lib.Seq.{sets, take-take, length-take-le}
-use types.Run.{OneOf, miss}
-use denote.Enum.Declared.{tag_of}
 use Rattle.refusal.specs.declared.Fault.{Fault}
 use Rattle.text.specs.Bytes.{is_space}
 use Rattle.text.specs.Trim.{trim_end, cons_trimmed}
@@ -20,23 +18,21 @@ use Rattle.numbers.specs.declared.Value.{Value}
 use Rattle.numbers.specs.declared.Value.TheVariants.{String}
 use Rattle.card.specs.declared.CardRead.{CardRead}
 use Rattle.roles.specs.declared.Role.{Role as Told}
-use Rattle.roles.specs.declared.Role.TheVariants.{Entry, More, Neutral, Last, Refused}
+use Rattle.roles.specs.declared.Role.TheVariants.{Entry, More, Neutral, Last}
 use Rattle.roles.specs.Roles.{Words, neutral, refused, has_text, has_digits, held_of, role_in}
 use Rattle.roles.specs.Cards.{role_no}
-use Rattle.roles.specs.contracts.Role as role
 use Rattle.joining.specs.Words.{ends_open, adds_nothing, join_text}
 use Rattle.finding.specs.declared.Stop.{Stop}
 use Rattle.finding.specs.Finding.{stop_at}
-use Rattle.entries.specs.declared.Spot.{Spot}
-use Rattle.entries.specs.declared.Spot.TheVariants.{Stops}
+use Rattle.entries.specs.declared.NoEntry.TheVariants as E
+use Rattle.refusal.specs.declared.Refusal.TheVariants as R
+use Rattle.refusal.specs.Numbers.{fault_of}
 use Rattle.entries.specs.declared.Reach.{Reach}
 use Rattle.entries.specs.declared.Reach.TheVariants.{On, Ended, Met}
 use Rattle.entries.specs.declared.TextHeld.{TextHeld}
-use Rattle.entries.specs.Halves.{Sought, holds, value_left, value_laid, value_in}
-use Rattle.entries.specs.Passes.{sought_at, value_refused, words_at, string_at, text_by, reach_by}
+use Rattle.entries.specs.Halves.{Sought, stops, missing, holds, no_value, value_left, value_laid, value_in}
+use Rattle.entries.specs.Passes.{words_at, string_at, text_by, reach_by}
 use Rattle.entries.specs.Passes.{IsOpenAt, IsWide, NextText, JoinedTexts}
-use Rattle.entries.specs.contracts.Reach as reaching
-use Rattle.entries.proofs.Telling.{Vacant, missed, stopped}
 use Rattle.entries.proofs.Numbered.{string_unmet, string-whole, string-met}
 use Rattle.entries.proofs.Joining.{open_some, words_by, Going, Ends, begin, text_open, on_card}
 
@@ -81,13 +77,11 @@ module _ (j n : ℕ) (texts : List ℕ) where
   pub refusing : (f : Fault) → NextText (refused f) j n (text_held n (Met (stop_at f j))) texts texts
   refusing f = record { text = refl; reach = refl; short = omega arith }
 
-  pub ended : (t : Told) → OneOf (0 ∷ 3 ∷ []) (tag_of role.the_type t) → (s : CardRead)
-      → NextText (role_in t s) j n (text_held n Ended) texts texts
-  ended (Entry v joins) e s = record { text = refl; reach = refl; short = omega arith }
-  ended More e s = absurd (miss (0 ∷ 3 ∷ []) 1 tt e)
-  ended Neutral e s = absurd (miss (0 ∷ 3 ∷ []) 2 tt e)
-  ended Last e s = record { text = refl; reach = refl; short = omega arith }
-  ended (Refused f) e s = absurd (miss (0 ∷ 3 ∷ []) 4 tt e)
+  pub ended : (t : Told) → (t ≡ More → ⊥) → (t ≡ Neutral → ⊥) → (s : CardRead) → NextText (role_in t s) j n (text_held n Ended) texts texts
+  ended (Entry v joins) m e s = record { text = refl; reach = refl; short = omega arith }
+  ended More m e s = absurd (m refl)
+  ended Neutral m e s = absurd (e refl)
+  ended Last m e s = record { text = refl; reach = refl; short = omega arith }
 
 -- ---- the text's loop: the text of the words stands in scratch
 pub record TextGoing (h : List ℕ) (i : ℕ) (held : TextHeld) (texts : List ℕ) (j : ℕ) : Type 0 where
@@ -141,36 +135,29 @@ module _ {h : List ℕ} {i : ℕ} {held : TextHeld} {texts : List ℕ} {j : ℕ}
 
 -- ---- the answers
 -- nothing is read where there is no entry
-pub refused-value : {x : Spot} → Vacant x → (h text : List ℕ) → value_left (value_refused x) text ≡ value_in (sought_at x h) text
+pub stopped-value : (s : Stop) (text : List ℕ) → value_left (no_value (E.Header s) 0) text ≡ value_in (stops s) text
 unfolding value_in
-refused-value missed h text = refl
-refused-value (stopped s) h text = refl
+stopped-value s text = refl
+
+pub missing-value : (text : List ℕ) → value_left (no_value (E.Refused (fault_of R.NameNotFound)) 0) text ≡ value_in missing text
+unfolding value_in
+missing-value text = refl
 
 -- the text of an open string, and the refused card that is met
 module _ {h : List ℕ} {i : ℕ} {r : TextHeld} {texts : List ℕ} (J : JoinedTexts h i r texts) (text : List ℕ) where
-  pub string-laid : OneOf (0 ∷ 1 ∷ []) (tag_of reaching.the_type r.reach)
+  pub string-laid : ((s : Stop) → r.reach ≡ Met s → ⊥)
       → value_laid String [] (take r.length texts) text ≡ value_in (string_at h i) text
   unfolding value_in
   string-laid o =
       ap (λ (s : List ℕ). value_laid String [] s text) (J.text (string_unmet h i r.reach J.met o))
       ∙ ap (λ (x : Sought). value_in x text) (sym (string-whole h i r.reach J.met o))
 
-  pub string_refused_lem : (s : Stop) → r.reach ≡ Met s → value_left (value_refused (Stops s)) text ≡ value_in (string_at h i) text
-  string_refused_lem s e = refused-value (stopped s) h text ∙ ap (λ (x : Sought). value_in x text) (sym (string-met h i r.reach J.met s e))
+  pub string_refused_lem : (s : Stop) → r.reach ≡ Met s → value_left (no_value (E.Header s) 0) text ≡ value_in (string_at h i) text
+  string_refused_lem s e = stopped-value s text ∙ ap (λ (x : Sought). value_in x text) (sym (string-met h i r.reach J.met s e))
 
 -- the text of an entry to which nothing is joined
-front : (n : ℕ) (l : List ℕ) → take (length (take n l)) l ≡ take n l
-front zero l = refl
-front (suc n) [] = refl
-front (suc n) (x ∷ l) = ap (λ (t : List ℕ). x ∷ t) (front n l)
-
-front_if : (b : Bool) (n : ℕ) (l : List ℕ) → take (length (cond b (take n l) [])) l ≡ cond b (take n l) []
-front_if true n l = front n l
-front_if false n l = refl
-
-pub own_laid : (v : Value) (joins : Bool) (p : CardRead) (text : List ℕ) {n : ℕ} → n ≡ length (cond (has_text v) (bytes_of p.text) [])
-    → value_laid v (cond (has_digits v) (bytes_of p.text) []) (take n p.text.bytes) text ≡ value_in (holds (held_of v joins p)) text
+pub own_laid : (v : Value) (joins : Bool) (p : CardRead) (text : List ℕ)
+    → value_laid v (cond (has_digits v) (bytes_of p.text) []) (cond (has_text v) (bytes_of p.text) []) text
+    ≡ value_in (holds (held_of v joins p)) text
 unfolding value_in
-own_laid v joins p text count =
-    ap (λ (s : List ℕ). value_laid v (cond (has_digits v) (bytes_of p.text) []) s text)
-    (ap (λ (k : ℕ). take k p.text.bytes) count ∙ front_if (has_text v) p.text.len p.text.bytes)
+own_laid v joins p text = refl

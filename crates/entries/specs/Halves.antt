@@ -1,6 +1,5 @@
 -- What the two halves of a lookup answer, each with its own lent buffer (SPECIFICATION 10): the value with its text, and the comment.
-use Rattle.std.specs.Prelude.{ℕ, cond, List, [], leb, length, drop}
-use Rattle.std.proofs.Math.Option.{Option, none, some}
+use Rattle.std.specs.Prelude.{ℕ, cond, List, [], leb, length, drop, Err, Ok, Result, Option, None, Some, Bool}
 use Rattle.std.proofs.lemmas.List.Edits.{sets}
 use Rattle.refusal.specs.declared.Refusal.TheVariants as R
 use Rattle.refusal.specs.Numbers.{fault_of}
@@ -10,13 +9,9 @@ use Rattle.roles.specs.Roles.{Comment, Held, Role}
 use Rattle.roles.specs.Cards.{roles_of, is_bad_length}
 use Rattle.joining.specs.Lookup.{lookup}
 use Rattle.finding.specs.declared.Stop.{Stop}
-use Rattle.finding.specs.declared.Header.{Header}
-use Rattle.finding.specs.declared.Header.TheVariants.{Accepted, Refused}
 use Rattle.finding.specs.Finding.{stop_at, header_of}
-use Rattle.entries.specs.declared.LookupAnswer.{LookupAnswer}
-use Rattle.entries.specs.declared.LookupAnswer.TheVariants as L
-use Rattle.entries.specs.declared.CommentAnswer.{CommentAnswer}
-use Rattle.entries.specs.declared.CommentAnswer.TheVariants as C
+use Rattle.entries.specs.declared.NoEntry.{NoEntry}
+use Rattle.entries.specs.declared.NoEntry.TheVariants as N
 use Rattle.entries.specs.declared.ValueHalf.{ValueHalf}
 use Rattle.entries.specs.declared.CommentHalf.{CommentHalf}
 use Rattle.entries.specs.Answers.{is_there, bytes_in, entry_head, met_head}
@@ -30,21 +25,21 @@ pub data Sought : Type 0 where
   holds : Held → Sought
 
 abbrev pub held_in : Option Held → Sought
-held_in none = missing
-held_in (some v) = holds v
+held_in None = missing
+held_in (Some v) = holds v
 
 -- for a name: header refusals come first
-abbrev pub sought_in : Header → Option Held → Sought
-sought_in (Refused s) v = stops s
-sought_in (Accepted i) v = held_in v
+abbrev pub sought_in : Result ℕ Stop → Option Held → Sought
+sought_in (Err s) v = stops s
+sought_in (Ok i) v = held_in v
 
 unfoldable pub named : List ℕ → List ℕ → Sought
 named h name = sought_in (header_of h) (lookup name (roles_of h))
 
 -- for a card's number, whatever stands elsewhere in the header: a refused card that is met comes first
 abbrev pub unless_stopped : Option Stop → Option Held → Sought
-unless_stopped none v = held_in v
-unless_stopped (some s) v = stops s
+unless_stopped None v = held_in v
+unless_stopped (Some s) v = stops s
 
 -- the entry that cards begin with, the first of which has number i
 abbrev pub numbered_from : List Role → ℕ → Sought
@@ -68,20 +63,20 @@ abbrev pub value_left : ValueHalf → List ℕ → ValueOutcome
 value_left r text = record { answer = r; text = text }
 
 -- a refusal has no reading beside it; n is the room that is wanted, 0 for all refusals but 13
-abbrev pub no_value : LookupAnswer → ℕ → ValueHalf
-no_value a n = record { answer = a; digits = text_of []; text = n }
+abbrev pub no_value : NoEntry → ℕ → ValueHalf
+no_value a n = record { answer = Err a; digits = text_of []; text = n }
 
 -- the text at the front of the buffer, and bytes beyond its length stay; 13 where the buffer is shorter, and it stays as it was
 abbrev pub value_laid : Value → List ℕ → List ℕ → List ℕ → ValueOutcome
 value_laid v digits s text =
     cond (leb (length s) (length text))
-    (value_left (record { answer = L.Found v; digits = text_of digits; text = length s }) (sets text 0 s))
-    (value_left (no_value (L.Refused (fault_of R.BufferShort)) (length s)) text)
+    (value_left (record { answer = Ok v; digits = text_of digits; text = length s }) (sets text 0 s))
+    (value_left (no_value (N.Refused (fault_of R.BufferShort)) (length s)) text)
 
 -- all refusals leave the buffer untouched; 12 where there is no entry
 unfoldable pub value_in : Sought → List ℕ → ValueOutcome
-value_in (stops s) text = value_left (no_value (L.Header s) 0) text
-value_in missing text = value_left (no_value (L.Refused (fault_of R.NameNotFound)) 0) text
+value_in (stops s) text = value_left (no_value (N.Header s) 0) text
+value_in missing text = value_left (no_value (N.Refused (fault_of R.NameNotFound)) 0) text
 value_in (holds v) text = value_laid v.value v.digits v.words.text text
 
 -- of a name, and of the entry at card i
@@ -101,19 +96,19 @@ pub record CommentOutcome : Type 0 where
 abbrev pub comment_left : CommentHalf → List ℕ → CommentOutcome
 comment_left r comment = record { answer = r; comment = comment }
 
-abbrev pub comment_half : CommentAnswer → ℕ → CommentHalf
+abbrev pub comment_half : Result Bool NoEntry → ℕ → CommentHalf
 comment_half a n = record { answer = a; comment = n }
 
 -- a comment that is missing has length 0
 abbrev pub comment_laid : Comment → List ℕ → CommentOutcome
 comment_laid c comment =
     cond (leb (length (bytes_in c)) (length comment))
-    (comment_left (comment_half (C.Found (is_there c)) (length (bytes_in c))) (sets comment 0 (bytes_in c)))
-    (comment_left (comment_half (C.Refused (fault_of R.BufferShort)) (length (bytes_in c))) comment)
+    (comment_left (comment_half (Ok (is_there c)) (length (bytes_in c))) (sets comment 0 (bytes_in c)))
+    (comment_left (comment_half (Err (N.Refused (fault_of R.BufferShort))) (length (bytes_in c))) comment)
 
 unfoldable pub comment_in : Sought → List ℕ → CommentOutcome
-comment_in (stops s) comment = comment_left (comment_half (C.Header s) 0) comment
-comment_in missing comment = comment_left (comment_half (C.Refused (fault_of R.NameNotFound)) 0) comment
+comment_in (stops s) comment = comment_left (comment_half (Err (N.Header s)) 0) comment
+comment_in missing comment = comment_left (comment_half (Err (N.Refused (fault_of R.NameNotFound))) 0) comment
 comment_in (holds v) comment = comment_laid v.words.comment comment
 
 abbrev pub comment_named : List ℕ → List ℕ → List ℕ → CommentOutcome

@@ -1,77 +1,48 @@
 -- What the passes over an entry's cards hand over: where the entry is sought, and its text and comment as they stand in scratch.
 use Rattle.std.specs.Prelude.{ℕ, suc, ◌+◌, ◌*◌, ◌/◌, ◌<◌, ◌≤◌, ◌≡◌, Bool, true, false, cond, List, [], ◌∷◌, eqb, ltb, length, take, drop}
+use Rattle.std.specs.Prelude.{Option, None, Some, Result, Ok, Err}
 use Prim.Native.Char.{code}
-use Rattle.std.proofs.Math.Option.{Option, none, some}
-use Rattle.refusal.specs.declared.Refusal.TheVariants as R
-use Rattle.refusal.specs.Numbers.{fault_of}
 use Rattle.text.specs.Bytes.{is_space}
 use Rattle.text.specs.Text.{bytes_of}
 use Rattle.numbers.specs.declared.Value.TheVariants.{String}
-use Rattle.roles.specs.declared.Role.{Role as Told}
-use Rattle.roles.specs.declared.Role.TheVariants as T
 use Rattle.card.specs.declared.CardRead.{CardRead}
-use Rattle.roles.specs.Roles.{Comment, Words, Role, entry, more, neutral, last, refused, comment_of}
+use Rattle.roles.specs.Roles.{Comment, Words, Role, entry, more, neutral, last, refused, comment_read}
 use Rattle.roles.specs.Cards.{role_no, roles_of}
 use Rattle.joining.specs.Words.{ends_open, adds_nothing, opens, join_text, join_comment}
 use Rattle.joining.specs.Lookup.{join_on}
 use Rattle.finding.specs.declared.Stop.{Stop}
 use Rattle.finding.specs.Finding.{stop_at}
-use Rattle.entries.specs.declared.LookupAnswer.TheVariants as L
-use Rattle.entries.specs.declared.CommentAnswer.TheVariants as C
-use Rattle.entries.specs.declared.ValueHalf.{ValueHalf}
-use Rattle.entries.specs.declared.CommentHalf.{CommentHalf}
-use Rattle.entries.specs.declared.Spot.{Spot}
-use Rattle.entries.specs.declared.Spot.TheVariants.{At, Missing, Stops}
 use Rattle.entries.specs.declared.Reach.{Reach}
 use Rattle.entries.specs.declared.Reach.TheVariants.{On, Ended, Met}
 use Rattle.entries.specs.declared.TextHeld.{TextHeld}
 use Rattle.entries.specs.declared.CommentHeld.{CommentHeld}
 use Rattle.entries.specs.Answers.{met_on}
-use Rattle.entries.specs.Halves.{Sought, stops, missing, unless_stopped, numbered_from, no_value, comment_half}
+use Rattle.entries.specs.Halves.{Sought, stops, missing, unless_stopped, numbered_from}
 
 -- ---- where an entry is sought
-abbrev pub sought_at : Spot → List ℕ → Sought
-sought_at (At i) h = numbered_from (drop i (roles_of h)) i
-sought_at Missing h = missing
-sought_at (Stops s) h = stops s
+abbrev pub sought_at : Result (Option ℕ) Stop → List ℕ → Sought
+sought_at (Ok (Some i)) h = numbered_from (drop i (roles_of h)) i
+sought_at (Ok None) h = missing
+sought_at (Err s) h = stops s
 
 -- the header has that card, and no more than 720
-abbrev pub IsWithin : Spot → List ℕ → Type 0
-IsWithin (At i) h = (i < length h / 80) × (length h / 80 ≤ 720)
-IsWithin Missing h = Unit {0}
-IsWithin (Stops s) h = Unit {0}
+abbrev pub IsWithin : Result (Option ℕ) Stop → List ℕ → Type 0
+IsWithin (Ok (Some i)) h = (i < length h / 80) × (length h / 80 ≤ 720)
+IsWithin (Ok None) h = Unit {0}
+IsWithin (Err s) h = Unit {0}
 
-pub record Spotted (r : Spot) (h : List ℕ) (x : Sought) : Type 0 where
+pub record Spotted (r : Result (Option ℕ) Stop) (h : List ℕ) (x : Sought) : Type 0 where
   pub is : sought_at r h ≡ x
   pub within : IsWithin r h
-
--- a card that is no entry
-abbrev pub no_entry : Told → ℕ → Spot
-no_entry (T.Entry v joins) i = Missing
-no_entry T.More i = Missing
-no_entry T.Neutral i = Missing
-no_entry T.Last i = Missing
-no_entry (T.Refused f) i = Stops (stop_at f i)
-
--- the answers where no entry is found
-abbrev pub value_refused : Spot → ValueHalf
-value_refused (At i) = no_value (L.Refused (fault_of R.NameNotFound)) 0
-value_refused Missing = no_value (L.Refused (fault_of R.NameNotFound)) 0
-value_refused (Stops s) = no_value (L.Header s) 0
-
-abbrev pub comment_refused : Spot → CommentHalf
-comment_refused (At i) = comment_half (C.Refused (fault_of R.NameNotFound)) 0
-comment_refused Missing = comment_half (C.Refused (fault_of R.NameNotFound)) 0
-comment_refused (Stops s) = comment_half (C.Header s) 0
 
 -- ---- joining
 -- the words that a card begins: nothing is joined to them where it is no entry
 abbrev pub words_of : Role → Words
 words_of (entry n v) = v.words
 words_of (more t c) = record { text = t; comment = c; joins = false }
-words_of neutral = record { text = []; comment = none; joins = false }
-words_of last = record { text = []; comment = none; joins = false }
-words_of (refused f) = record { text = []; comment = none; joins = false }
+words_of neutral = record { text = []; comment = None; joins = false }
+words_of last = record { text = []; comment = None; joins = false }
+words_of (refused f) = record { text = []; comment = None; joins = false }
 
 abbrev pub words_at : List ℕ → ℕ → Words
 words_at h i = words_of (role_no h i)
@@ -86,7 +57,7 @@ met_at h i = met_on (words_at h i) (drop (i + 1) (roles_of h)) (suc i)
 
 -- the string that card i begins, with those cards
 abbrev pub string_at : List ℕ → ℕ → Sought
-string_at h i = unless_stopped (met_at h i) (some (record { value = String; digits = []; words = joined_words h i }))
+string_at h i = unless_stopped (met_at h i) (Some (record { value = String; digits = []; words = joined_words h i }))
 
 -- an open text with a card behind it, and a comment
 abbrev pub text_by : Role → List ℕ → List ℕ
@@ -113,9 +84,9 @@ reach_by (refused f) j opened = Met (stop_at f j)
 
 -- the refused card that was met
 abbrev pub stop_in : Reach → Option Stop
-stop_in On = none
-stop_in Ended = none
-stop_in (Met s) = some s
+stop_in On = None
+stop_in Ended = None
+stop_in (Met s) = Some s
 
 -- ---- whether a text is open, without the text: an empty CONTINUE card takes the & and the spaces before it, so that an earlier & may
 -- stand at its end again
@@ -149,7 +120,7 @@ longest_joined = 720 * 80
 -- a card has these words
 pub record BeginsWith (part : CardRead) (w : Words) : Type 0 where
   pub text : bytes_of part.text ≡ w.text
-  pub comment : comment_of part.commented (bytes_of part.comment) ≡ w.comment
+  pub comment : comment_read part.comment ≡ w.comment
 
 -- card j behind the open text of n bytes
 pub record NextText (role : Role) (j n : ℕ) (r : TextHeld) (texts texts₁ : List ℕ) : Type 0 where
@@ -160,26 +131,34 @@ pub record NextText (role : Role) (j n : ℕ) (r : TextHeld) (texts texts₁ : L
 -- all cards were joined to card i, or a refused card was met
 pub record JoinedTexts (h : List ℕ) (i : ℕ) (r : TextHeld) (texts : List ℕ) : Type 0 where
   pub met : stop_in r.reach ≡ met_at h i
-  pub text : met_at h i ≡ none → take r.length texts ≡ (joined_words h i).text
+  pub text : met_at h i ≡ None → take r.length texts ≡ (joined_words h i).text
   pub within : r.length ≤ length texts
 
 abbrev pub reached_by : CommentHeld → Reach → CommentHeld
 reached_by held reach =
-    record { ampersands = held.ampersands; commented = held.commented; length = held.length; reach = reach }
+    record { ampersands = held.ampersands; comment = held.comment; reach = reach }
 
--- a comment as it stands in scratch
+-- a comment as it stands in scratch, if there is one, and how many bytes it has there
+abbrev pub heard : Option ℕ → List ℕ → Comment
+heard None comments = None
+heard (Some n) comments = Some (take n comments)
+
+abbrev pub span : Option ℕ → ℕ
+span None = 0
+span (Some n) = n
+
 abbrev pub comment_held : CommentHeld → List ℕ → Comment
-comment_held held comments = comment_of held.commented (take held.length comments)
+comment_held held comments = heard held.comment comments
 
 -- card j behind an open text, of which the ampersands at the end are known, and a comment
 pub record NextComment (role : Role) (j : ℕ) (held r : CommentHeld) (comments comments₁ : List ℕ) : Type 0 where
   pub comment : comment_held r comments₁ ≡ comment_by role (comment_held held comments)
   pub text : (s : List ℕ) → ends_open s ≡ true → ampersands 0 s ≡ held.ampersands
       → (ampersands 0 (text_by role s) ≡ r.ampersands) × (r.reach ≡ reach_by role j (ends_open (text_by role s)))
-  pub short : r.length ≤ held.length + 81
+  pub short : span r.comment ≤ span held.comment + 81
   pub few : r.ampersands ≤ held.ampersands + 80
 
 pub record JoinedComments (h : List ℕ) (i : ℕ) (r : CommentHeld) (comments : List ℕ) : Type 0 where
   pub met : stop_in r.reach ≡ met_at h i
-  pub comment : met_at h i ≡ none → comment_held r comments ≡ (joined_words h i).comment
-  pub within : r.length ≤ length comments
+  pub comment : met_at h i ≡ None → comment_held r comments ≡ (joined_words h i).comment
+  pub within : span r.comment ≤ length comments

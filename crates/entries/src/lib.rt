@@ -2,67 +2,52 @@
 // name looked up.
 #![tactic(auto)]
 
-ghost use Rattle.std.specs.Prelude.{◌≡◌, true, cond, ◌&&◌, [], ◌+◌, ◌/◌, ◌≤◌, ◌<◌, length, take, drop};
-ghost use Rattle.std.proofs.Math.Option.{some};
+ghost use Rattle.std.specs.Prelude.{◌≡◌, true, cond, ◌&&◌, [], ◌+◌, ◌/◌, ◌≤◌, ◌<◌, length, take, drop, Some, Err};
 ghost use Rattle.std.proofs.lemmas.List.Edits.{sets};
-ghost use Rattle.text.specs.Text.{text_of, bytes_of};
-ghost use Rattle.roles.specs.Roles.{has_text, has_digits, comment_of};
+ghost use Rattle.text.specs.Text.{size, text_of, bytes_of};
+ghost use Rattle.refusal.specs.Numbers.{fault_of};
+ghost use Rattle.roles.specs.Roles.{has_text, has_digits, comment_read};
 ghost use Rattle.roles.specs.Cards.{roles_of, role_no};
 ghost use Rattle.joining.specs.Words.{ends_open, adds_nothing, join_text, join_comment};
 ghost use Rattle.entries.specs.Halves.{named, numbered, numbered_from, value_named, value_numbered, value_in, value_left, value_laid};
 ghost use Rattle.entries.specs.Halves.{no_value, comment_named, comment_numbered, comment_in, comment_left, comment_laid, comment_half};
-ghost use Rattle.entries.specs.Passes.{sought_at, IsWithin, Spotted, no_entry, value_refused, comment_refused, words_at, string_at};
+ghost use Rattle.entries.specs.Passes.{sought_at, IsWithin, Spotted, heard, span, words_at, string_at};
 ghost use Rattle.entries.specs.Passes.{IsOpenAt, IsWide, BeginsWith, longest_joined, ampersands, opens_by, reached_by};
 ghost use Rattle.entries.specs.Passes.{NextText, JoinedTexts, NextComment, JoinedComments};
 
 use card::{CARD, CardRead};
-use finding::{Found, Stop};
+use finding::Stop;
 use numbers::Value;
 use refusal::{Fault, Refusal};
 use roles::Role;
-use text::{Cut, Place, Text};
+use text::{Spaces, Text};
 
-// What the value's half answers: a value; where the header is refused; or a refusal without a card.
+// Why no entry is answered: where the header is refused; or a refusal without a card.
 #[derive(Clone, Copy)]
-pub enum LookupAnswer {
-    Found(Value),
+pub enum NoEntry {
     Header(Stop),
     Refused(Fault),
 }
 
-// Beside the answer stand a decimal's digits, and how long the text is: what was written to the lent buffer or, where that is too
-// short, the room that is wanted.
+// What the value's half answers. Beside the value, or the refusal, stand a decimal's digits, and how long the text is: what was written
+// to the lent buffer or, where that is too short, the room that is wanted.
 #[derive(Clone, Copy)]
 pub struct ValueHalf {
-    pub answer: LookupAnswer,
+    pub answer: Result<Value, NoEntry>,
     pub digits: Text,
     pub text: usize,
 }
 
-// What the comment's half answers: whether there is a comment; or as the value's half.
-#[derive(Clone, Copy)]
-pub enum CommentAnswer {
-    Found(bool),
-    Header(Stop),
-    Refused(Fault),
-}
-
-// Beside the answer stands how long the comment is: what was written, or the room that is wanted.
+// What the comment's half answers: whether there is a comment. Beside it, or the refusal, stands how long the comment is: what was
+// written, or the room that is wanted. The length is no part of the Ok, since refusal 13 has one too: the clause `comment_left` of
+// the public calls and `comment-room` of `LookupHalves` (demands/specs/Halves.antt) hold it.
 #[derive(Clone, Copy)]
 pub struct CommentHalf {
-    pub answer: CommentAnswer,
+    pub answer: Result<bool, NoEntry>,
     pub comment: usize,
 }
 
-// Where an entry is sought: at a card that the header has, or nowhere, or a card stops the reading.
-#[derive(Clone, Copy)]
-pub enum Spot {
-    At(usize),
-    Missing,
-    Stops(Stop),
-}
-
-// Whether more may be joined: it may, it may not, or a refused card was met.
+// Whether more may be joined: it may, it may not, or a refused card was met. Three ways, so it is no Option and no Result.
 #[derive(Clone, Copy)]
 pub enum Reach {
     On,
@@ -77,14 +62,22 @@ pub struct TextHeld {
     pub reach: Reach,
 }
 
-// Whether there is a joined comment, and how long it is. Of the text the ampersands at its end are known: they say whether more may
-// be joined.
+// How long a joined comment is, if there is one. Of the text the ampersands at its end are known: they say whether more may be joined.
 #[derive(Clone, Copy)]
 pub struct CommentHeld {
     pub ampersands: usize,
-    pub commented: bool,
-    pub length: usize,
+    pub comment: Option<usize>,
     pub reach: Reach,
+}
+
+// An entry whose own text is open: its header, its card's number there, and what is read of that card.
+#[derive(Clone, Copy)]
+struct Open<'a> {
+    header: &'a [u8],
+    card: usize,
+    part: &'a CardRead,
+    ghost opened: { IsOpenAt header.now card },
+    ghost begins: { BeginsWith part.now (words_at header.now card) },
 }
 
 // A header of so many cards has small scratch: three blocks of 36. Clearing the large one costs more than reading a card.
@@ -123,69 +116,54 @@ pub fn comment_at(header: &[u8], i: usize, comment: &mut [u8]) -> CommentHalf
     comment_of(header, find_card(header, i), comment)
 }
 
-// ---- where an entry is sought
+// ---- where an entry is sought: at a card that the header has, or nowhere, or a card stops the reading
 
 // The last entry that bears a name.
-fn find_name(header: &[u8], name: &[u8]) -> Spot
+fn find_name(header: &[u8], name: &[u8]) -> Result<Option<usize>, Stop>
     ensures { Spotted result header.now (named header.now name.now) }
 {
-    match finding::find(header, name) {
-        Found::Refused(stop) => Spot::Stops(stop),
-        Found::Read { end: _, last } => match last {
-            Place::At(i) => Spot::At(i),
-            Place::Nowhere => Spot::Missing,
-        },
-    }
+    let found = finding::find(header, name)?;
+    Ok(found.last)
 }
 
 // A card's number.
-fn find_card(header: &[u8], i: usize) -> Spot
+fn find_card(header: &[u8], i: usize) -> Result<Option<usize>, Stop>
     ensures { Spotted result header.now (numbered header.now i) }
 {
     if roles::is_bad_length(header.len()) {
         let fault = refusal::fault_of(Refusal::HeaderLength);
-        return Spot::Stops(finding::stop_at(fault, 0));
+        return Err(finding::stop_at(fault, 0));
     }
     if header.len() / CARD <= i {
-        return Spot::Missing;
+        return Ok(None);
     }
-    Spot::At(i)
-}
-
-// What card i comes to, which is no entry: a refused card stops the reading.
-fn no_entry(role: Role, i: usize) -> Spot
-    ensures { result ≡ no_entry role i }
-{
-    let Role::Refused(fault) = role else {
-        return Spot::Missing;
-    };
-    Spot::Stops(finding::stop_at(fault, i))
+    Ok(Some(i))
 }
 
 // ---- the value's half
+// Its functions have twins in the comment's half. Both share `find_name`, `find_card` and `Open`. They differ in all that a type
+// parameter would have to give: the answer, what a refusal leaves in it, what is laid (a text and digits; a comment, or none), what is held
+// while cards are joined (a length; a count of ampersands and a length, if any), and the definition that each clause cites.
 
 // A refusal, with no reading beside it, and the room that is wanted.
-fn no_value(answer: LookupAnswer, wanted: usize) -> ValueHalf
-    ensures { result ≡ no_value answer wanted }
+fn no_value(why: NoEntry, wanted: usize) -> ValueHalf
+    ensures { result ≡ no_value why wanted }
 {
     ValueHalf {
-        answer: answer,
+        answer: Err(why),
         digits: text::empty_text(),
         text: wanted,
     }
 }
 
 // The answer where there is no entry.
-fn refuse_value(spot: Spot) -> ValueHalf
-    ensures { result ≡ value_refused spot }
+fn value_missing() -> ValueHalf
+    ensures { result ≡ no_value (NoEntry.Refused (fault_of Refusal.NameNotFound)) 0 }
 {
-    let Spot::Stops(stop) = spot else {
-        return no_value(
-            LookupAnswer::Refused(refusal::fault_of(Refusal::NameNotFound)),
-            0,
-        );
-    };
-    no_value(LookupAnswer::Header(stop), 0)
+    no_value(
+        NoEntry::Refused(refusal::fault_of(Refusal::NameNotFound)),
+        0,
+    )
 }
 
 // A value with its text, where the lent buffer holds it. A decimal's digits are the text of its own card.
@@ -195,28 +173,28 @@ fn lay_value(value: Value, own: Text, s: &[u8], text: &mut [u8]) -> ValueHalf
 {
     let n = s.len();
     if text.len() < n {
-        return no_value(
-            LookupAnswer::Refused(refusal::fault_of(Refusal::BufferShort)),
-            n,
-        );
+        return no_value(NoEntry::Refused(refusal::fault_of(Refusal::BufferShort)), n);
     }
     text::put_at(s, text, 0);
     ValueHalf {
-        answer: LookupAnswer::Found(value),
+        answer: Ok(value),
         digits: digits_of(value, own),
         text: n,
     }
 }
 
 // What is sought, by its value's half.
-fn value_of(header: &[u8], spot: Spot, text: &mut [u8]) -> ValueHalf
+fn value_of(header: &[u8], spot: Result<Option<usize>, Stop>, text: &mut [u8]) -> ValueHalf
     requires { IsWithin spot header.now }
     ensures { value_left result text.new ≡ value_in (sought_at spot header.now) text.old }
 {
-    let Spot::At(i) = spot else {
-        return refuse_value(spot);
-    };
-    entry_value(header, i, text)
+    match spot {
+        Err(stop) => no_value(NoEntry::Header(stop), 0),
+        Ok(card) => match card {
+            None => value_missing(),
+            Some(i) => entry_value(header, i, text),
+        },
+    }
 }
 
 // The value of the entry at card i.
@@ -225,98 +203,113 @@ fn entry_value(header: &[u8], i: usize, text: &mut [u8]) -> ValueHalf
     ensures { value_left result text.new
         ≡ value_in (numbered_from (drop i (roles_of header.now)) i) text.old }
 {
-    let part = roles::card_at(header, i);
-    let answer = part.answer;
-    let role = roles::role_of(answer);
-    let Role::Entry { value, joins } = role else {
-        return refuse_value(no_entry(role, i));
-    };
-    let own = part.text;
-    if is_open(joins, own) {
-        return joined_value(header, i, own, text);
+    match roles::card_at(header, i) {
+        Err(fault) => no_value(NoEntry::Header(finding::stop_at(fault, i)), 0),
+        Ok(part) => {
+            let Role::Entry { value, joins } = roles::role_of(part.card) else {
+                return value_missing();
+            };
+            let own = part.text;
+            if is_open(joins, own) {
+                let string = Open {
+                    header,
+                    card: i,
+                    part: &part,
+                };
+                return joined_value(string, text);
+            }
+            lay_value(value, own, own_text(value, &own), text)
+        }
     }
-    let bytes = own.bytes;
-    let n = count_of(has_text(value), own);
-    lay_value(value, own, text::first_of(&bytes, n), text)
 }
 
-// The open string of card i, joined in scratch: the smaller one where there are few cards.
-fn joined_value(header: &[u8], i: usize, own: Text, text: &mut [u8]) -> ValueHalf
-    requires { IsOpenAt header.now i × (bytes_of own ≡ (words_at header.now i).text) }
-    ensures { value_left result text.new ≡ value_in (string_at header.now i) text.old }
+// What a value's own text gives a lent buffer.
+fn own_text(value: Value, own: &Text) -> &[u8]
+    ensures { result.now ≡ cond (has_text value) (bytes_of own.now) [] }
 {
-    if header.len() / CARD <= FEW_CARDS {
+    if has_text(value) {
+        return own.as_slice();
+    }
+    text::first_of(own.as_slice(), 0)
+}
+
+// An open string, joined in scratch: the smaller one where there are few cards.
+fn joined_value(string: Open, text: &mut [u8]) -> ValueHalf
+    ensures { value_left result text.new
+        ≡ value_in (string_at string.entry.header.now string.entry.card) text.old }
+{
+    if string.header.len() / CARD <= FEW_CARDS {
         let mut few = [0u8; 8748];
-        return value_within(header, i, own, &mut few, text);
+        return value_within(string, &mut few, text);
     }
     let mut texts = [0u8; 58320];
-    value_within(header, i, own, &mut texts, text)
+    value_within(string, &mut texts, text)
 }
 
-fn value_within(header: &[u8], i: usize, own: Text, texts: &mut [u8], text: &mut [u8]) -> ValueHalf
-    requires { IsOpenAt header.now i × IsWide header.now texts.old × (bytes_of own ≡ (words_at header.now i).text) }
-    ensures { value_left result text.new ≡ value_in (string_at header.now i) text.old }
+fn value_within(string: Open, texts: &mut [u8], text: &mut [u8]) -> ValueHalf
+    requires { IsWide string.header.now texts.old }
+    ensures { value_left result text.new
+        ≡ value_in (string_at string.entry.header.now string.entry.card) text.old }
 {
-    let end = join_texts(header, i, own, texts);
+    let end = join_texts(string, texts);
     let reach = end.reach;
     let Reach::Met(stop) = reach else {
-        return lay_value(Value::String, own, text::first_of(texts, end.length), text);
+        return lay_value(
+            Value::String,
+            string.part.text,
+            text::first_of(texts, end.length),
+            text,
+        );
     };
-    refuse_value(Spot::Stops(stop))
+    no_value(NoEntry::Header(stop), 0)
 }
 
 // ---- the comment's half
 
 // An answer, with the length of the comment or the room that is wanted.
-fn comment_half(answer: CommentAnswer, n: usize) -> CommentHalf
+fn comment_half(answer: Result<bool, NoEntry>, n: usize) -> CommentHalf
     ensures { result ≡ comment_half answer n }
 {
-    CommentHalf {
-        answer: answer,
-        comment: n,
-    }
+    CommentHalf { answer, comment: n }
 }
 
 // The answer where there is no entry.
-fn refuse_comment(spot: Spot) -> CommentHalf
-    ensures { result ≡ comment_refused spot }
+fn comment_missing() -> CommentHalf
+    ensures { result ≡ comment_half (Err (NoEntry.Refused (fault_of Refusal.NameNotFound))) 0 }
 {
-    let Spot::Stops(stop) = spot else {
-        return comment_half(
-            CommentAnswer::Refused(refusal::fault_of(Refusal::NameNotFound)),
-            0,
-        );
-    };
-    comment_half(CommentAnswer::Header(stop), 0)
+    comment_half(
+        Err(NoEntry::Refused(refusal::fault_of(Refusal::NameNotFound))),
+        0,
+    )
 }
 
-// A comment, where there is one and the lent buffer holds it.
-fn lay_comment(there: bool, s: &[u8], comment: &mut [u8]) -> CommentHalf
-    ensures { comment_left result comment.new ≡ comment_laid (comment_of there s.now) comment.old }
+// A comment, where the lent buffer holds it.
+fn lay_comment(s: &[u8], comment: &mut [u8]) -> CommentHalf
+    ensures { comment_left result comment.new ≡ comment_laid (Some s.now) comment.old }
 {
-    if !there {
-        return comment_half(CommentAnswer::Found(false), 0);
-    }
     let n = s.len();
     if comment.len() < n {
         return comment_half(
-            CommentAnswer::Refused(refusal::fault_of(Refusal::BufferShort)),
+            Err(NoEntry::Refused(refusal::fault_of(Refusal::BufferShort))),
             n,
         );
     }
     text::put_at(s, comment, 0);
-    comment_half(CommentAnswer::Found(true), n)
+    comment_half(Ok(true), n)
 }
 
 // What is sought, by its comment's half.
-fn comment_of(header: &[u8], spot: Spot, comment: &mut [u8]) -> CommentHalf
+fn comment_of(header: &[u8], spot: Result<Option<usize>, Stop>, comment: &mut [u8]) -> CommentHalf
     requires { IsWithin spot header.now }
     ensures { comment_left result comment.new ≡ comment_in (sought_at spot header.now) comment.old }
 {
-    let Spot::At(i) = spot else {
-        return refuse_comment(spot);
-    };
-    entry_comment(header, i, comment)
+    match spot {
+        Err(stop) => comment_half(Err(NoEntry::Header(stop)), 0),
+        Ok(card) => match card {
+            None => comment_missing(),
+            Some(i) => entry_comment(header, i, comment),
+        },
+    }
 }
 
 // The comment of the entry at card i.
@@ -325,76 +318,59 @@ fn entry_comment(header: &[u8], i: usize, comment: &mut [u8]) -> CommentHalf
     ensures { comment_left result comment.new
         ≡ comment_in (numbered_from (drop i (roles_of header.now)) i) comment.old }
 {
-    let part = roles::card_at(header, i);
-    let answer = part.answer;
-    let role = roles::role_of(answer);
-    let Role::Entry { value: _, joins } = role else {
-        return refuse_comment(no_entry(role, i));
-    };
-    let own = part.text;
-    if is_open(joins, own) {
-        return joined_comment(header, i, part, comment);
+    match roles::card_at(header, i) {
+        Err(fault) => comment_half(Err(NoEntry::Header(finding::stop_at(fault, i))), 0),
+        Ok(part) => {
+            let Role::Entry { value: _, joins } = roles::role_of(part.card) else {
+                return comment_missing();
+            };
+            if is_open(joins, part.text) {
+                let string = Open {
+                    header,
+                    card: i,
+                    part: &part,
+                };
+                return joined_comment(string, comment);
+            }
+            let Some(remark) = part.comment else {
+                return comment_half(Ok(false), 0);
+            };
+            lay_comment(remark.as_slice(), comment)
+        }
     }
-    let remark = part.comment;
-    let bytes = remark.bytes;
-    lay_comment(part.commented, text::first_of(&bytes, remark.len), comment)
 }
 
-// The comment of the open string of card i, joined in scratch.
-fn joined_comment(header: &[u8], i: usize, part: CardRead, comment: &mut [u8]) -> CommentHalf
-    requires { IsOpenAt header.now i × BeginsWith part (words_at header.now i) }
-    ensures { comment_left result comment.new ≡ comment_in (string_at header.now i) comment.old }
+// The comment of an open string, joined in scratch.
+fn joined_comment(string: Open, comment: &mut [u8]) -> CommentHalf
+    ensures { comment_left result comment.new
+        ≡ comment_in (string_at string.entry.header.now string.entry.card) comment.old }
 {
-    if header.len() / CARD <= FEW_CARDS {
+    if string.header.len() / CARD <= FEW_CARDS {
         let mut few = [0u8; 8748];
-        return comment_within(header, i, part, &mut few, comment);
+        return comment_within(string, &mut few, comment);
     }
     let mut comments = [0u8; 58320];
-    comment_within(header, i, part, &mut comments, comment)
+    comment_within(string, &mut comments, comment)
 }
 
-fn comment_within(
-    header: &[u8],
-    i: usize,
-    part: CardRead,
-    comments: &mut [u8],
-    comment: &mut [u8],
-) -> CommentHalf
-    requires { IsOpenAt header.now i × IsWide header.now comments.old × BeginsWith part (words_at header.now i) }
-    ensures { comment_left result comment.new ≡ comment_in (string_at header.now i) comment.old }
+fn comment_within(string: Open, comments: &mut [u8], comment: &mut [u8]) -> CommentHalf
+    requires { IsWide string.header.now comments.old }
+    ensures { comment_left result comment.new
+        ≡ comment_in (string_at string.entry.header.now string.entry.card) comment.old }
 {
-    let end = join_comments(header, i, part, comments);
-    let reach = end.reach;
-    let Reach::Met(stop) = reach else {
-        return lay_comment(end.commented, text::first_of(comments, end.length), comment);
+    let end = join_comments(string, comments);
+    if let Reach::Met(stop) = end.reach {
+        return comment_half(Err(NoEntry::Header(stop)), 0);
+    }
+    let Some(n) = end.comment else {
+        return comment_half(Ok(false), 0);
     };
-    refuse_comment(Spot::Stops(stop))
+    lay_comment(text::first_of(comments, n), comment)
 }
 
 // ---- joining texts
 
-// How many bytes a text has, where it is there.
-fn count_of(there: bool, t: Text) -> usize
-    ensures { result ≡ length (cond there (bytes_of t) []) }
-{
-    if there {
-        if t.len < CARD {
-            return t.len;
-        }
-        return CARD;
-    }
-    0
-}
-
-// The first n bytes of a text stored in a buffer from a place on, as many as fit.
-fn put_text(t: Text, n: usize, out: &mut [u8], at: usize)
-    ensures { out.new ≡ sets out.old at (take n t.bytes) }
-{
-    let bytes = t.bytes;
-    text::put_at(text::first_of(&bytes, n), out, at);
-}
-
-// Whether a text ends in &.
+// Whether a text ends in &. A slice pattern was tried: the search ends at its limits, and a check of the crate takes minutes.
 fn ends_open(s: &[u8]) -> bool
     ensures { result ≡ ends_open s.now }
 {
@@ -409,39 +385,24 @@ fn ends_open(s: &[u8]) -> bool
 fn is_open(joins: bool, own: Text) -> bool
     ensures { result ≡ (joins && ends_open (bytes_of own)) }
 {
-    let bytes = own.bytes;
-    if joins {
-        return ends_open(text::first_of(&bytes, own.len));
-    }
-    false
+    joins && ends_open(own.as_slice())
 }
 
-// Empty, or one space.
-fn adds_nothing(t: Text) -> bool
-    ensures { result ≡ adds_nothing (bytes_of t) }
+// Empty, or one space. By its length for the same reason.
+fn adds_nothing(s: &[u8]) -> bool
+    ensures { result ≡ adds_nothing s.now }
 {
-    let bytes = t.bytes;
-    if t.len == 0 {
+    if s.len() == 0 {
         return true;
     }
-    if t.len == 1 {
-        return bytes[0] == b' ';
-    }
-    false
+    s.len() == 1 && s[0] == b' '
 }
 
 // The values whose text goes to a lent buffer.
 fn has_text(value: Value) -> bool
     ensures { result ≡ has_text value }
 {
-    match value {
-        Value::String => true,
-        Value::Invalid => true,
-        Value::Integer(_) => false,
-        Value::Float { minus: _, size: _ } => false,
-        Value::Logical(_) => false,
-        Value::Undefined => false,
-    }
+    matches!(value, Value::String | Value::Invalid)
 }
 
 // The digits of a decimal.
@@ -451,8 +412,7 @@ fn digits_of(value: Value, own: Text) -> Text
     let Value::Float { minus: _, size: _ } = value else {
         return text::empty_text();
     };
-    let bytes = own.bytes;
-    text::text_of(text::first_of(&bytes, own.len))
+    text::text_of(own.as_slice())
 }
 
 // More may be joined to an open text.
@@ -466,16 +426,16 @@ fn reach_by(opened: bool) -> Reach
 }
 
 // The text of a CONTINUE card joined to the n bytes before it, and how long they then are.
-fn join_text(held: &mut [u8], n: usize, t: Text) -> usize
-    requires { (0 < n) × (n + 79 ≤ length held.old) }
-    ensures { (take result held.new ≡ join_text (take n held.old) (bytes_of t)) × (result ≤ n + 79) }
+fn join_text(held: &mut [u8], n: usize, s: &[u8]) -> usize
+    requires { (0 < n) × (n + 79 ≤ length held.old) × (length s.now ≤ size) }
+    ensures { (take result held.new ≡ join_text (take n held.old) s.now) × (result ≤ n + 79) }
 {
     let m = n - 1;
-    if adds_nothing(t) {
-        return text::trim_end(&held[..m], Cut::Spaces).len();
+    if adds_nothing(s) {
+        return text::trim_end(&held[..m], Spaces).len();
     }
-    put_text(t, t.len, held, m);
-    m + count_of(true, t)
+    text::put_at(s, held, m);
+    m + s.len()
 }
 
 // Card j joined to the open text of n bytes before it, where it is a CONTINUE card. An entry or END lets no more be joined, nor does a
@@ -484,50 +444,49 @@ fn next_text(header: &[u8], j: usize, n: usize, texts: &mut [u8]) -> TextHeld
     requires { (j < length header.now / 80) × (0 < n) × (n + 79 ≤ length texts.old) }
     ensures { NextText (role_no header.now j) j n result texts.old texts.new }
 {
-    let part = roles::card_at(header, j);
-    let answer = part.answer;
-    match roles::role_of(answer) {
-        Role::More => {
-            let own = part.text;
-            let m = join_text(texts, n, own);
-            TextHeld {
-                length: m,
-                reach: reach_by(ends_open(&texts[..m])),
-            }
-        }
-        Role::Neutral => TextHeld {
-            length: n,
-            reach: Reach::On,
-        },
-        Role::Refused(fault) => TextHeld {
+    match roles::card_at(header, j) {
+        Err(fault) => TextHeld {
             length: n,
             reach: Reach::Met(finding::stop_at(fault, j)),
         },
-        _ => TextHeld {
-            length: n,
-            reach: Reach::Ended,
+        Ok(part) => match roles::role_of(part.card) {
+            Role::More => {
+                let own = part.text;
+                let m = join_text(texts, n, own.as_slice());
+                TextHeld {
+                    length: m,
+                    reach: reach_by(ends_open(&texts[..m])),
+                }
+            }
+            Role::Neutral => TextHeld {
+                length: n,
+                reach: Reach::On,
+            },
+            _ => TextHeld {
+                length: n,
+                reach: Reach::Ended,
+            },
         },
     }
 }
 
-// The open text of card i with those of the cards that are joined to it, each read once, in scratch; or the refused card that is met.
-fn join_texts(header: &[u8], i: usize, own: Text, texts: &mut [u8]) -> TextHeld
-    requires { IsOpenAt header.now i × IsWide header.now texts.old × (bytes_of own ≡ (words_at header.now i).text) }
-    ensures { JoinedTexts header.now i result texts.new }
+// The open text of an entry with those of the cards that are joined to it, each read once, in scratch; or the refused card that is met.
+fn join_texts(string: Open, texts: &mut [u8]) -> TextHeld
+    requires { IsWide string.header.now texts.old }
+    ensures { JoinedTexts string.entry.header.now string.entry.card result texts.new }
 {
-    put_text(own, own.len, texts, 0);
+    let header = string.header;
+    let first = string.part.text.as_slice();
+    text::put_at(first, texts, 0);
     let mut held = TextHeld {
-        length: count_of(true, own),
+        length: first.len(),
         reach: Reach::On,
     };
-    let mut j = i + 1;
-    while j < header.len() / CARD {
-        let reach = held.reach;
-        let Reach::On = reach else {
+    for j in string.card + 1..header.len() / CARD {
+        let Reach::On = held.reach else {
             return held;
         };
         held = next_text(header, j, held.length, texts);
-        j += 1;
     }
     held
 }
@@ -540,79 +499,78 @@ fn count_ampersands(before: usize, s: &[u8]) -> usize
     ensures { result ≡ ampersands before s.now }
 {
     let mut k = before;
-    let mut i: usize = 0;
-    while i < s.len() {
-        let b = s[i];
-        if b == AMPERSAND {
+    for b in s {
+        if *b == AMPERSAND {
             k += 1;
-        } else if b != b' ' {
+        } else if *b != b' ' {
             k = 0;
         }
-        i += 1;
     }
     k
 }
 
 // Whether a text is open at whose end so many ampersands are left with the text of a CONTINUE card.
-fn opens_by(k: usize, t: Text) -> bool
-    ensures { result ≡ opens_by k (bytes_of t) }
+fn opens_by(k: usize, s: &[u8]) -> bool
+    ensures { result ≡ opens_by k s.now }
 {
-    if adds_nothing(t) {
+    if adds_nothing(s) {
         return 0 < k;
     }
-    let bytes = t.bytes;
-    ends_open(text::first_of(&bytes, t.len))
+    ends_open(s)
 }
 
-// A comment laid behind the n bytes of the one before it, if there is one, with a line feed between them, and how long they then are.
-fn join_comment(held: &mut [u8], there: bool, n: usize, c: Text) -> usize
-    requires { n + 81 ≤ length held.old }
-    ensures { (some (take result held.new) ≡ join_comment (comment_of there (take n held.old)) (some (bytes_of c)))
-        × (result ≤ n + 81) }
+// A comment laid behind the one before it, if there is one, with a line feed between them, and how long they then are.
+fn join_comment(held: &mut [u8], before: Option<usize>, s: &[u8]) -> usize
+    requires { (span before + 81 ≤ length held.old) × (length s.now ≤ size) }
+    ensures { (Some (take result held.new) ≡ join_comment (heard before held.old) (Some s.now)) × (result ≤ span before + 81) }
 {
-    if there {
-        text::put_at(b"\n", held, n);
-        put_text(c, c.len, held, n + 1);
-        return n + 1 + count_of(true, c);
+    match before {
+        Some(n) => {
+            text::put_at(b"\n", held, n);
+            text::put_at(s, held, n + 1);
+            n + 1 + s.len()
+        }
+        None => {
+            text::put_at(s, held, 0);
+            s.len()
+        }
     }
-    put_text(c, c.len, held, 0);
-    count_of(true, c)
+}
+
+// The comment of a card, if it has one, joined to the one before it, and how long they then are.
+fn join_remark(held: &mut [u8], before: Option<usize>, remark: Option<Text>) -> Option<usize>
+    requires { span before + 81 ≤ length held.old }
+    ensures { (heard result held.new ≡ join_comment (heard before held.old) (comment_read remark)) × (span result ≤ span before + 81)
+        × (length held.new ≡ length held.old) }
+{
+    match remark {
+        Some(own) => Some(join_comment(held, before, own.as_slice())),
+        None => before,
+    }
 }
 
 // Card j joined to the comment before it, where it is a CONTINUE card.
 fn next_comment(header: &[u8], j: usize, held: CommentHeld, comments: &mut [u8]) -> CommentHeld
     requires { (j < length header.now / 80) × (0 < held.ampersands) × (held.ampersands ≤ longest_joined)
-        × (held.length + 81 ≤ length comments.old) }
+        × (span held.comment + 81 ≤ length comments.old) }
     ensures { NextComment (role_no header.now j) j held result comments.old comments.new }
 {
-    let part = roles::card_at(header, j);
-    let answer = part.answer;
-    match roles::role_of(answer) {
-        Role::More => {
-            let t = part.text;
-            let bytes = t.bytes;
-            let k = count_ampersands(held.ampersands - 1, text::first_of(&bytes, t.len));
-            let reach = reach_by(opens_by(k, t));
-            if part.commented {
-                let remark = part.comment;
-                let m = join_comment(comments, held.commented, held.length, remark);
-                return CommentHeld {
+    match roles::card_at(header, j) {
+        Err(fault) => reached(held, Reach::Met(finding::stop_at(fault, j))),
+        Ok(part) => match roles::role_of(part.card) {
+            Role::More => {
+                let own = part.text;
+                let s = own.as_slice();
+                let k = count_ampersands(held.ampersands - 1, s);
+                CommentHeld {
                     ampersands: k,
-                    commented: true,
-                    length: m,
-                    reach: reach,
-                };
+                    comment: join_remark(comments, held.comment, part.comment),
+                    reach: reach_by(opens_by(k, s)),
+                }
             }
-            CommentHeld {
-                ampersands: k,
-                commented: held.commented,
-                length: held.length,
-                reach: reach,
-            }
-        }
-        Role::Neutral => reached(held, Reach::On),
-        Role::Refused(fault) => reached(held, Reach::Met(finding::stop_at(fault, j))),
-        _ => reached(held, Reach::Ended),
+            Role::Neutral => reached(held, Reach::On),
+            _ => reached(held, Reach::Ended),
+        },
     }
 }
 
@@ -622,36 +580,28 @@ fn reached(held: CommentHeld, reach: Reach) -> CommentHeld
 {
     CommentHeld {
         ampersands: held.ampersands,
-        commented: held.commented,
-        length: held.length,
-        reach: reach,
+        comment: held.comment,
+        reach,
     }
 }
 
-// The comment of card i, which is an open string, with those of the cards that are joined to it, each read once, in scratch; or the
+// The comment of an entry, which is an open string, with those of the cards that are joined to it, each read once, in scratch; or the
 // refused card that is met.
-fn join_comments(header: &[u8], i: usize, part: CardRead, comments: &mut [u8]) -> CommentHeld
-    requires { IsOpenAt header.now i × IsWide header.now comments.old × BeginsWith part (words_at header.now i) }
-    ensures { JoinedComments header.now i result comments.new }
+fn join_comments(string: Open, comments: &mut [u8]) -> CommentHeld
+    requires { IsWide string.header.now comments.old }
+    ensures { JoinedComments string.entry.header.now string.entry.card result comments.new }
 {
-    let own = part.text;
-    let bytes = own.bytes;
-    let remark = part.comment;
-    put_text(remark, remark.len, comments, 0);
+    let header = string.header;
     let mut held = CommentHeld {
-        ampersands: count_ampersands(0, text::first_of(&bytes, own.len)),
-        commented: part.commented,
-        length: count_of(true, remark),
+        ampersands: count_ampersands(0, string.part.text.as_slice()),
+        comment: join_remark(comments, None, string.part.comment),
         reach: Reach::On,
     };
-    let mut j = i + 1;
-    while j < header.len() / CARD {
-        let reach = held.reach;
-        let Reach::On = reach else {
+    for j in string.card + 1..header.len() / CARD {
+        let Reach::On = held.reach else {
             return held;
         };
         held = next_comment(header, j, held, comments);
-        j += 1;
     }
     held
 }

@@ -19,18 +19,17 @@ pub fn escape(s: &[u8], out: &mut [u8]) -> Escaped
 {
     let part = text::first_of(s, out.len() / 4);
     let mut put = 0;
-    let mut i = 0;
-    while i < part.len() {
-        put += put_byte(part[i], out, put);
-        i += 1;
+    for b in part {
+        put += put_byte(*b, out, put);
     }
     Escaped {
         taken: part.len(),
-        put: put,
+        put,
     }
 }
 
 // Puts one byte, made visible, into a lent buffer from a place on, and answers how many bytes it became.
+#[tactic(auto, using(crate::proofs::Showing::as_it_is, crate::proofs::Showing::by_number))]
 fn put_byte(b: u8, out: &mut [u8], at: usize) -> usize
     ensures value { result ≡ length (escaped_byte b) }
     ensures out_after { out.new ≡ sets out.old at (escaped_byte b) }

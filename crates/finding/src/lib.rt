@@ -2,15 +2,14 @@
 #![tactic(auto)]
 
 ghost use Rattle.std.specs.Prelude.{◌≡◌};
-ghost use Rattle.text.specs.Same.{same};
 ghost use Rattle.text.specs.Text.{bytes_of};
 ghost use Rattle.finding.specs.Finding.{stop_at, header_of, find_of};
-ghost use Rattle.finding.specs.Passing.{pass_of, stopped_at};
+ghost use Rattle.finding.specs.Passing.{bears_name};
 
-use card::CARD;
+use card::{CARD, CardRead};
 use refusal::{Fault, Refusal};
 use roles::Role;
-use text::{Place, Text};
+use text::Text;
 
 // Why a header is refused, and the number of the card at which it is.
 #[derive(Clone, Copy)]
@@ -19,103 +18,69 @@ pub struct Stop {
     pub card: usize,
 }
 
-// What reading a header answers: the number of END, or where it stops.
+// Where a header ends, by the number of END, and the last card up to there that bears a name, if one does.
 #[derive(Clone, Copy)]
-pub enum Header {
-    Accepted(usize),
-    Refused(Stop),
+pub struct Found {
+    pub end: usize,
+    pub last: Option<usize>,
 }
 
-// What finding a name answers: where the header stops; or the number of END, and the last card that bears the name.
-#[derive(Clone, Copy)]
-pub enum Found {
-    Refused(Stop),
-    Read { end: usize, last: Place },
-}
-
-// What a card comes to in the search for a name: the last card that bears the name so far, or that the reading stops.
-#[derive(Clone, Copy)]
-pub enum Pass {
-    On(Place),
-    Stops,
-}
-
-// Reads the cards from number 0 up to END, each once, and finds the last of them that bears the name.
-pub fn find(header: &[u8], name: &[u8]) -> Found
+// Reads the cards from number 0 up to END, each once, and finds the last of them that bears the name. The answer is a stop where a card
+// is refused before END.
+pub fn find(header: &[u8], name: &[u8]) -> Result<Found, Stop>
     ensures { result ≡ find_of header.now name.now }
 {
     if roles::is_bad_length(header.len()) {
-        return Found::Refused(stop_at(refusal::fault_of(Refusal::HeaderLength), 0));
+        return Err(stop_at(refusal::fault_of(Refusal::HeaderLength), 0));
     }
-    let n = header.len() / CARD;
-    let mut last = Place::Nowhere;
-    let mut i = 0;
-    while i < n {
-        let card = roles::card_at(header, i);
-        let answer = card.answer;
-        let own = card.name;
-        let role = roles::role_of(answer);
-        let Pass::On(next) = pass_card(role, own, name, i, last) else {
-            return stopped(role, i, last);
-        };
-        last = next;
-        i += 1;
+    let cards = header.len() / CARD;
+    let mut last = None;
+    for i in 0..cards {
+        // By match, and what is not used is left: `?` keeps a copy of the whole card on the stack (widrekas.h names the limit).
+        match roles::card_at(header, i) {
+            Err(fault) => return Err(stop_at(fault, i)),
+            Ok(
+                CardRead {
+                    card,
+                    name: own,
+                    text: _,
+                    comment: _,
+                },
+            ) => {
+                let role = roles::role_of(card);
+                if let Role::Last = role {
+                    return Ok(Found { end: i, last });
+                }
+                if bears_name(role, own, name) {
+                    last = Some(i);
+                }
+            }
+        }
     }
-    Found::Refused(stop_at(refusal::fault_of(Refusal::NoEnd), n))
+    Err(stop_at(refusal::fault_of(Refusal::NoEnd), cards))
 }
 
 // Whether a header is accepted, and where its END stands.
-pub fn read_header(header: &[u8]) -> Header
+pub fn read_header(header: &[u8]) -> Result<usize, Stop>
     ensures { result ≡ header_of header.now }
 {
-    match find(header, b"") {
-        Found::Refused(stop) => Header::Refused(stop),
-        Found::Read { end, last: _ } => Header::Accepted(end),
-    }
+    let found = find(header, b"")?;
+    Ok(found.end)
 }
 
 // A fault at a card.
 pub fn stop_at(fault: Fault, card: usize) -> Stop
     ensures { result ≡ stop_at fault card }
 {
-    Stop {
-        fault: fault,
-        card: card,
-    }
+    Stop { fault, card }
 }
 
-// Whether an entry's own name is the one sought.
-fn bears(own: Text, name: &[u8]) -> bool
-    ensures { result ≡ same (bytes_of own) name.now }
+// Whether a card is an entry that bears the name, by its role and its own name.
+fn bears_name(role: Role, own: Text, name: &[u8]) -> bool
+    ensures { result ≡ bears_name role (bytes_of own) name.now }
 {
-    let bytes = own.bytes;
-    text::same_bytes(text::first_of(&bytes, own.len), name)
-}
-
-// What card i comes to by its role and its own name, where `last` bears the name sought so far.
-fn pass_card(role: Role, own: Text, name: &[u8], i: usize, last: Place) -> Pass
-    ensures { result ≡ pass_of role (bytes_of own) name.now i last }
-{
-    match role {
-        Role::Entry { value: _, joins: _ } => {
-            if bears(own, name) {
-                return Pass::On(Place::At(i));
-            }
-            Pass::On(last)
-        }
-        Role::More => Pass::On(last),
-        Role::Neutral => Pass::On(last),
-        Role::Last => Pass::Stops,
-        Role::Refused(_) => Pass::Stops,
-    }
-}
-
-// The answer where the reading stops at card i.
-fn stopped(role: Role, i: usize, last: Place) -> Found
-    ensures { result ≡ stopped_at role i last }
-{
-    let Role::Refused(fault) = role else {
-        return Found::Read { end: i, last: last };
+    let Role::Entry { value: _, joins: _ } = role else {
+        return false;
     };
-    Found::Refused(stop_at(fault, i))
+    text::same_bytes(own.as_slice(), name)
 }

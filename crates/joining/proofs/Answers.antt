@@ -1,9 +1,9 @@
 -- What a name is answered, by what each card does: the last effect that bears the name.
+use Rattle.std.specs.Prelude.{Option, None, Some}
 use Prim.Native.Nat.{ℕ}
 use mathlib.Core.Path.{◌≡◌, refl, sym, ap, ◌∙◌}
 use mathlib.Core.Bool.{Bool, true, false, cond}
 use mathlib.Core.List.{List, [], ◌∷◌}
-use mathlib.Core.Option.{Option, none, some}
 use Rattle.text.specs.Same.{same}
 use Rattle.joining.specs.Words.{opens}
 use Rattle.roles.specs.Roles.{Words, Held, Role, entry, more, neutral, last, refused}
@@ -22,18 +22,18 @@ join_on_shut w e (last ∷ h) = refl
 join_on_shut w e (refused f ∷ h) = join_on_shut w e h
 
 pub or_assoc : (u v w : Option Held) → or_else (or_else u v) w ≡ or_else u (or_else v w)
-or_assoc none v w = refl
-or_assoc (some u) v w = refl
+or_assoc None v w = refl
+or_assoc (Some u) v w = refl
 
 -- an answer for a name stands in the way of an earlier one for it
 or_same : (m n : List ℕ) (v w : Held) → or_else (if_same m n v) (if_same m n w) ≡ if_same m n v
 or_same m n v w = go (same m n)
   where
-    go : (u : Bool) → or_else (cond u (some v) none) (cond u (some w) none) ≡ cond u (some v) none
+    go : (u : Bool) → or_else (cond u (Some v) None) (cond u (Some w) None) ≡ cond u (Some v) None
     go true = refl
     go false = refl
 
-after-end : (n : List ℕ) (h : List Role) → answer n (effects ended h) ≡ none
+after-end : (n : List ℕ) (h : List Role) → answer n (effects ended h) ≡ None
 unfolding effects answer
 after-end n [] = refl
 after-end n (c ∷ h) = rw (after-end n h)

@@ -1,6 +1,5 @@
 -- What a name is answered by the cards of a header (SPECIFICATION 9 and 10).
-use Rattle.std.specs.Prelude.{ℕ, Bool, cond, List, [], ◌∷◌}
-use Rattle.std.proofs.Math.Option.{Option, none, some}
+use Rattle.std.specs.Prelude.{ℕ, Bool, cond, List, [], ◌∷◌, Option, None, Some}
 use Rattle.text.specs.Same.{same}
 use Rattle.roles.specs.Roles.{Comment, Words, Held, Role, entry, more, neutral, last, refused}
 use Rattle.joining.specs.Words.{opens, join_words}
@@ -26,17 +25,17 @@ whole v h = record { value = v.value; digits = v.digits; words = join_on v.words
 
 -- the first answer that there is
 abbrev pub or_else : Option Held → Option Held → Option Held
-or_else (some v) w = some v
-or_else none w = w
+or_else (Some v) w = Some v
+or_else None w = w
 
 abbrev pub if_same : List ℕ → List ℕ → Held → Option Held
-if_same m n v = cond (same m n) (some v) none
+if_same m n v = cond (same m n) (Some v) None
 
 -- of equal names the last entry counts, and nothing behind END does
 unfoldable pub lookup : List ℕ → List Role → Option Held
-lookup n [] = none
+lookup n [] = None
 lookup n (entry m v ∷ h) = or_else (lookup n h) (if_same m n (whole v h))
 lookup n (more t c ∷ h) = lookup n h
 lookup n (neutral ∷ h) = lookup n h
-lookup n (last ∷ h) = none
+lookup n (last ∷ h) = None
 lookup n (refused f ∷ h) = lookup n h

@@ -1,7 +1,6 @@
 -- The text and comment of an entry, and the joining of a CONTINUE card to them (SPECIFICATION 9; the standard, 4.2.1.2).
-use Rattle.std.specs.Prelude.{ℕ, Bool, true, false, cond, ◌&&◌, List, [], ◌∷◌, ◌++◌}
+use Rattle.std.specs.Prelude.{ℕ, Bool, true, false, cond, ◌&&◌, List, [], ◌∷◌, ◌++◌, None, Some}
 use Prim.Native.Char.{code}
-use Rattle.std.proofs.Math.Option.{none, some}
 use Rattle.text.specs.Bytes.{line_feed, is_space}
 use Rattle.text.specs.Trim.{trim_end}
 use Rattle.text.specs.Ends.{stem, ends_with}
@@ -23,9 +22,9 @@ join_text s t = cond (adds_nothing t) (trim_end is_space (stem s)) (stem s ++ t)
 
 -- absent then c gives c; a then absent gives a; a then c gives a, byte 10, c
 unfoldable pub join_comment : Comment → Comment → Comment
-join_comment none c = c
-join_comment (some a) none = some a
-join_comment (some a) (some c) = some (a ++ line_feed ∷ c)
+join_comment None c = c
+join_comment (Some a) None = Some a
+join_comment (Some a) (Some c) = Some (a ++ line_feed ∷ c)
 
 -- open: a string that ends in &
 unfoldable pub opens : Words → Bool

@@ -1,4 +1,5 @@
 -- A line is its segments and a line feed, and is laid segment by segment.
+use Rattle.std.specs.Prelude.{None, Some}
 use Prim.Native.Char.{code}
 use Prim.Native.Nat.{ℕ, ◌+◌, ◌≤◌, ◌<◌}
 use native.Mathlib.Omega.{arith}
@@ -22,10 +23,9 @@ use Rattle.numerals.specs.Numerals.{decimal_digits, signed_digits}
 use Rattle.numerals.proofs.Decimals.{some-digits}
 use Rattle.refusal.specs.declared.Fault.{Fault}
 use Rattle.refusal.specs.Numbers.{number_of}
-use Rattle.lines.specs.declared.Line.TheVariants.{Written, Short}
 use Rattle.lines.specs.Lines.{kind_letter, reading_of, spaced_reading, times_part, entry_line, count_line, column_part, refused_line}
 use Rattle.lines.specs.Lines.{line_outcome, laid}
-use Rattle.lines.specs.Segments.{line_head, middle_of, middle_bytes, reading_tail}
+use Rattle.lines.specs.Segments.{line_head, middle_of, reading_tail}
 
 -- ---- an entry
 
@@ -36,7 +36,7 @@ spaced_signed (negsuc n) = refl
 
 -- the head, the middle and the tail are all that stands behind the name
 segments : (v : Value) (digits text : List ℕ)
-    → line_head v (is_empty text) ++ middle_bytes (middle_of v) digits text ++ reading_tail v (is_empty digits)
+    → line_head v (is_empty text) ++ middle_of v digits text ++ reading_tail v (is_empty digits)
     ≡ ascii " " ++ kind_letter v ∷ spaced_reading (reading_of v digits text)
 segments (Integer z) digits text = ap (λ (l : List ℕ). ascii " I" ++ l) (sym (spaced_signed z))
 segments (Float true (Finite power)) [] text = refl
@@ -55,15 +55,26 @@ segments Undefined digits text = refl
 segments Invalid digits [] = refl
 segments Invalid digits (b ∷ text) = append-nil (ascii " X " ++ b ∷ text)
 
+-- the middle is no longer than the digits and the text
+pub middle_few : (v : Value) (digits text : List ℕ) → length (middle_of v digits text) ≤ length digits + length text
+middle_few (Integer z) digits text = omega arith
+middle_few (Float minus (Finite power)) digits text = omega arith
+middle_few (Float minus Infinite) digits text = omega arith
+middle_few (Float minus Nan) digits text = omega arith
+middle_few (Logical b) digits text = omega arith
+middle_few String digits text = omega arith
+middle_few Undefined digits text = omega arith
+middle_few Invalid digits text = omega arith
+
 -- the segments of the three lines, as texts that were made of them
 pub entry_segments : {head tail : Text} (name : List ℕ) (v : Value) (digits text middle : List ℕ) (n : ℕ)
-    → head ≡ text_of (line_head v (is_empty text)) → middle ≡ middle_bytes (middle_of v) digits text
+    → head ≡ text_of (line_head v (is_empty text)) → middle ≡ middle_of v digits text
     → tail ≡ text_of (reading_tail v (is_empty digits) ++ times_part n)
     → name ++ bytes_of head ++ middle ++ bytes_of tail ++ line_feed ∷ [] ≡ entry_line name v digits text n
 unfolding entry_line
 entry_segments name v digits text middle n p e q =
     let h = line_head v (is_empty text) in
-    let m = middle_bytes (middle_of v) digits text in
+    let m = middle_of v digits text in
     let t = reading_tail v (is_empty digits) in
     let times = times_part n in
     let reading = kind_letter v ∷ spaced_reading (reading_of v digits text) in
@@ -96,11 +107,11 @@ refused_segments fault card p q r =
 -- ---- a line in a buffer
 
 module _ (line d : List ℕ) where
-  pub laid-short : length d < length line → line_outcome Short d ≡ laid line d
+  pub laid-short : length d < length line → line_outcome None d ≡ laid line d
   unfolding laid
   laid-short h = rw (lt-leb (length line) (length d) h)
 
-  pub laid-fits : length line ≤ length d → line_outcome (Written (length line)) (sets d 0 line) ≡ laid line d
+  pub laid-fits : length line ≤ length d → line_outcome (Some (length line)) (sets d 0 line) ≡ laid line d
   unfolding laid
   laid-fits h = rw (le-leb (length line) (length d) h)
 

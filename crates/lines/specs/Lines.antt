@@ -1,9 +1,7 @@
 -- The lines that the program `cards` prints (SPECIFICATION 13).
 use Prim.Native.Char.{code}
-use Rattle.std.specs.Prelude.{ℕ, ◌≤◌, ◌≡◌, Bool, cond, List, [], ◌∷◌, ◌++◌, ltb, leb, length}
+use Rattle.std.specs.Prelude.{ℕ, ◌≤◌, ◌≡◌, Bool, cond, List, [], ◌∷◌, ◌++◌, ltb, leb, length, None, Option, Some}
 use Rattle.std.proofs.lemmas.List.Edits.{sets}
-use Rattle.refusal.specs.declared.Column.{Column}
-use Rattle.refusal.specs.declared.Column.TheVariants.{At, Absent}
 use Rattle.refusal.specs.declared.Fault.{Fault}
 use Rattle.refusal.specs.Numbers.{number_of}
 use Rattle.text.specs.Bytes.{ascii, line_feed}
@@ -12,8 +10,6 @@ use Rattle.numbers.specs.declared.Size.TheVariants.{Finite, Infinite, Nan}
 use Rattle.numbers.specs.declared.Value.{Value}
 use Rattle.numbers.specs.declared.Value.TheVariants.{Integer, Float, Logical, String, Undefined, Invalid}
 use Rattle.numerals.specs.Numerals.{decimal_digits, minus_of, signed_digits, finite_text}
-use Rattle.lines.specs.declared.Line.{Line}
-use Rattle.lines.specs.declared.Line.TheVariants.{Written, Short}
 
 -- ---- an entry: name, kind, reading, and how many cards bear the name, with single spaces
 
@@ -71,9 +67,9 @@ unfoldable pub count_line : ℕ → List ℕ
 count_line n = decimal_digits n ++ ascii " keywords" ++ line_feed ∷ []
 
 -- the byte of the card, behind a colon, where the refusal has a column
-abbrev pub column_part : Column → List ℕ
-column_part (At byte) = ascii ":" ++ decimal_digits byte
-column_part Absent = []
+abbrev pub column_part : Option ℕ → List ℕ
+column_part (Some byte) = ascii ":" ++ decimal_digits byte
+column_part None = []
 
 unfoldable pub refused_line : Fault → ℕ → List ℕ
 refused_line fault card =
@@ -88,13 +84,13 @@ line_room = 321
 
 -- an answer, and the lent buffer after it
 pub record LineOutcome : Type 0 where
-  pub answer : Line
+  pub answer : Option ℕ
   pub content : List ℕ
 
-abbrev pub line_outcome : Line → List ℕ → LineOutcome
+abbrev pub line_outcome : Option ℕ → List ℕ → LineOutcome
 line_outcome answer content = record { answer = answer; content = content }
 
 -- the line at the front where it fits, and bytes beyond it stay; otherwise the buffer is untouched
 unfoldable pub laid : List ℕ → List ℕ → LineOutcome
 laid line out =
-    cond (leb (length line) (length out)) (line_outcome (Written (length line)) (sets out 0 line)) (line_outcome Short out)
+    cond (leb (length line) (length out)) (line_outcome (Some (length line)) (sets out 0 line)) (line_outcome None out)

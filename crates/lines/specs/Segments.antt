@@ -9,8 +9,6 @@ use Rattle.numbers.specs.declared.Size.TheVariants.{Finite, Infinite, Nan}
 use Rattle.numbers.specs.declared.Value.{Value}
 use Rattle.numbers.specs.declared.Value.TheVariants.{Integer, Float, Logical, String, Undefined, Invalid}
 use Rattle.numerals.specs.Numerals.{signed_digits, power_text}
-use Rattle.lines.specs.declared.Middle.{Middle}
-use Rattle.lines.specs.declared.Middle.TheVariants.{Digits, Words, Nothing}
 use Rattle.lines.specs.Lines.{logical_of}
 
 -- the letter, the space and the sign; `empty` says that there is no text
@@ -22,21 +20,16 @@ line_head String empty = cond empty (ascii " S") (ascii " S ")
 line_head Undefined empty = ascii " U"
 line_head Invalid empty = cond empty (ascii " X") (ascii " X ")
 
--- the middle, whose length nothing here bounds
-abbrev pub middle_of : Value → Middle
-middle_of (Integer z) = Nothing
-middle_of (Float minus (Finite power)) = Digits
-middle_of (Float minus Infinite) = Nothing
-middle_of (Float minus Nan) = Nothing
-middle_of (Logical b) = Nothing
-middle_of String = Words
-middle_of Undefined = Nothing
-middle_of Invalid = Words
-
-abbrev pub middle_bytes : Middle → List ℕ → List ℕ → List ℕ
-middle_bytes Digits digits text = digits
-middle_bytes Words digits text = text
-middle_bytes Nothing digits text = []
+-- the middle, whose length nothing here bounds: the digits of a decimal, a text, or nothing
+abbrev pub middle_of : Value → List ℕ → List ℕ → List ℕ
+middle_of (Integer z) digits text = []
+middle_of (Float minus (Finite power)) digits text = digits
+middle_of (Float minus Infinite) digits text = []
+middle_of (Float minus Nan) digits text = []
+middle_of (Logical b) digits text = []
+middle_of String digits text = text
+middle_of Undefined digits text = []
+middle_of Invalid digits text = text
 
 -- what stands behind the digits of a float; `empty` says that it has none
 abbrev pub size_tail : Size → Bool → List ℕ

@@ -1,4 +1,5 @@
 -- An entry put into a table by the key of its name.
+use Rattle.std.specs.Prelude.{Option}
 use Prim.Native.Nat.{ℕ, ◌+◌, ◌*◌, ◌<◌}
 use native.Mathlib.Omega.{arith}
 use mathlib.Core.Path.{◌≡◌, sym, ap, subst, ◌∙◌}
@@ -6,7 +7,6 @@ use mathlib.Core.Bool.{true, false}
 use mathlib.Core.List.{List}
 use lib.ListN.{get_or, set}
 use lib.Seq.{sets}
-use Rattle.text.specs.declared.Place.{Place}
 use Rattle.listing.specs.Keys.{words_of_key, key_of, is_before, row_at, row_in, Ordered, Parted, Slid, Ready}
 use Rattle.listing.specs.Keys.{arrays_by, arrays_at, Entered}
 use Rattle.listing.proofs.Keying.{length-key}
@@ -36,7 +36,7 @@ module _ {count : ℕ} {first last times keys order : List ℕ} (R : Ready count
         let under = R.ordered.within at h in
         let row = sym (other_so k under) ∙ found behind R.room P h e ∙ own_so in
         record {
-          put = sym (ap (λ (p : Place). arrays_at p i count first last times) (place_at R.ordered (key_of name) k under row));
+          put = sym (ap (λ (p : Option ℕ). arrays_at p i count first last times) (place_at R.ordered (key_of name) k under row));
           rows = stored;
           ordered = behind;
         }
@@ -50,7 +50,7 @@ module _ {count : ℕ} {first last times keys order : List ℕ} (R : Ready count
         let none : (k : ℕ) → k < count → row_at keys k ≡ key_of name → ⊥ =
         λ k p e. not_there behind R.room P new k p (other_so k p ∙ e ∙ sym own_so) in
         record {
-          put = sym (ap (λ (p : Place). arrays_at p i count first last times) (place_none R.ordered (key_of name) none));
+          put = sym (ap (λ (p : Option ℕ). arrays_at p i count first last times) (place_none R.ordered (key_of name) none));
           rows = stored;
           ordered = ordered-put behind R.room P new S;
         }

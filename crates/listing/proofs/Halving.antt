@@ -8,7 +8,7 @@ use borrow.Author.Count.{below_more}
 use borrow.Author.Tests.{eqb-true, eqb-false}
 use lib.Arith.{lt_of_le-ne}
 use lib.Dec.{eqb}
-use Rattle.listing.specs.Keys.{is_before, row_at, row_in, Ordered, Parted}
+use Rattle.listing.specs.Keys.{is_before, row_at, row_in, Ordered}
 use Rattle.listing.proofs.Ordering.{before_trans}
 
 -- the places with numbers below `low` come before the key, those from `high` on do not
@@ -18,15 +18,7 @@ pub record Halving (keys order : List ℕ) (count low high : ℕ) : Type 0 where
   pub lower : (j : ℕ) → j < low → is_before (row_in keys order j) (row_at keys count) ≡ true
   pub upper : (j : ℕ) → high ≤ j → j < count → is_before (row_in keys order j) (row_at keys count) ≡ false
 
-pub half-start : (keys order : List ℕ) (count : ℕ) → Halving keys order count 0 count
-half-start keys order count =
-    record { under = omega arith; to = omega arith; lower = λ j p. absurd (omega arith); upper = λ j p q. absurd (omega arith) }
-
 module _ {keys order : List ℕ} {count low high : ℕ} (H : Halving keys order count low high) where
-  pub half-end : high ≤ low → Parted keys order count low
-  half-end h =
-      record { within = omega (arith, H.under, H.to); lower = H.lower; upper = λ j p q. H.upper j (omega (arith, H.under)) q }
-
   module _ (O : Ordered keys order count) (mid : ℕ) (from : low ≤ mid) (less : mid < high) where
     abbrev key : List ℕ
     key = row_at keys count

@@ -1,23 +1,21 @@
 -- The arrays of a listing have all places: there are no more names than cards.
+use Rattle.std.specs.Prelude.{Err, None, Ok, Option, Result, Some}
 use Prim.Native.Nat.{ℕ, suc, ◌+◌, ◌≤◌}
 use native.Mathlib.Omega.{arith}
-use mathlib.Core.Path.{◌≡◌, refl, sym, subst}
+use mathlib.Core.Path.{◌≡◌, refl}
 use mathlib.Core.List.{List, [], ◌∷◌}
 use lib.ListN.{length, take, get_or, length-set, length-take}
-use Rattle.text.specs.declared.Place.{Place}
-use Rattle.text.specs.declared.Place.TheVariants.{At, Nowhere}
 use Rattle.text.proofs.Texts.{length-put}
 use Rattle.roles.specs.Roles.{Role, entry, more, neutral, last as end-card, refused}
 use Rattle.roles.specs.Cards.{roles_of}
 use Rattle.roles.proofs.Cards.{role_count}
 use Rattle.roles.proofs.Counting.{good_cards}
-use Rattle.finding.specs.declared.Header.{Header}
-use Rattle.finding.specs.declared.Header.TheVariants.{Accepted, Refused}
 use Rattle.finding.specs.Finding.{header_of}
 use Rattle.entries.proofs.Looking.{accepted_good}
 use Rattle.listing.specs.declared.Listing.{Listing}
 use Rattle.listing.specs.Listing.{places, free, Table, empty, place_in, put, put_role, list_from, tabled, by_header, list_of}
 use Rattle.listing.proofs.Placing.{length-filled}
+use Rattle.finding.specs.declared.Stop.{Stop}
 
 -- a table of at most n names
 record Small (n : ℕ) (t : Table) : Type 0 where
@@ -28,14 +26,14 @@ record Small (n : ℕ) (t : Table) : Type 0 where
 small_more : {n : ℕ} {t : Table} (m : ℕ) → n ≤ m → Small n t → Small m t
 small_more m h s = record { first = omega (arith, s.first); last = omega (arith, s.last); times = omega (arith, s.times) }
 
-small_put : (p : Place) (i : ℕ) {n : ℕ} {t : Table} → Small n t → Small (suc n) (put p i t)
-small_put (At k) i {t = t} s =
+small_put : (p : Option ℕ) (i : ℕ) {n : ℕ} {t : Table} → Small n t → Small (suc n) (put p i t)
+small_put (Some k) i {t = t} s =
     record {
       first = omega (arith, s.first);
       last = omega (arith, s.last, length-set t.last k i);
       times = omega (arith, s.times, length-set t.times k (suc (get_or t.times k 0)));
     }
-small_put Nowhere i {t = t} s =
+small_put None i {t = t} s =
     record {
       first = omega (arith, s.first, length-put t.first i);
       last = omega (arith, s.last, length-put t.last i);
@@ -63,7 +61,7 @@ pub record AllPlaces (x : Listing) : Type 0 where
   pub times : length x.times ≡ places
   pub few : x.count ≤ places
 
-all_in : (x : Header) (t : Table) → Small places t → AllPlaces (tabled x t)
+all_in : (x : Result ℕ Stop) (t : Table) → Small places t → AllPlaces (tabled x t)
 all_in x t s =
     record {
       first = length-filled free places t.first s.first;
@@ -79,12 +77,9 @@ pub all_places : (h : List ℕ) → AllPlaces (list_of h)
 unfolding list_of
 all_places h = go (header_of h) refl
   where
-    go : (x : Header) → header_of h ≡ x → AllPlaces (by_header x (roles_of h))
-    go (Accepted end) e =
+    go : (x : Result ℕ Stop) → header_of h ≡ x → AllPlaces (by_header x (roles_of h))
+    go (Ok end) e =
         let fits : 0 + length (take end (roles_of h)) ≤ places =
         omega (arith, length-take end (roles_of h), role_count h, good_cards (length h) (accepted_good h end e)) in
-        all_in (Accepted end) _ (small_from (roles_of h) (take end (roles_of h)) 0 0 places empty fits (none 0))
-    go (Refused s) e = all_in (Refused s) empty (none places)
-
-pub all_listed : {x : Listing} (h : List ℕ) → x ≡ list_of h → AllPlaces x
-all_listed h e = subst AllPlaces (sym e) (all_places h)
+        all_in (Ok end) _ (small_from (roles_of h) (take end (roles_of h)) 0 0 places empty fits (none 0))
+    go (Err s) e = all_in (Err s) empty (none places)

@@ -4,7 +4,6 @@ pub mod Lows
 pub mod Keying
 pub mod Ordering
 pub mod Halving
-pub mod Sliding
 pub mod Rows
 pub mod Entering
 pub mod Placing

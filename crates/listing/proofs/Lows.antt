@@ -1,4 +1,5 @@
 -- The name of an entry has no byte of 128 or more.
+use Rattle.std.specs.Prelude.{Err, None, Ok, Option, Result, Some}
 use Prim.Native.Nat.{ℕ, zero, suc, ◌+◌, ◌<◌}
 use Prim.Native.Char.{code}
 use native.Mathlib.Omega.{arith}
@@ -10,8 +11,6 @@ use lib.Dec.{leb}
 use lib.ListN.{take, drop}
 use Rattle.refusal.specs.declared.Refusal.TheVariants as R
 use Rattle.refusal.specs.Numbers.{fault_of}
-use Rattle.text.specs.declared.Place.{Place}
-use Rattle.text.specs.declared.Place.TheVariants.{At, Nowhere}
 use Rattle.text.specs.Bytes.{ascii, is_blank}
 use Rattle.text.specs.Trim.{trim_start, cons_trimmed, trim_end, trim}
 use Rattle.text.specs.Same.{same}
@@ -19,17 +18,16 @@ use Rattle.text.specs.Place.{place_of}
 use Rattle.text.specs.Text.{text_of}
 use Rattle.text.proofs.Texts.{bytes-text}
 use Rattle.text.proofs.Comparing.{same_eq}
-use Rattle.value.specs.declared.ValueAnswer.{ValueAnswer}
-use Rattle.value.specs.declared.ValueAnswer.TheVariants.{Read as Read-value, Refused as Refused-value}
 use Rattle.value.specs.declared.ValueRead.{ValueRead}
 use Rattle.value.specs.Values.{value_of}
 use Rattle.card.specs.declared.Class.{Class}
 use Rattle.card.specs.declared.Class.TheVariants.{Hierarch}
 use Rattle.card.specs.Keywords.{first_high, has_high, keyword_of, class_of, onto, name_pieces, stop_and, join_pieces, dotted_name}
-use Rattle.card.specs.Cards.{card_refused, of_answer, named, by_equals, hierarch_of, by_class, unplaced_of}
+use Rattle.card.specs.Cards.{of_value, named, by_equals, hierarch_of, by_class, unplaced_of}
 use Rattle.roles.specs.Roles.{Held, Role, entry, more, neutral, last, refused, role_read, role_of}
 use Rattle.roles.proofs.Placing.{entry-unplaced}
 use Rattle.listing.proofs.Keyed.{entry_keyword}
+use Rattle.refusal.specs.declared.Fault.{Fault}
 
 -- no byte of a text is high
 abbrev pub Low : List ℕ → Type 0
@@ -132,17 +130,17 @@ LowRole neutral = Unit {0}
 LowRole last = Unit {0}
 LowRole (refused f) = Unit {0}
 
-by_answer : (a : ValueAnswer) (n : List ℕ) (r : ValueRead) → Low n → LowRole (role_read (of_answer a true (text_of n) r))
-by_answer (Read-value v) n r l = subst Low (sym (bytes-text n)) l
-by_answer (Refused-value f) n r l = tt
+by_answer : (n : List ℕ) (r : Result ValueRead Fault) → Low n → LowRole (role_read (of_value true (text_of n) r))
+by_answer n (Ok v) l = subst Low (sym (bytes-text n)) l
+by_answer n (Err f) l = tt
 
 by_name : (n raw : List ℕ) → Low n → LowRole (role_read (named n raw))
 by_name [] raw l = tt
-by_name (b ∷ n) raw l = by_answer (value_of raw).answer (b ∷ n) (value_of raw) l
+by_name (b ∷ n) raw l = by_answer (b ∷ n) (value_of raw) l
 
-by_place : (p : Place) (c : List ℕ) → Low c → LowRole (role_read (by_equals p c))
-by_place Nowhere c l = tt
-by_place (At i) c l = by_name (dotted_name (take i (drop 9 c))) (drop (10 + i) c) (low_dotted _ (low_take i (drop 9 c) (low_drop 9 c l)))
+by_place : (p : Option ℕ) (c : List ℕ) → Low c → LowRole (role_read (by_equals p c))
+by_place None c l = tt
+by_place (Some i) c l = by_name (dotted_name (take i (drop 9 c))) (drop (10 + i) c) (low_dotted _ (low_take i (drop 9 c) (low_drop 9 c l)))
 
 -- a HIERARCH card
 hierarch_so : (k : List ℕ) → same k (ascii "HIERARCH") ≡ true → class_of k ≡ Hierarch
@@ -156,7 +154,7 @@ module _ (c m : List ℕ) (v : Held) (is : role_of c ≡ entry m v) where
   entry_low = go (has_high c) (entry-unplaced c m v is)
     where
       go : (t : Bool) → let k = keyword_of c in
-          role_read (cond t (card_refused (fault_of R.HighByte)) (by_class (class_of k) (text_of k) c)) ≡ entry m v → t ≡ false
+          role_read (cond t (Err (fault_of R.HighByte)) (by_class (class_of k) (text_of k) c)) ≡ entry m v → t ≡ false
       go true e = absurd (let z : ◌≡◌ {A = ℕ} 0 1 = cc in omega arith)
       go false e = refl
 
@@ -167,7 +165,7 @@ module _ (c m : List ℕ) (v : Held) (is : role_of c ≡ entry m v) where
       ∙ read (has_high c) entry_low (entry-unplaced c m v is)
     where
       read : (t : Bool) → t ≡ false → let k = keyword_of c in
-          role_read (cond t (card_refused (fault_of R.HighByte)) (by_class (class_of k) (text_of k) c)) ≡ entry m v
+          role_read (cond t (Err (fault_of R.HighByte)) (by_class (class_of k) (text_of k) c)) ≡ entry m v
           → role_read (by_class (class_of k) (text_of k) c) ≡ entry m v
       read true d e = absurd (true≢false d)
       read false d e = e

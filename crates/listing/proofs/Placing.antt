@@ -1,4 +1,5 @@
 -- Tables in arrays, and what is put into them.
+use Rattle.std.specs.Prelude.{Err, None, Ok, Option, Result, Some}
 use Prim.Native.Nat.{ℕ, zero, suc, ◌+◌, ◌-◌, ◌/◌, ◌<◌, ◌≤◌}
 use native.Mathlib.Numerals.{add-one}
 use native.Mathlib.Nat.{sub-zero}
@@ -11,8 +12,6 @@ use lib.Seq.{set-append_left}
 use Rattle.refusal.specs.declared.Fault.{Fault}
 use Rattle.refusal.specs.declared.Refusal.TheVariants as R
 use Rattle.refusal.specs.Numbers.{fault_of}
-use Rattle.text.specs.declared.Place.{Place}
-use Rattle.text.specs.declared.Place.TheVariants.{At, Nowhere}
 use Rattle.text.specs.Same.{same}
 use Rattle.text.specs.Text.{filled}
 use Rattle.text.proofs.Finding.{Under}
@@ -21,8 +20,6 @@ use Rattle.roles.specs.Roles.{Comment, Held, Role, entry, more, neutral, last as
 use Rattle.roles.specs.Cards.{card_no, role_no, roles_of, is_bad_length}
 use Rattle.roles.proofs.Cards.{roles_from, role_is, roles_past}
 use Rattle.roles.proofs.Counting.{good_cards}
-use Rattle.finding.specs.declared.Header.{Header}
-use Rattle.finding.specs.declared.Header.TheVariants.{Accepted, Refused}
 use Rattle.finding.specs.Finding.{stop_at, header_from, header_of}
 use Rattle.listing.specs.declared.Listing.{Listing}
 use Rattle.listing.specs.Listing.{places, free, Table, empty, name_of, place_in, put_again, put_new, put, put_role}
@@ -31,14 +28,9 @@ use Rattle.listing.specs.Keys.{key_of, row_at, key_place, Ordered, Ready, Arrays
 use Rattle.listing.proofs.Lows.{Low, low_entry}
 use Rattle.listing.proofs.Keying.{length-key, same_key}
 use Rattle.listing.proofs.Rows.{row_other, row_own}
+use Rattle.finding.specs.declared.Stop.{Stop}
 
 -- ---- arrays
--- another default, where there is an element
-pub at_within : (l : List ℕ) (k d e : ℕ) → k < length l → get_or l k d ≡ get_or l k e
-at_within [] k d e p = absurd (omega arith)
-at_within (x ∷ l) zero d e p = refl
-at_within (x ∷ l) (suc k) d e p = at_within l k d e (omega arith)
-
 pub length-filled : (mark n : ℕ) (l : List ℕ) → length l ≤ n → length (filled mark n l) ≡ n
 unfolding filled
 length-filled mark n l h =
@@ -103,9 +95,9 @@ module _ {mark n : ℕ} {l v : List ℕ} (M : Marked mark n l v) where
       }
 
 -- ---- what is left of the cards, and the table so far, give the listing
-abbrev rest_by : Header → List Role → List Role → ℕ → Table → Listing
-rest_by (Accepted end) all rs i t = tabled (Accepted end) (list_from all (take (end - i) rs) i t)
-rest_by (Refused s) all rs i t = tabled (Refused s) empty
+abbrev rest_by : Result ℕ Stop → List Role → List Role → ℕ → Table → Listing
+rest_by (Ok end) all rs i t = tabled (Ok end) (list_from all (take (end - i) rs) i t)
+rest_by (Err s) all rs i t = tabled (Err s) empty
 
 abbrev rest : List Role → List Role → ℕ → Table → Listing
 rest all rs i t = rest_by (header_from rs i) all rs i t
@@ -114,19 +106,19 @@ rest-start : (h : List ℕ) → is_bad_length (length h) ≡ false → rest (rol
 unfolding list_of header_of
 rest-start h good =
     let all : header_of h ≡ header_from (roles_of h) 0 = rw good in
-    go (header_from (roles_of h) 0) ∙ ap (λ (x : Header). by_header x (roles_of h)) (sym all)
+    go (header_from (roles_of h) 0) ∙ ap (λ (x : Result ℕ Stop). by_header x (roles_of h)) (sym all)
   where
-    go : (x : Header) → rest_by x (roles_of h) (roles_of h) 0 empty ≡ by_header x (roles_of h)
-    go (Accepted end) = ap (λ (n : ℕ). tabled (Accepted end) (list_from (roles_of h) (take n (roles_of h)) 0 empty)) (sub-zero end)
-    go (Refused s) = refl
+    go : (x : Result ℕ Stop) → rest_by x (roles_of h) (roles_of h) 0 empty ≡ by_header x (roles_of h)
+    go (Ok end) = ap (λ (n : ℕ). tabled (Ok end) (list_from (roles_of h) (take n (roles_of h)) 0 empty)) (sub-zero end)
+    go (Err s) = refl
 
 pub refused-length : (h : List ℕ) → is_bad_length (length h) ≡ true
-    → tabled (Refused (stop_at (fault_of R.HeaderLength) 0)) empty ≡ list_of h
+    → tabled (Err (stop_at (fault_of R.HeaderLength) 0)) empty ≡ list_of h
 unfolding list_of header_of
 refused-length h bad = rw bad
 
 -- END is none of the cards before
-end_over : (rs : List Role) (i e : ℕ) → header_from rs i ≡ Accepted e → i ≤ e
+end_over : (rs : List Role) (i e : ℕ) → header_from rs i ≡ Ok e → i ≤ e
 unfolding header_from
 end_over [] i e d = absurd (let z : ◌≡◌ {A = ℕ} 0 1 = cc in omega arith)
 end_over (entry n v ∷ rs) i e d = let p : suc i ≤ e = end_over rs (suc i) e d in omega arith
@@ -138,14 +130,14 @@ end_over (refused f ∷ rs) i e d = absurd (let z : ◌≡◌ {A = ℕ} 0 1 = cc
 module _ (all rs : List Role) (i : ℕ) (t : Table) where
   -- a card that the reading passes, and by whose role the table becomes another
   next_by_lem : (r : Role) (u : Table) → put_role all r i t ≡ u
-      → (x : Header) → header_from rs (suc i) ≡ x → rest_by x all rs (suc i) u ≡ rest_by x all (r ∷ rs) i t
+      → (x : Result ℕ Stop) → header_from rs (suc i) ≡ x → rest_by x all rs (suc i) u ≡ rest_by x all (r ∷ rs) i t
   unfolding list_from
-  next_by_lem r u becomes (Accepted end) e =
+  next_by_lem r u becomes (Ok end) e =
       let one : end - i ≡ suc (end - suc i) = omega (arith, end_over rs (suc i) end e) in
-      ap (tabled (Accepted end))
+      ap (tabled (Ok end))
       (ap (list_from all (take (end - suc i) rs) (suc i)) (sym becomes)
       ∙ ap (λ (n : ℕ). list_from all (take n (r ∷ rs)) i t) (sym one))
-  next_by_lem r u becomes (Refused s) e = refl
+  next_by_lem r u becomes (Err s) e = refl
 
   next_entry : (n : List ℕ) (v : Held) (u : Table)
       → put (place_in all n t.first 0) i t ≡ u
@@ -162,13 +154,13 @@ module _ (all rs : List Role) (i : ℕ) (t : Table) where
   next_neutral = next_by_lem neutral t refl (header_from rs (suc i)) refl
 
   -- at END the table is the header's
-  at_last : tabled (Accepted i) t ≡ rest all (end-card ∷ rs) i t
+  at_last : tabled (Ok i) t ≡ rest all (end-card ∷ rs) i t
   unfolding header_from list_from
   at_last =
       let none : i - i ≡ 0 = omega arith in
-      ap (λ (n : ℕ). tabled (Accepted i) (list_from all (take n (end-card ∷ rs)) i t)) (sym none)
+      ap (λ (n : ℕ). tabled (Ok i) (list_from all (take n (end-card ∷ rs)) i t)) (sym none)
 
-  at_refused : (f : Fault) → tabled (Refused (stop_at f i)) empty ≡ rest all (refused f ∷ rs) i t
+  at_refused : (f : Fault) → tabled (Err (stop_at f i)) empty ≡ rest all (refused f ∷ rs) i t
   unfolding header_from
   at_refused f = refl
 
@@ -211,7 +203,7 @@ place_is {h} {keys} own {k} (one {i = i} {l = l} e q es) =
     ap (λ (r : List ℕ). same r (key_of own.name)) q
     ∙ same_key e.name own.name e.short own.short (low_is e) (low_is own)
     ∙ ap (λ (m : List ℕ). same m own.name) name in
-    ap₂ (λ (b : Bool) (p : Place). cond b (At k) p) alike (place_is own es)
+    ap₂ (λ (b : Bool) (p : Option ℕ). cond b (Some k) p) alike (place_is own es)
 
 -- a place is one of the list's
 place_under : (roles : List Role) (name l : List ℕ) (k : ℕ) → Under (k + length l) (place_in roles name l k)
@@ -220,10 +212,10 @@ place_under roles name [] k = tt
 place_under roles name (i ∷ l) k =
     go (same (name_of (get_or roles i neutral)) name) (place_in roles name l (suc k)) (place_under roles name l (suc k))
   where
-    go : (t : Bool) (p : Place) → Under (suc k + length l) p → Under (k + suc (length l)) (cond t (At k) p)
+    go : (t : Bool) (p : Option ℕ) → Under (suc k + length l) p → Under (k + suc (length l)) (cond t (Some k) p)
     go true p u = omega arith
-    go false (At j) u = omega arith
-    go false Nowhere u = tt
+    go false (Some j) u = omega arith
+    go false None u = tt
 
 -- ---- where the loop stands
 pub record Standing (h first last times keys order : List ℕ) (count i : ℕ) : Type 0 where
@@ -275,11 +267,11 @@ module _ {h first last times keys order : List ℕ} {count i : ℕ} (S : Standin
   long_in M = marked_long M (omega (arith, S.small, S.within, at_most))
 
   -- behind the cards there is no END
-  pub at_end : length h / 80 ≤ i → tabled (Refused (stop_at (fault_of R.NoEnd) (length h / 80))) empty ≡ list_of h
+  pub at_end : length h / 80 ≤ i → tabled (Err (stop_at (fault_of R.NoEnd) (length h / 80))) empty ≡ list_of h
   unfolding header_from
   at_end p =
       let all : length h / 80 ≡ i = omega (arith, S.within) in
-      ap (λ (k : ℕ). tabled (Refused (stop_at (fault_of R.NoEnd) k)) empty) all
+      ap (λ (k : ℕ). tabled (Err (stop_at (fault_of R.NoEnd) k)) empty) all
       ∙ sym (ap (λ (l : List Role). rest roles l i S.t) (roles_past h i p))
       ∙ S.left
 
@@ -299,10 +291,10 @@ module _ {h first last times keys order : List ℕ} {count i : ℕ} (S : Standin
         → rest roles (drop (i + 1) roles) (i + 1) t ≡ list_of h
     left_next t e = ap (λ (k : ℕ). rest roles (drop (i + 1) roles) k t) (add-one i) ∙ e
 
-    pub on_refused : (f : Fault) → refused f ≡ role_no h i → tabled (Refused (stop_at f i)) empty ≡ list_of h
+    pub on_refused : (f : Fault) → refused f ≡ role_no h i → tabled (Err (stop_at f i)) empty ≡ list_of h
     on_refused f is = at_refused roles (drop (i + 1) roles) i S.t f ∙ left_by (refused f) is
 
-    pub on_last : end-card ≡ role_no h i → tabled (Accepted i) S.t ≡ list_of h
+    pub on_last : end-card ≡ role_no h i → tabled (Ok i) S.t ≡ list_of h
     on_last is = at_last roles (drop (i + 1) roles) i S.t ∙ left_by end-card is
 
     -- no number is above that of the cards then
@@ -346,7 +338,7 @@ module _ {h first last times keys order : List ℕ} {count i : ℕ} (S : Standin
 
     module _ (own : IsEntry h i) where
       -- its place in the table
-      abbrev own_place : Place
+      abbrev own_place : Option ℕ
       own_place = place_in roles own.name S.t.first 0
 
       -- the place by the keys is the table's
@@ -356,12 +348,12 @@ module _ {h first last times keys order : List ℕ} {count i : ℕ} (S : Standin
           ∙ place_is own S.rowed
 
       -- the table then, by the place
-      left_so : (p : Place) → own_place ≡ p → (u : Table) → put p i S.t ≡ u
+      left_so : (p : Option ℕ) → own_place ≡ p → (u : Table) → put p i S.t ≡ u
           → rest roles (drop (i + 1) roles) (i + 1) u ≡ list_of h
       left_so p e u becomes =
           left_next u
           (next_entry roles (drop (i + 1) roles) i S.t own.name own.held u
-          (ap (λ (q : Place). put q i S.t) e ∙ becomes)
+          (ap (λ (q : Option ℕ). put q i S.t) e ∙ becomes)
           ∙ left_by (entry own.name own.held) (sym own.is))
 
       module _ {then : Arrays} {keys₁ order₁ : List ℕ}
@@ -370,8 +362,8 @@ module _ {h first last times keys order : List ℕ} {count i : ℕ} (S : Standin
         Next x = Standing h x.first x.last x.times keys₁ order₁ x.names (i + 1)
 
         -- the arrays, by the place
-        by_place : (p : Place) → own_place ≡ p → then ≡ arrays_at p i count first last times
-        by_place p e = E.put ∙ ap (λ (q : Place). arrays_at q i count first last times) (place_so ∙ e)
+        by_place : (p : Option ℕ) → own_place ≡ p → then ≡ arrays_at p i count first last times
+        by_place p e = E.put ∙ ap (λ (q : Option ℕ). arrays_at q i count first last times) (place_so ∙ e)
 
         ordered_so : (x : Arrays) → then ≡ x → Ordered keys₁ order₁ x.names
         ordered_so x e = subst (λ (y : Arrays). Ordered keys₁ order₁ y.names) e E.ordered
@@ -388,7 +380,7 @@ module _ {h first last times keys order : List ℕ} {count i : ℕ} (S : Standin
             ap (λ (l : List ℕ). row_at l count) E.rows
             ∙ row_own keys (key_of own.name) count (length-key own.name) (omega (arith, room, S.ordered.keys_long))
 
-        at_place : (k : ℕ) → own_place ≡ At k → Next (arrays_at (At k) i count first last times)
+        at_place : (k : ℕ) → own_place ≡ Some k → Next (arrays_at (Some k) i count first last times)
         at_place k e =
             let under : k < 0 + length S.t.first =
             subst (Under (0 + length S.t.first)) e (place_under roles own.name S.t.first 0) in
@@ -405,11 +397,11 @@ module _ {h first last times keys order : List ℕ} {count i : ℕ} (S : Standin
               few-times = most-put times k (get_or times k 0 + 1) (i + 1) few-more (omega (arith, S.few-times k));
               small = omega (arith, S.small);
               rowed = rowed_so;
-              ordered = ordered_so (arrays_at (At k) i count first last times) (by_place (At k) e);
-              left = left_so (At k) e (put_again S.t k i) refl;
+              ordered = ordered_so (arrays_at (Some k) i count first last times) (by_place (Some k) e);
+              left = left_so (Some k) e (put_again S.t k i) refl;
             }
 
-        at_free : own_place ≡ Nowhere → Next (arrays_at Nowhere i count first last times)
+        at_free : own_place ≡ None → Next (arrays_at None i count first last times)
         at_free e =
             let behind : 0 + length S.t.first ≡ count = omega (arith, S.first_in.long) in
             record {
@@ -422,13 +414,13 @@ module _ {h first last times keys order : List ℕ} {count i : ℕ} (S : Standin
               few-times = most-put times count 1 (i + 1) few-more (omega arith);
               small = omega (arith, S.small);
               rowed = rowed_put rowed_so own (ap (row_at keys₁) behind ∙ own_row);
-              ordered = ordered_so (arrays_at Nowhere i count first last times) (by_place Nowhere e);
-              left = left_so Nowhere e (put_new S.t i) refl;
+              ordered = ordered_so (arrays_at None i count first last times) (by_place None e);
+              left = left_so None e (put_new S.t i) refl;
             }
 
         pub on_entry_lem : Next then
         on_entry_lem = go own_place refl
           where
-            go : (p : Place) → own_place ≡ p → Next then
-            go (At k) e = subst Next (sym (by_place (At k) e)) (at_place k e)
-            go Nowhere e = subst Next (sym (by_place Nowhere e)) (at_free e)
+            go : (p : Option ℕ) → own_place ≡ p → Next then
+            go (Some k) e = subst Next (sym (by_place (Some k) e)) (at_place k e)
+            go None e = subst Next (sym (by_place None e)) (at_free e)

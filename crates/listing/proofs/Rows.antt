@@ -1,4 +1,5 @@
 -- The keys of places: rows of an array, and the place that has a key.
+use Rattle.std.specs.Prelude.{None, Some}
 use Prim.Native.Nat.{ℕ, zero, suc, ◌+◌, ◌-◌, ◌*◌, ◌<◌, ◌≤◌}
 use native.Mathlib.Omega.{arith}
 use mathlib.Core.Path.{◌≡◌, refl, sym, ap, ap₂, ◌∙◌}
@@ -9,7 +10,6 @@ use lib.Arith.{lt_of_le-ne}
 use lib.Dec.{eqb, ltb}
 use lib.ListN.{length, take, drop, get_or, set, replicate, length-take, length-drop, length-replicate}
 use lib.Seq.{sets, sets-eq, length-sets, drop-set-add, take-set-le, drop_at, take_at, length-take-le}
-use Rattle.text.specs.declared.Place.TheVariants.{At, Nowhere}
 use Rattle.text.specs.Same.{same}
 use Rattle.text.proofs.Comparing.{same_self, same_eq}
 use Rattle.listing.specs.Listing.{places}
@@ -54,7 +54,7 @@ other_key s t n = go (same s t) refl
     go false e = refl
 
 module _ (key keys : List ℕ) where
-  key-none : (n k : ℕ) → ((j : ℕ) → k ≤ j → j < k + n → row_at keys j ≡ key → ⊥) → key_place key keys n k ≡ Nowhere
+  key-none : (n k : ℕ) → ((j : ℕ) → k ≤ j → j < k + n → row_at keys j ≡ key → ⊥) → key_place key keys n k ≡ None
   unfolding key_place
   key-none zero k none = refl
   key-none (suc n) k none =
@@ -63,7 +63,7 @@ module _ (key keys : List ℕ) where
 
   key_at : (n k p : ℕ) → k ≤ p → p < k + n → row_at keys p ≡ key
       → ((j : ℕ) → k ≤ j → j < p → row_at keys j ≡ key → ⊥)
-      → key_place key keys n k ≡ At p
+      → key_place key keys n k ≡ Some p
   unfolding key_place
   key_at zero k p h l e none = absurd (omega arith)
   key_at (suc n) k p h l e none = go (eqb k p) refl (key_at n (suc k) p)
@@ -71,13 +71,13 @@ module _ (key keys : List ℕ) where
       go : (t : Bool) → eqb k p ≡ t
           → (suc k ≤ p → p < suc k + n → row_at keys p ≡ key
           → ((j : ℕ) → suc k ≤ j → j < p → row_at keys j ≡ key → ⊥)
-          → key_place key keys n (suc k) ≡ At p)
-          → cond (same (row_at keys k) key) (At k) (key_place key keys n (suc k)) ≡ At p
+          → key_place key keys n (suc k) ≡ Some p)
+          → cond (same (row_at keys k) key) (Some k) (key_place key keys n (suc k)) ≡ Some p
       go true d more =
           let here = eqb-true k p d in
           let yes-so : same (row_at keys k) key ≡ true =
           ap₂ same (ap (row_at keys) here ∙ e) refl ∙ same_self key in
-          rw yes-so (ap At here)
+          rw yes-so (ap Some here)
       go false d more =
           let later = lt_of_le-ne h (eqb-false k p d) in
           rw (other_key (row_at keys k) key (none k (omega arith) later))
@@ -265,10 +265,10 @@ module _ {keys order : List ℕ} {count : ℕ} (O : Ordered keys order count) wh
 
 -- ---- the place of a key stored behind the places is that of the key among them
 module _ {keys order : List ℕ} {count : ℕ} (O : Ordered keys order count) (key : List ℕ) where
-  pub place_none : ((k : ℕ) → k < count → row_at keys k ≡ key → ⊥) → key_place key keys count 0 ≡ Nowhere
+  pub place_none : ((k : ℕ) → k < count → row_at keys k ≡ key → ⊥) → key_place key keys count 0 ≡ None
   place_none none = key-none key keys count 0 (λ j p q. none j (omega arith))
 
-  pub place_at : (k : ℕ) → k < count → row_at keys k ≡ key → key_place key keys count 0 ≡ At k
+  pub place_at : (k : ℕ) → k < count → row_at keys k ≡ key → key_place key keys count 0 ≡ Some k
   place_at k p e =
       key_at key keys count 0 k (omega arith) (omega arith) e
       (λ j u v f. apart O j k (omega arith) p (λ (z : j ≡ k). omega arith) (f ∙ sym e))

@@ -1,24 +1,19 @@
 -- Keys of names, which are compared in place of the names, and the places of a table in the order of their keys.
-use Rattle.std.specs.Prelude.{ℕ, zero, suc, ◌+◌, ◌*◌, ◌%◌, ◌<◌, ◌≤◌, ◌≡◌, Bool, true}
+use Rattle.std.specs.Prelude.{ℕ, zero, suc, ◌+◌, ◌*◌, ◌%◌, ◌<◌, ◌≤◌, ◌≡◌, Bool, true, None, Option, Some}
 use Rattle.std.specs.Prelude.{false, cond, List, [], ◌∷◌, eqb, ltb, length, get_or, set, take, drop}
 use Rattle.std.proofs.lemmas.List.Edits.{sets}
-use Rattle.text.specs.declared.Place.{Place}
-use Rattle.text.specs.declared.Place.TheVariants.{At, Nowhere}
 use Rattle.text.specs.Same.{same}
 use Rattle.card.specs.Keywords.{first_high}
 use Rattle.roles.specs.declared.Role.{Role}
-use Rattle.roles.specs.declared.Role.TheVariants.{Entry, More, Neutral, Last, Refused}
-use Rattle.listing.specs.declared.Course.{Course}
-use Rattle.listing.specs.declared.Course.TheVariants.{On, Stops}
+use Rattle.roles.specs.declared.Role.TheVariants.{Entry, More, Neutral, Last}
 use Rattle.listing.specs.Listing.{places}
 
--- what a card comes to in the list, by its role
-abbrev pub course_of : Role → Course
-course_of (Entry v joins) = On true
-course_of More = On false
-course_of Neutral = On false
-course_of Last = Stops
-course_of (Refused f) = Stops
+-- a card is an entry, by its role
+abbrev pub is_entry : Role → Bool
+is_entry (Entry v joins) = true
+is_entry More = false
+is_entry Neutral = false
+is_entry Last = false
 
 -- ---- keys
 -- the bytes of a word, and the words of a key
@@ -58,9 +53,9 @@ abbrev pub row_in : List ℕ → List ℕ → ℕ → List ℕ
 row_in keys order j = row_at keys (get_or order j 0)
 
 -- the place, of n from k on, that has the key
-unfoldable pub key_place : List ℕ → List ℕ → ℕ → ℕ → Place
-key_place key keys zero k = Nowhere
-key_place key keys (suc n) k = cond (same (row_at keys k) key) (At k) (key_place key keys n (suc k))
+unfoldable pub key_place : List ℕ → List ℕ → ℕ → ℕ → Option ℕ
+key_place key keys zero k = None
+key_place key keys (suc n) k = cond (same (row_at keys k) key) (Some k) (key_place key keys n (suc k))
 
 -- place k has a number in the order
 pub record Numbered (order : List ℕ) (count k : ℕ) : Type 0 where
@@ -111,9 +106,9 @@ abbrev pub arrays_by : ℕ → List ℕ → List ℕ → List ℕ → Arrays
 arrays_by n first last times = record { names = n; first = first; last = last; times = times }
 
 -- card i as the last of the name at a place, or as the first and last of a name behind the others
-abbrev pub arrays_at : Place → ℕ → ℕ → List ℕ → List ℕ → List ℕ → Arrays
-arrays_at (At k) i count first last times = arrays_by count first (set last k i) (set times k (get_or times k 0 + 1))
-arrays_at Nowhere i count first last times = arrays_by (count + 1) (set first count i) (set last count i) (set times count 1)
+abbrev pub arrays_at : Option ℕ → ℕ → ℕ → List ℕ → List ℕ → List ℕ → Arrays
+arrays_at (Some k) i count first last times = arrays_by count first (set last k i) (set times k (get_or times k 0 + 1))
+arrays_at None i count first last times = arrays_by (count + 1) (set first count i) (set last count i) (set times count 1)
 
 -- the entry of card i was put at the place of its name's key, which stands behind the places, and they are in order
 pub record Entered (name : List ℕ) (i count : ℕ) (first last times keys : List ℕ) (then : Arrays)

@@ -1,18 +1,15 @@
 -- The names of a header in the order of their first cards (SPECIFICATION 11).
-use Rattle.std.specs.Prelude.{ℕ, suc, cond, List, [], ◌∷◌, ◌++◌, length, get_or, set, take}
-use Rattle.text.specs.declared.Place.{Place}
-use Rattle.text.specs.declared.Place.TheVariants.{At, Nowhere}
+use Rattle.std.specs.Prelude.{ℕ, suc, cond, List, [], ◌∷◌, ◌++◌, length, get_or, set, take, Err, None, Ok, Option, Result, Some}
 use Rattle.text.specs.Same.{same}
 use Rattle.text.specs.Text.{filled}
 use Rattle.roles.specs.Roles.{Role, entry, more, neutral, last, refused}
 use Rattle.roles.specs.Cards.{roles_of}
-use Rattle.finding.specs.declared.Header.{Header}
-use Rattle.finding.specs.declared.Header.TheVariants.{Accepted, Refused}
 use Rattle.finding.specs.Finding.{header_of}
 use Rattle.entries.specs.Answers.{LookupOutcome, entry_of}
 use Rattle.entries.specs.Halves.{ValueOutcome, CommentOutcome, value_numbered, comment_numbered}
 use Rattle.listing.specs.declared.Listing.{Listing}
 use Rattle.listing.specs.declared.Listed.{Listed}
+use Rattle.finding.specs.declared.Stop.{Stop}
 
 -- the places of the table, and the mark of a free one: no card has this number
 abbrev pub places : ℕ
@@ -39,9 +36,9 @@ name_of last = []
 name_of (refused f) = []
 
 -- the place, from k on, whose first card bears the name
-unfoldable pub place_in : List Role → List ℕ → List ℕ → ℕ → Place
-place_in roles name [] k = Nowhere
-place_in roles name (i ∷ is) k = cond (same (name_of (get_or roles i neutral)) name) (At k) (place_in roles name is (suc k))
+unfoldable pub place_in : List Role → List ℕ → List ℕ → ℕ → Option ℕ
+place_in roles name [] k = None
+place_in roles name (i ∷ is) k = cond (same (name_of (get_or roles i neutral)) name) (Some k) (place_in roles name is (suc k))
 
 -- card i as the last entry of the name at place k, which one card more bears then
 abbrev pub put_again : Table → ℕ → ℕ → Table
@@ -53,9 +50,9 @@ abbrev pub put_new : Table → ℕ → Table
 put_new t i = record { first = t.first ++ i ∷ []; last = t.last ++ i ∷ []; times = t.times ++ 1 ∷ [] }
 
 -- of equal names the last entry counts, at the first one's place; a new name takes the next place: there is one for each card
-abbrev pub put : Place → ℕ → Table → Table
-put (At k) i t = put_again t k i
-put Nowhere i t = put_new t i
+abbrev pub put : Option ℕ → ℕ → Table → Table
+put (Some k) i t = put_again t k i
+put None i t = put_new t i
 
 abbrev pub put_role : List Role → Role → ℕ → Table → Table
 put_role roles (entry n v) i t = put (place_in roles n t.first 0) i t
@@ -70,7 +67,7 @@ list_from roles [] i t = t
 list_from roles (r ∷ rs) i t = list_from roles rs (suc i) (put_role roles r i t)
 
 -- the arrays: the table, then free marks, and no card bears the name of a free place
-abbrev pub tabled : Header → Table → Listing
+abbrev pub tabled : Result ℕ Stop → Table → Listing
 tabled x t =
     record {
       header = x;
@@ -80,9 +77,9 @@ tabled x t =
       count = length t.first;
     }
 
-abbrev pub by_header : Header → List Role → Listing
-by_header (Accepted end) roles = tabled (Accepted end) (list_from roles (take end roles) 0 empty)
-by_header (Refused s) roles = tabled (Refused s) empty
+abbrev pub by_header : Result ℕ Stop → List Role → Listing
+by_header (Ok end) roles = tabled (Ok end) (list_from roles (take end roles) 0 empty)
+by_header (Err s) roles = tabled (Err s) empty
 
 -- an answer, and the arrays beside it
 abbrev pub listing_by : Listed → List ℕ → List ℕ → List ℕ → Listing

@@ -1,4 +1,5 @@
 -- What reading a name comes to, by the tests of the code.
+use Rattle.std.specs.Prelude.{Ok}
 use Prim.Native.Nat.{ℕ, ◌/◌, ◌<◌, ◌≤◌}
 use native.Mathlib.Omega.{arith}
 use mathlib.Core.Path.{◌≡◌, sym, ap, ◌∙◌}
@@ -12,11 +13,10 @@ use Rattle.refusal.specs.Numbers.{fault_of}
 use Rattle.roles.specs.Roles.{Role, neutral}
 use Rattle.roles.specs.Cards.{role_no, roles_of, is_bad_length}
 use Rattle.roles.proofs.Cards.{role_count, role_is}
-use Rattle.naming.specs.declared.Named.TheVariants.{Bears}
 use Rattle.naming.specs.Naming.{naming_by, unnamed, name_written, name_by, name_at}
 
 -- ---- a name and its buffer
-pub fits : (own name : List ℕ) → length own ≤ length name → naming_by (Bears (length own)) (sets name 0 own) ≡ name_written own name
+pub fits : (own name : List ℕ) → length own ≤ length name → naming_by (Ok (length own)) (sets name 0 own) ≡ name_written own name
 unfolding name_written
 fits own name h = rw (le-leb (length own) (length name) h)
 

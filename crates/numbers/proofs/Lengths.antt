@@ -7,8 +7,8 @@ use mathlib.Core.List.{List, [], map}
 use lib.ListN.{length, length-map}
 use Rattle.text.specs.Bytes.{ascii, is_digit, d_to_e}
 use Rattle.text.specs.Trim.{trim_start}
-use Rattle.numbers.specs.declared.Exponent.{Exponent}
-use Rattle.numbers.specs.declared.Exponent.TheVariants.{Ten, Nothing}
+use Rattle.std.specs.Prelude.{None, Option, Some}
+use lib.IntN.{ℤ}
 use Rattle.numbers.specs.declared.Value.{Value}
 use Rattle.numbers.specs.declared.Value.TheVariants.{Integer, Float, Logical, String, Undefined, Invalid}
 use Rattle.numbers.specs.declared.Number.{Number}
@@ -44,12 +44,11 @@ integer-held s =
     let n = digits_value (unsigned s) in
     one_of (length s) (is_digits (unsigned s) && fits64 minus n) (whole_of (signed_of minus n)) (invalid s) (omega arith) (omega arith)
 
-with_held : (n : ℕ) (x : Exponent) (minus : Bool) (digits : List ℕ) (places : ℕ) (other : Number) → Held n other
+with_held : (n : ℕ) (x : Option ℤ) (minus : Bool) (digits : List ℕ) (places : ℕ) (other : Number) → Held n other
     → Held n (with_exponent x minus digits places other)
 unfolding scaled
-with_held n (Ten negative e) minus digits places other h =
-    one_of n (is_empty digits) other (scaled minus digits places (signed_of negative e)) h (omega arith)
-with_held n Nothing minus digits places other h = h
+with_held n (Some e) minus digits places other h = one_of n (is_empty digits) other (scaled minus digits places e) h (omega arith)
+with_held n None minus digits places other h = h
 
 decimal-held : (s : List ℕ) → Held (length s) (decimal_of s)
 unfolding decimal_of finite_of

@@ -1,8 +1,10 @@
 -- Laws that several proofs cite, and what the decimal record is worth.
-pub mod Fronts
-pub mod Signing
 pub mod Valuing
+pub mod Altering
+pub mod Capping
 pub mod Scaling
-pub mod Reading
+pub mod Words
 pub mod Worth
 pub mod Lengths
+pub mod Reading
+pub mod Fronts

@@ -1,83 +1,44 @@
 -- What the definitions answer, by what was found on the way.
+use Rattle.std.specs.Prelude.{None, Option, Some}
+use Rattle.std.specs.Int.RustNames.{unsigned_abs}
 use Prim.Native.Char.{code}
-use Prim.Native.Nat.{ℕ, ◌+◌, ◌^◌, ◌≤◌, min}
+use Prim.Native.Nat.{ℕ, zero, suc, ◌≤◌, min}
 use native.Mathlib.Omega.{arith}
-use mathlib.Core.Path.{◌≡◌, refl, ap, subst, ◌∙◌}
+use mathlib.Core.Path.{◌≡◌, refl, ap, ap₂, subst, ◌∙◌}
 use mathlib.Core.Bool.{Bool, true, false, cond}
-use mathlib.Core.List.{List, [], ◌∷◌, map}
-use borrow.Author.Tests.{leb-true, leb-false, ltb-true, ltb-false, lt-leb, le-ltb}
+use mathlib.Core.List.{List, [], ◌∷◌, ◌++◌, map}
 use lib.Dec.{eqb}
-use lib.ListN.{length, length-append}
+use lib.IntN.{ℤ}
+use lib.ListN.{length, take, length-append}
+use lib.Seq.{take_all}
+use Rattle.text.specs.declared.Text.{Text}
+use Rattle.text.specs.Text.{size, text_of, bytes_of}
 use Rattle.text.specs.Bytes.{ascii, is_digit, d_to_e}
 use Rattle.text.specs.Trim.{leading, trim_start}
-use Rattle.text.proofs.Trimming.{leading_length}
+use Rattle.text.proofs.Trimming.{leading_length, start_shorter}
+use Rattle.text.proofs.Texts.{bytes-text}
 use Rattle.numbers.specs.declared.Size.TheVariants.{Infinite, Nan}
-use Rattle.numbers.specs.declared.Exponent.{Exponent}
-use Rattle.numbers.specs.declared.Exponent.TheVariants.{Ten, Nothing}
 use Rattle.numbers.specs.declared.Number.{Number}
-use Rattle.numbers.specs.Signs.{is_negative, unsigned, signed_of, fits64}
+use Rattle.numbers.specs.Signs.{is_negative, unsigned, signed_of}
 use Rattle.numbers.specs.Digits.{is_empty, is_digits, digits_value}
-use Rattle.numbers.specs.Answers.{whole_of, decimal_number, invalid, is_read}
+use Rattle.numbers.specs.Answers.{whole_of, decimal_number, invalid}
 use Rattle.numbers.specs.Integers.{integer_of}
 use Rattle.numbers.specs.Decimals.{is_word, is_mark, max_exponent, written_of, exponent_of, fraction_of, after_fraction, digits_of}
 use Rattle.numbers.specs.Decimals.{scaled, finite_of, decimal_of}
 use Rattle.numbers.specs.Numbers.{read_number}
 
--- ---- sizes read up to a cap
+-- ---- an exponent's size is at most the largest
 
--- the cap: it fits neither sign
-abbrev pub beyond : ℕ
-beyond = 2 ^ 63 + 1
+signed_abs : (minus : Bool) (n : ℕ) → unsigned_abs (signed_of minus n) ≡ n
+signed_abs true zero = refl
+signed_abs true (suc n) = refl
+signed_abs false n = refl
 
--- a size that fits is not capped
-uncapped : (minus : Bool) (n : ℕ) → fits64 minus (min n beyond) ≡ true → min n beyond ≡ n
-uncapped true n h = omega (arith, leb-true (min n beyond) (2 ^ 63) h)
-uncapped false n h = omega (arith, ltb-true (min n beyond) (2 ^ 63) h)
+abbrev Small : Option ℤ → Type 0
+Small (Some z) = unsigned_abs z ≤ max_exponent
+Small None = Unit {0}
 
--- a capped size that does not fit stands for one that does not
-unfit : (minus : Bool) (n : ℕ) → fits64 minus (min n beyond) ≡ false → fits64 minus n ≡ false
-unfit true n h = lt-leb n (2 ^ 63) (omega (arith, leb-false (min n beyond) (2 ^ 63) h))
-unfit false n h = le-ltb n (2 ^ 63) (omega (arith, ltb-false (min n beyond) (2 ^ 63) h))
-
--- ---- integers and exponents
-
-module _ (s : List ℕ) where
-  -- not digits alone
-  pub integer-none : is_digits (unsigned s) ≡ false → invalid s ≡ integer_of s
-  unfolding integer_of
-  integer-none e = rw e
-
-  -- digits alone, and their size fits
-  pub integer-fits : is_digits (unsigned s) ≡ true
-      → let n = min (digits_value (unsigned s)) beyond in
-      fits64 (is_negative s) n ≡ true → whole_of (signed_of (is_negative s) n) ≡ integer_of s
-  unfolding integer_of
-  integer-fits d h =
-      let n = digits_value (unsigned s) in
-      let same = uncapped (is_negative s) n h in
-      ap (λ (m : ℕ). whole_of (signed_of (is_negative s) m)) same ∙ rw (d, rw same at h)
-
-  -- digits alone, and their size does not fit
-  pub integer_beyond : is_digits (unsigned s) ≡ true → fits64 (is_negative s) (min (digits_value (unsigned s)) beyond) ≡ false
-      → invalid s ≡ integer_of s
-  unfolding integer_of
-  integer_beyond d h = rw (d, unfit (is_negative s) (digits_value (unsigned s)) h)
-
-  -- behind the letter stand digits, or something else
-  pub written-some : is_digits (unsigned s) ≡ true → Ten (is_negative s) (min (digits_value (unsigned s)) max_exponent) ≡ written_of s
-  unfolding written_of
-  written-some e = rw e
-
-  pub written_none : is_digits (unsigned s) ≡ false → Nothing ≡ written_of s
-  unfolding written_of
-  written_none e = rw e
-
--- an exponent's size is at most the largest
-abbrev Small : Exponent → Type 0
-Small (Ten negative e) = e ≤ max_exponent
-Small Nothing = Unit {0}
-
-small_cond : (t : Bool) (x : Exponent) → Small x → Small (cond t x Nothing)
+small_cond : (t : Bool) (x : Option ℤ) → Small x → Small (cond t x None)
 small_cond true x h = h
 small_cond false x h = tt
 
@@ -85,20 +46,20 @@ small_exponent : (s : List ℕ) → Small (exponent_of s)
 unfolding exponent_of written_of
 small_exponent [] = omega arith
 small_exponent (b ∷ s) =
-    small_cond (is_mark b) (written_of s)
-    (small_cond (is_digits (unsigned s)) (Ten (is_negative s) (min (digits_value (unsigned s)) max_exponent)) (omega arith))
+    let n = min (digits_value (unsigned s)) max_exponent in
+    let few : unsigned_abs (signed_of (is_negative s) n) ≤ max_exponent = rw (signed_abs (is_negative s) n) (omega arith) in
+    small_cond (is_mark b) (written_of s) (small_cond (is_digits (unsigned s)) (Some (signed_of (is_negative s) n)) few)
 
-pub exponent_small : (s : List ℕ) (negative : Bool) (e : ℕ) → exponent_of s ≡ Ten negative e → e ≤ max_exponent
-exponent_small s negative e h = subst Small h (small_exponent s)
+pub exponent_small : (s : List ℕ) (z : ℤ) → exponent_of s ≡ Some z → unsigned_abs z ≤ max_exponent
+exponent_small s z h = subst Small h (small_exponent s)
 
 -- ---- finite decimals
 
--- no digits, or some
-pub empty-is : (s : List ℕ) → length s ≡ 0 → is_empty s ≡ true
+empty-is : (s : List ℕ) → length s ≡ 0 → is_empty s ≡ true
 empty-is [] h = refl
 empty-is (b ∷ s) h = absurd (omega arith)
 
-pub empty-not : (s : List ℕ) → (length s ≡ 0 → ⊥) → is_empty s ≡ false
+empty-not : (s : List ℕ) → (length s ≡ 0 → ⊥) → is_empty s ≡ false
 empty-not [] h = absurd (h refl)
 empty-not (b ∷ s) h = refl
 
@@ -112,63 +73,74 @@ fraction_shorter (b ∷ s) = by (eqb b (code "."))
     by true = omega (arith, leading_length is_digit s)
     by false = omega arith
 
-pub digits_fit : (s : List ℕ) → length (leading is_digit s) + length (fraction_of (trim_start is_digit s)) ≤ length s
-digits_fit s = omega (arith, leading_length is_digit s, fraction_shorter (trim_start is_digit s))
+-- the text s, what stands behind its digits, and the digits behind the point there
+module _ (s rest fraction : List ℕ) (r : rest ≡ trim_start is_digit s) (f : fraction ≡ fraction_of rest) where
+  pub fraction_few : length s ≤ size → length fraction ≤ size
+  fraction_few h = omega (arith, ap length r, ap length f, start_shorter is_digit s, fraction_shorter rest)
 
-pub digits-short : (s : List ℕ) → length (digits_of s) ≤ length s
-digits-short s = rw (length-append (leading is_digit s) (fraction_of (trim_start is_digit s))) (digits_fit s)
+  fits : length s ≤ size → length (leading is_digit s ++ fraction) ≤ size
+  fits h =
+      rw (length-append (leading is_digit s) fraction)
+      (omega (arith, ap length r, ap length f, leading_length is_digit s, fraction_shorter rest))
 
-module _ (minus : Bool) (s : List ℕ) (other : Number) where
-  -- no exponent follows the digits
-  pub finite-none : exponent_of (after_fraction (trim_start is_digit s)) ≡ Nothing → other ≡ finite_of minus s other
-  unfolding finite_of
-  finite-none x = rw x
+  all : leading is_digit s ++ fraction ≡ digits_of s
+  all = ap (λ (d : List ℕ). leading is_digit s ++ d) (f ∙ ap fraction_of r)
 
-  module _ (negative : Bool) (e : ℕ) (x : exponent_of (after_fraction (trim_start is_digit s)) ≡ Ten negative e) where
-    -- an exponent, and no digits
-    pub finite-empty : length (digits_of s) ≡ 0 → other ≡ finite_of minus s other
+  module _ (minus : Bool) (other : Number) where
+    -- no exponent follows the digits
+    pub finite-none : exponent_of (after_fraction rest) ≡ None → other ≡ finite_of minus s other
     unfolding finite_of
-    finite-empty h = rw (x, empty-is (digits_of s) h)
+    finite-none x = rw (rw r at x)
 
-    -- an exponent and digits
-    pub finite-some : (length (digits_of s) ≡ 0 → ⊥)
-        → scaled minus (digits_of s) (length (fraction_of (trim_start is_digit s))) (signed_of negative e) ≡ finite_of minus s other
-    unfolding finite_of
-    finite-some h = rw (x, empty-not (digits_of s) h)
+    -- an exponent, and the digits as a text
+    module _ (z : ℤ) (x : exponent_of (after_fraction rest) ≡ Some z) (h : length s ≤ size) (l : List ℕ) (front : l ≡ leading is_digit s)
+        (t : Text) (held : t ≡ text_of (take size (l ++ fraction))) where
+      digits : bytes_of t ≡ digits_of s
+      digits =
+          ap bytes_of held
+          ∙ bytes-text (take size (l ++ fraction))
+          ∙ ap (λ (d : List ℕ). take size (d ++ fraction)) front
+          ∙ take_all size (leading is_digit s ++ fraction) (fits h)
+          ∙ all
 
--- ---- decimals and the tries
+      pub finite-empty : length (bytes_of t) ≡ 0 → other ≡ finite_of minus s other
+      unfolding finite_of
+      finite-empty none = rw (rw r at x, empty-is (digits_of s) (rw digits at none))
 
-module _ (s : List ℕ) where
-  -- the word that stands after the sign, or none
-  pub decimal_inf : is_word (ascii "inf") (unsigned s) ≡ true → decimal_number (is_negative s) Infinite [] ≡ decimal_of s
+      pub finite-some : (length (bytes_of t) ≡ 0 → ⊥) → scaled minus (bytes_of t) (length fraction) z ≡ finite_of minus s other
+      unfolding finite_of
+      finite-some some =
+          rw (rw r at x, empty-not (digits_of s) (rw digits at some))
+          (ap₂ (λ (d e : List ℕ). scaled minus d (length e) z) digits (f ∙ ap fraction_of r))
+
+-- ---- decimals: what stands behind the sign of w
+
+module _ (w t : List ℕ) (sign : t ≡ unsigned w) where
+  pub decimal_inf : is_word (ascii "inf") t ≡ true → decimal_number (is_negative w) Infinite [] ≡ decimal_of w
   unfolding decimal_of
-  decimal_inf e = rw e
+  decimal_inf e = rw (rw sign at e)
 
-  pub decimal_infinity : is_word (ascii "inf") (unsigned s) ≡ false → is_word (ascii "infinity") (unsigned s) ≡ true
-      → decimal_number (is_negative s) Infinite [] ≡ decimal_of s
+  pub decimal_infinity : is_word (ascii "inf") t ≡ false → is_word (ascii "infinity") t ≡ true
+      → decimal_number (is_negative w) Infinite [] ≡ decimal_of w
   unfolding decimal_of
-  decimal_infinity d e = rw (d, e)
+  decimal_infinity d e = rw (rw sign at d, rw sign at e)
 
-  module _ (no-inf : is_word (ascii "inf") (unsigned s) ≡ false) (no-infinity : is_word (ascii "infinity") (unsigned s) ≡ false) where
-    pub decimal_nan : is_word (ascii "nan") (unsigned s) ≡ true → decimal_number (is_negative s) Nan [] ≡ decimal_of s
+  module _ (no-inf : is_word (ascii "inf") t ≡ false) (no-infinity : is_word (ascii "infinity") t ≡ false) where
+    pub decimal_nan : is_word (ascii "nan") t ≡ true → decimal_number (is_negative w) Nan [] ≡ decimal_of w
     unfolding decimal_of
-    decimal_nan e = rw (no-inf, no-infinity, e)
+    decimal_nan e = rw (rw sign at no-inf, rw sign at no-infinity, rw sign at e)
 
-    pub decimal-finite : is_word (ascii "nan") (unsigned s) ≡ false
-        → finite_of (is_negative s) (unsigned s) (invalid s) ≡ decimal_of s
+    pub decimal-finite : is_word (ascii "nan") t ≡ false → finite_of (is_negative w) (unsigned w) (invalid w) ≡ decimal_of w
     unfolding decimal_of
-    decimal-finite e = rw (no-inf, no-infinity, e)
+    decimal-finite e = rw (rw sign at no-inf, rw sign at no-infinity, rw sign at e)
 
-  -- the first try that reads something, or the last
-  pub first_try : is_read (integer_of s).value ≡ true → integer_of s ≡ read_number s
-  unfolding read_number
-  first_try e = rw e
+-- ---- the tries
 
-  pub second_try : is_read (integer_of s).value ≡ false → is_read (decimal_of s).value ≡ true → decimal_of s ≡ read_number s
+module _ (w : List ℕ) where
+  pub first_try : (z : ℤ) → whole_of z ≡ integer_of w → whole_of z ≡ read_number w
   unfolding read_number
-  second_try d e = rw (d, e)
+  first_try z e = rw (← e)
 
-  pub third_try : is_read (integer_of s).value ≡ false → is_read (decimal_of s).value ≡ false
-      → decimal_of (map d_to_e s) ≡ read_number s
-  unfolding read_number
-  third_try d e = rw (d, e)
+-- a text with every D made an E
+pub altered : (t : Text) (s w : List ℕ) → s ≡ w → length s ≤ size → t ≡ text_of (map d_to_e (take size s)) → t ≡ text_of (map d_to_e w)
+altered t s w e h held = held ∙ ap (λ (l : List ℕ). text_of (map d_to_e l)) (take_all size s h ∙ e)

@@ -1,30 +1,25 @@
 -- The value of digits, up to a cap.
-use Prim.Native.Nat.{ℕ, ◌+◌, ◌*◌, ◌<◌, ◌≤◌, min}
+use Rattle.std.specs.List.{fold}
+use Prim.Native.Nat.{ℕ, ◌+◌, ◌*◌, ◌-◌, ◌^◌, ◌<◌, min}
 use native.Mathlib.Omega.{arith}
-use mathlib.Core.Path.{◌≡◌, sym, ap, ◌∙◌}
+use mathlib.Core.Path.{◌≡◌, refl, ap, ◌∙◌}
 use mathlib.Core.List.{List, [], ◌∷◌}
-use lib.ListN.{length, drop, get_or, drop_of_length-le}
-use Rattle.text.proofs.Trimming.{at_next}
-use Rattle.numbers.specs.Digits.{digit_of, digits_value_from}
+use Rattle.numbers.specs.Digits.{digit_of, digits_value_from, digits_value}
 
--- what is capped on the way is capped in the end
-pub capped : (cap n : ℕ) (s : List ℕ) → min (digits_value_from (min n cap) s) cap ≡ min (digits_value_from n s) cap
-unfolding digits_value_from
-capped cap n [] = omega arith
-capped cap n (b ∷ s) =
-    let d = digit_of b in
-    let same : min (min n cap * 10 + d) cap ≡ min (n * 10 + d) cap = omega arith in
-    sym (capped cap (min n cap * 10 + d) s) ∙ ap (λ (m : ℕ). min (digits_value_from m s) cap) same ∙ capped cap (n * 10 + d) s
+-- one digit more, as 64 bits hold it
+abbrev pub extended : ℕ → ℕ → ℕ → ℕ
+extended cap n b = min (min (min (n * 10) (2 ^ 64 - 1) + digit_of b) (2 ^ 64 - 1)) cap
 
--- the digits from i on, behind the value n
-pub value_step : (s : List ℕ) (i cap n : ℕ) → i < length s
-    → min (digits_value_from (min (n * 10 + digit_of (get_or s i 0)) cap) (drop (i + 1) s)) cap ≡ min (digits_value_from n (drop i s)) cap
-unfolding digits_value_from
-value_step s i cap n h =
-    capped cap (n * 10 + digit_of (get_or s i 0)) (drop (i + 1) s)
-    ∙ sym (ap (λ (t : List ℕ). min (digits_value_from n t) cap) (at_next s i h))
+module _ (cap : ℕ) (small : cap < 2 ^ 64) where
+  -- what is capped on the way is capped in the end
+  folded_from : (n : ℕ) (s : List ℕ) → fold (extended cap) (min n cap) s ≡ min (digits_value_from n s) cap
+  unfolding digits_value_from
+  folded_from n [] = refl
+  folded_from n (b ∷ s) =
+      let next : extended cap (min n cap) b ≡ min (n * 10 + digit_of b) cap = omega arith in
+      ap (λ (m : ℕ). fold (extended cap) m s) next ∙ folded_from (n * 10 + digit_of b) s
 
--- no digits are left
-pub value-end : (s : List ℕ) (i cap n : ℕ) → length s ≤ i → n ≤ cap → n ≡ min (digits_value_from n (drop i s)) cap
-unfolding digits_value_from
-value-end s i cap n h small = rw (drop_of_length-le s h) (omega arith)
+  pub folded : (s : List ℕ) → fold (extended cap) 0 s ≡ min (digits_value s) cap
+  folded s =
+      let none : 0 ≡ min 0 cap = omega arith in
+      ap (λ (m : ℕ). fold (extended cap) m s) none ∙ folded_from 0 s

@@ -1,13 +1,11 @@
 -- Decimals (SPECIFICATION 7; FITS Standard 4.2.4): digits with at most one point and perhaps an exponent, or a word.
 use Prim.Native.Char.{code}
-use Rattle.std.specs.Prelude.{ℕ, ◌+◌, ◌-◌, min, Bool, false, cond, ◌&&◌, ◌||◌, List}
-use Rattle.std.specs.Prelude.{[], ◌∷◌, ◌++◌, map, eqb, leb, ℤ, pos, ◌+ℤ◌, ◌-ℤ◌, length}
+use Rattle.std.specs.Prelude.{ℕ, ◌+◌, ◌-◌, min, Bool, cond, ◌&&◌, ◌||◌, List}
+use Rattle.std.specs.Prelude.{[], ◌∷◌, ◌++◌, map, eqb, leb, ℤ, pos, ◌+ℤ◌, ◌-ℤ◌, length, Option, Some, None}
 use Rattle.text.specs.Bytes.{ascii, is_digit, is_zero}
 use Rattle.text.specs.Same.{same}
 use Rattle.text.specs.Trim.{leading, trim_start, trim_end}
 use Rattle.numbers.specs.declared.Size.TheVariants.{Finite, Infinite, Nan}
-use Rattle.numbers.specs.declared.Exponent.{Exponent}
-use Rattle.numbers.specs.declared.Exponent.TheVariants.{Ten, Nothing}
 use Rattle.numbers.specs.declared.Number.{Number}
 use Rattle.numbers.specs.Signs.{is_negative, unsigned, signed_of}
 use Rattle.numbers.specs.Digits.{is_empty, is_digits, digits_value}
@@ -40,13 +38,13 @@ abbrev pub max_exponent : ℕ
 max_exponent = 99999
 
 -- what stands behind the letter
-unfoldable pub written_of : List ℕ → Exponent
-written_of s = cond (is_digits (unsigned s)) (Ten (is_negative s) (min (digits_value (unsigned s)) max_exponent)) Nothing
+unfoldable pub written_of : List ℕ → Option ℤ
+written_of s = cond (is_digits (unsigned s)) (Some (signed_of (is_negative s) (min (digits_value (unsigned s)) max_exponent))) None
 
 -- what follows the digits: no text is the exponent 0
-unfoldable pub exponent_of : List ℕ → Exponent
-exponent_of [] = Ten false 0
-exponent_of (b ∷ s) = cond (is_mark b) (written_of s) Nothing
+unfoldable pub exponent_of : List ℕ → Option ℤ
+exponent_of [] = Some (pos 0)
+exponent_of (b ∷ s) = cond (is_mark b) (written_of s) None
 
 -- ---- the decimal record
 
@@ -64,10 +62,9 @@ scaled minus digits places exponent =
     decimal_number minus (Finite (power_of significant (exponent -ℤ pos places +ℤ pos zeros))) significant
 
 -- at least one digit, and an exponent that is none or well written; or else another answer
-abbrev pub with_exponent : Exponent → Bool → List ℕ → ℕ → Number → Number
-with_exponent Nothing minus digits places other = other
-with_exponent (Ten negative e) minus digits places other =
-    cond (is_empty digits) other (scaled minus digits places (signed_of negative e))
+abbrev pub with_exponent : Option ℤ → Bool → List ℕ → ℕ → Number → Number
+with_exponent None minus digits places other = other
+with_exponent (Some e) minus digits places other = cond (is_empty digits) other (scaled minus digits places e)
 
 -- a text without its sign as a finite decimal_number, or else another answer
 unfoldable pub finite_of : Bool → List ℕ → Number → Number

@@ -1,5 +1,11 @@
 -- One answer: refusals and their words, bytes, bytes made visible, numbers, one card.
 use mathlib.Core.Path.{sym, ◌∙◌}
+use denote.RattleType.{RattleType}
+use denote.Param.Laws.{Laws, IsCopy}
+use mir.Syntax.{Dict}
+use Rattle.std.specs.declared.clone.Clone as Clone
+use Rattle.text.specs.declared.ByteClass as ByteClass
+use Rattle.text.specs.declared.ByteChange as ByteChange
 use Rattle.escaping.specs.Escaping.{escape_outcome}
 use Rattle.one_answer.specs.OneAnswer.{OneAnswer, pair_of}
 use Rattle.one_answer.proofs.Both.{both}
@@ -7,8 +13,10 @@ use Rattle.refusal.proofs.Refusal.number.Reads as refusal-number-reads
 use Rattle.refusal.proofs.Fault.number.Reads as fault-number-reads
 use Rattle.refusal.proofs.fault_of.Reads as fault-of-reads
 use Rattle.refusal.proofs.fault_at.Reads as fault-at-reads
+use Rattle.text.proofs.Text.as_slice.Reads as as-slice-reads
 use Rattle.text.proofs.is_blank.Reads as is-blank-reads
 use Rattle.text.proofs.is_printable.Reads as is-printable-reads
+use Rattle.text.proofs.every.Reads as every-reads
 use Rattle.text.proofs.are_printable.Reads as are-printable-reads
 use Rattle.text.proofs.is_digit.Reads as is-digit-reads
 use Rattle.text.proofs.replaced.Reads as replaced-reads
@@ -57,6 +65,10 @@ fault_of_lem κs a r q s t x y = x ∙ sym y
 pub fault_at_lem : OneAnswer fault-at-reads.Post (λ r s. r)
 fault_at_lem κs a r q s t x y = x ∙ sym y
 
+-- `text::Text::as_slice`
+pub as_slice_lem : OneAnswer as-slice-reads.Post (λ r s. r.now)
+as_slice_lem κs a r q s t x y = x.0 ∙ sym y.0
+
 -- `text::is_blank`
 pub is_blank_lem : OneAnswer is-blank-reads.Post (λ r s. r)
 is_blank_lem κs a r q s t x y = x ∙ sym y
@@ -64,6 +76,11 @@ is_blank_lem κs a r q s t x y = x ∙ sym y
 -- `text::is_printable`
 pub is_printable_lem : OneAnswer is-printable-reads.Post (λ r s. r)
 is_printable_lem κs a r q s t x y = x ∙ sym y
+
+-- `text::every`
+pub every : (T : RattleType) (L : Laws T) (copy : IsCopy T) (class : ByteClass.Ghosts T.Denot) (d : Dict)
+    (clone : Clone.Ghosts T.Denot) (e : Dict) → OneAnswer (every-reads.Post T L copy class d clone e) (λ r s. r)
+every T L copy class d clone e κs a r q s t x y = x ∙ sym y
 
 -- `text::are_printable`
 pub are_printable_lem : OneAnswer are-printable-reads.Post (λ r s. r)
@@ -78,20 +95,24 @@ pub replaced : OneAnswer replaced-reads.Post (λ r s. r)
 replaced κs a r q s t x y = x ∙ sym y
 
 -- `text::trim_start`
-pub trim_start : OneAnswer trim-start-reads.Post (λ r s. r.now)
-trim_start κs a r q s t x y = x ∙ sym y
+pub trim_start : (T : RattleType) (L : Laws T) (copy : IsCopy T) (class : ByteClass.Ghosts T.Denot) (d : Dict)
+    (clone : Clone.Ghosts T.Denot) (e : Dict) → OneAnswer (trim-start-reads.Post T L copy class d clone e) (λ r s. r.now)
+trim_start T L copy class d clone e κs a r q s t x y = x ∙ sym y
 
 -- `text::leading_of`
-pub leading_of_lem : OneAnswer leading-of-reads.Post (λ r s. r.now)
-leading_of_lem κs a r q s t x y = x ∙ sym y
+pub leading_of_lem : (T : RattleType) (L : Laws T) (copy : IsCopy T) (class : ByteClass.Ghosts T.Denot) (d : Dict)
+    (clone : Clone.Ghosts T.Denot) (e : Dict) → OneAnswer (leading-of-reads.Post T L copy class d clone e) (λ r s. r.now)
+leading_of_lem T L copy class d clone e κs a r q s t x y = x ∙ sym y
 
 -- `text::trim_end`
-pub trim_end : OneAnswer trim-end-reads.Post (λ r s. r.now)
-trim_end κs a r q s t x y = x ∙ sym y
+pub trim_end : (T : RattleType) (L : Laws T) (copy : IsCopy T) (class : ByteClass.Ghosts T.Denot) (d : Dict)
+    (clone : Clone.Ghosts T.Denot) (e : Dict) → OneAnswer (trim-end-reads.Post T L copy class d clone e) (λ r s. r.now)
+trim_end T L copy class d clone e κs a r q s t x y = x ∙ sym y
 
 -- `text::trimmed`
-pub trimmed : OneAnswer trimmed-reads.Post (λ r s. r.now)
-trimmed κs a r q s t x y = x ∙ sym y
+pub trimmed : (T : RattleType) (L : Laws T) (copy : IsCopy T) (class : ByteClass.Ghosts T.Denot) (d : Dict)
+    (clone : Clone.Ghosts T.Denot) (e : Dict) → OneAnswer (trimmed-reads.Post T L copy class d clone e) (λ r s. r.now)
+trimmed T L copy class d clone e κs a r q s t x y = x ∙ sym y
 
 -- `text::first_of`
 pub first_of : OneAnswer first-of-reads.Post (λ r s. r.now)
@@ -114,8 +135,9 @@ pub empty-text : OneAnswer empty-text-reads.Post (λ r s. r)
 empty-text κs a r q s t x y = x ∙ sym y
 
 -- `text::changed_text`
-pub changed_text_lem : OneAnswer changed-text-reads.Post (λ r s. r)
-changed_text_lem κs a r q s t x y = x ∙ sym y
+pub changed_text_lem : (T : RattleType) (L : Laws T) (copy : IsCopy T) (change : ByteChange.Ghosts T.Denot) (d : Dict)
+    (clone : Clone.Ghosts T.Denot) (e : Dict) → OneAnswer (changed-text-reads.Post T L copy change d clone e) (λ r s. r)
+changed_text_lem T L copy change d clone e κs a r q s t x y = x ∙ sym y
 
 -- `text::text_of`
 pub text_of_lem : OneAnswer text-of-reads.Post (λ r s. r)
@@ -186,5 +208,5 @@ pub class_of_lem : OneAnswer class-of-reads.Post (λ r s. r)
 class_of_lem κs a r q s t x y = x ∙ sym y
 
 -- `writing::write`
-pub write : OneAnswer write-reads.Post (λ r s. pair_of r s.1.1.1.1.1.0.now)
+pub write : OneAnswer write-reads.Post (λ r s. pair_of r s.1.1.1.1.0.now)
 write κs a r q s t x y = both (x.0 ∙ sym y.0) (x.1 ∙ sym y.1)

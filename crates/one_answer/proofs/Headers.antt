@@ -8,6 +8,7 @@ use Rattle.roles.proofs.is_bad_length.Reads as is-bad-length-reads
 use Rattle.roles.proofs.card_count.Reads as card-count-reads
 use Rattle.roles.proofs.card_at.Reads as card-at-reads
 use Rattle.roles.proofs.role_of.Reads as role-of-reads
+use Rattle.roles.proofs.role_told.Reads as role-told-reads
 use Rattle.finding.proofs.find.Reads as find-reads
 use Rattle.finding.proofs.read_header.Reads as read-header-reads
 use Rattle.finding.proofs.stop_at.Reads as stop-at-reads
@@ -36,6 +37,10 @@ card_at_lem κs a r q s t x y = x ∙ sym y
 -- `roles::role_of`
 pub role_of_lem : OneAnswer role-of-reads.Post (λ r s. r)
 role_of_lem κs a r q s t x y = x ∙ sym y
+
+-- `roles::role_told`
+pub role_told_lem : OneAnswer role-told-reads.Post (λ r s. r)
+role_told_lem κs a r q s t x y = x ∙ sym y
 
 -- `finding::find`
 pub find : OneAnswer find-reads.Post (λ r s. r)

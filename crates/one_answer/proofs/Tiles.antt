@@ -10,7 +10,7 @@ use Rattle.rice.proofs.Cursor.skip_zeros.Reads as cursor-skip-zeros-reads
 use Rattle.rice.proofs.Cursor.step.Reads as cursor-step-reads
 use Rattle.rice.proofs.decode.Reads as decode-reads
 use Rattle.reader.proofs.field_at.Reads as reader-field-at-reads
-use Rattle.reader.specs.declared.Field.{Field}
+use Rattle.std.specs.Prelude.{Option}
 use Rattle.reader.specs.Fields.{behind, field_of, zeros_of}
 
 -- `rice::open`
@@ -58,7 +58,7 @@ pub reader_place : (bit : ℕ) → OneAnswer {S = Holds}
 reader_place bit κs a r q s t x y = same_reader (x.0 ∙ sym y.0) (x.1 ∙ sym y.1)
 
 -- what `take_bits` and `skip_zeros` owe of the field f and of the reader s that they leave, where the field of the reader a is found
-abbrev Takes : (Holds → Field) → Unit {0} → Holds → Field → Holds → Type 0
+abbrev Takes : (Holds → Option (ℕ × ℕ)) → Unit {0} → Holds → Option (ℕ × ℕ) → Holds → Type 0
 Takes found κs a f s = (f ≡ found a) × (s.tile ≡ a.tile) × (s.bit ≡ behind a.bit (found a))
 
 -- `reader::take_bits`

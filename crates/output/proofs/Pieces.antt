@@ -1,24 +1,17 @@
 -- A text that is made visible piece by piece.
-use Prim.Native.Nat.{ℕ, zero, suc, ◌+◌, ◌-◌, ◌*◌, ◌≤◌}
+use Prim.Native.Nat.{ℕ, ◌+◌, ◌-◌, ◌*◌, ◌≤◌}
 use native.Mathlib.Omega.{arith}
 use mathlib.Core.Path.{◌≡◌, refl, sym, ap, subst, ◌∙◌}
 use mathlib.Core.Bool.{Bool, true, false}
 use mathlib.Core.List.{List, [], ◌∷◌, ◌++◌, append_assoc}
-use lib.ListN.{length, take, drop, length-append, length-take}
-use lib.Seq.{drop-drop}
+use lib.ListN.{length, take, length-append, length-take}
 use Rattle.text.specs.Bytes.{line_feed}
 use Rattle.text.specs.Ends.{stem}
 use Rattle.escaping.specs.Escaping.{escaped_byte, escaped}
 use Rattle.escaping.proofs.Showing.{byte-few}
-use Rattle.output.specs.declared.Printed.{Printed}
-use Rattle.output.specs.declared.Printed.TheVariants.{Whole}
+use Rattle.std.specs.Prelude.{Result, Ok}
+use Rattle.output.specs.declared.Cut.{Cut}
 use Rattle.output.specs.Shown.{printed_line, IsWhole}
-
--- the front of a list, and what follows as many elements
-pub parted : (n : ℕ) (l : List ℕ) → take n l ++ drop (length (take n l)) l ≡ l
-parted zero l = refl
-parted (suc n) [] = refl
-parted (suc n) (b ∷ l) = ap (λ (r : List ℕ). b ∷ r) (parted n l)
 
 -- two texts, one behind the other
 pub escaped-append : (s t : List ℕ) → escaped (s ++ t) ≡ escaped s ++ escaped t
@@ -33,17 +26,11 @@ unfolding escaped
 escaped-few [] = omega arith
 escaped-few (b ∷ s) = omega (arith, length-append (escaped_byte b) (escaped s), byte-few b, escaped-few s)
 
--- what is left of a text behind a place, counted with the piece there
-pub piece_counted : (s : List ℕ) (at n : ℕ)
-    → length (escaped (drop at s))
-    ≡ length (escaped (take n (drop at s))) + length (escaped (drop (at + length (take n (drop at s))) s))
-piece_counted s at n =
-    let l = drop at s in
-    let part = take n l in
-    sym (ap (λ (r : List ℕ). length (escaped r)) (parted n l))
-    ∙ ap length (escaped-append part (drop (length part) l))
-    ∙ length-append (escaped part) (escaped (drop (length part) l))
-    ∙ ap (λ (r : List ℕ). length (escaped part) + length (escaped r)) (drop-drop (length part) at s)
+-- what is left of a text, counted with the piece at its front
+pub piece_counted : (left part rest : List ℕ) → left ≡ part ++ rest
+    → length (escaped left) ≡ length (escaped part) + length (escaped rest)
+piece_counted left part rest e =
+    ap (λ (l : List ℕ). length (escaped l)) e ∙ ap length (escaped-append part rest) ∙ length-append (escaped part) (escaped rest)
 
 -- behind the last byte nothing is left
 pub nothing_left : length (escaped []) ≡ 0
@@ -51,8 +38,14 @@ unfolding escaped
 nothing_left = refl
 
 -- how many bytes a text has that was written whole
-pub counted : {r : Printed} {n : ℕ} (s : List ℕ) → r ≡ Whole n → IsWhole r s → n ≡ length s
-counted s e w = subst (λ (x : Printed). IsWhole x s) e w
+pub counted : {r : Result ℕ Cut} {n : ℕ} (s : List ℕ) → r ≡ Ok n → IsWhole r s → n ≡ length s
+counted s e w = subst (λ (x : Result ℕ Cut). IsWhole x s) e w
+
+-- how many bytes stand before a line's feed, where that part was made visible
+pub before_feed : {r : Result ℕ Cut} {n k : ℕ} {s : List ℕ} (line : List ℕ) → r ≡ Ok n → IsWhole r (escaped s) → s ≡ take k line
+    → k ≡ length line - 1 → n ≡ length (escaped (take (length line - 1) line))
+before_feed {s = s} line is whole part end =
+    counted (escaped s) is whole ∙ ap (λ (l : List ℕ). length (escaped l)) (part ∙ ap (λ (i : ℕ). take i line) end)
 
 -- a line that is shown is at most four times as long and a byte
 pub line-few : (t : Bool) (line : List ℕ) → length (printed_line t line) ≤ 4 * length line + 1

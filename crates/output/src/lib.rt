@@ -2,36 +2,35 @@
 // many bytes were handed on where no write failed.
 #![tactic(auto)]
 
-ghost use Rattle.std.specs.Prelude.{◌≡◌, ◌-◌};
+ghost use Rattle.std.specs.Prelude.{◌≡◌};
 ghost use Rattle.escaping.specs.Escaping.{escaped};
 ghost use Rattle.output.specs.Shown.{printed_line, IsWhole};
 
 use std::io::Write;
 
-// All bytes were taken, so many; or a write failed, and some may be missing.
+// A write failed, and some bytes may be missing.
 #[derive(Clone, Copy)]
-pub enum Printed {
-    Whole(usize),
-    Cut,
-}
+pub struct Cut;
+
+// So many bytes were taken, all that there are; or a write failed.
+pub type Printed = Result<usize, Cut>;
 
 // The longest text that is made visible. No line of a header is longer.
 const MOST_VISIBLE: usize = 65536;
 
-// Writes a text as it stands. A write that takes nothing has failed.
+// Writes a text as it stands. A write that takes nothing has failed. The writer says how far it comes, so that no range does.
 pub fn write(to: &mut impl Write, s: &[u8]) -> Printed
     ensures { IsWhole result s.now }
 {
     let mut done = 0;
     while done < s.len() {
-        let rest = text::rest_of(s, done);
-        let n = to.write(rest).unwrap_or(0);
+        let n = to.write(&s[done..]).unwrap_or(0);
         if n == 0 {
-            return Printed::Cut;
+            return Err(Cut);
         }
         done += n;
     }
-    Printed::Whole(done)
+    Ok(done)
 }
 
 // Writes a text made visible, piece by piece. One that is longer than 65,536 bytes is not written.
@@ -39,20 +38,16 @@ pub fn write_visibly(to: &mut impl Write, s: &[u8]) -> Printed
     ensures { IsWhole result (escaped s.now) }
 {
     if MOST_VISIBLE < s.len() {
-        return Printed::Cut;
+        return Err(Cut);
     }
     let mut piece = [0u8; 1024];
     let mut written = 0;
-    let mut at = 0;
-    while at < s.len() {
-        let made = escaping::escape(text::rest_of(s, at), &mut piece);
-        let Printed::Whole(n) = write(to, text::first_of(&piece, made.put)) else {
-            return Printed::Cut;
-        };
+    for part in s.chunks(256) {
+        let made = escaping::escape(part, &mut piece);
+        let n = write(to, text::first_of(&piece, made.put))?;
         written += n;
-        at += made.taken;
     }
-    Printed::Whole(written)
+    Ok(written)
 }
 
 // Writes a line, which ends in a line feed: as it stands, or made visible up to there. One that is longer than 65,536 bytes is not
@@ -64,21 +59,10 @@ pub fn write_line(to: &mut impl Write, line: &[u8], escaped: bool) -> Printed
         return write(to, line);
     }
     if MOST_VISIBLE < line.len() {
-        return Printed::Cut;
+        return Err(Cut);
     }
-    let Printed::Whole(n) = write_visibly(to, text::first_of(line, one_less(line.len()))) else {
-        return Printed::Cut;
-    };
-    let Printed::Whole(end) = write(to, b"\n") else {
-        return Printed::Cut;
-    };
+    let n = write_visibly(to, text::first_of(line, line.len().saturating_sub(1)))?;
+    let end = write(to, b"\n")?;
     let written = n + end;
-    Printed::Whole(written)
-}
-
-// A number less 1; 0 stays.
-fn one_less(n: usize) -> usize
-    ensures { result ≡ n - 1 }
-{
-    if n == 0 { 0 } else { n - 1 }
+    Ok(written)
 }

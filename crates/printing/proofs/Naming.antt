@@ -1,26 +1,26 @@
 -- The line of the name at a place: what is read there, and that it fits.
+use Rattle.std.specs.Prelude.{Ok, Err, Result, Option}
+use Rattle.std.proofs.lemmas.List.{get_or-map}
 use Prim.Native.Nat.{ℕ, zero, suc, ◌+◌, ◌/◌, ◌≤◌, ◌<◌}
 use native.Mathlib.Nat.{add_assoc}
 use native.Mathlib.Omega.{arith}
-use mathlib.Core.Path.{◌≡◌, sym, ap, ◌∙◌}
+use mathlib.Core.Path.{◌≡◌, sym, ap, subst, ◌∙◌}
 use mathlib.Core.List.{List, [], ◌∷◌, ◌++◌}
-use mathlib.Core.Option.{Option}
 use borrow.Author.Tests.{le-leb}
 use lib.ListN.{length, get_or, take, length-append, length-map}
-use lib.Seq.{sets, take-length, length-take-le}
+use lib.Seq.{sets, length-take-le}
+use Rattle.refusal.specs.declared.Fault.{Fault}
 use Rattle.text.specs.Text.{text_of, bytes_of}
 use Rattle.card.specs.declared.CardRead.{CardRead}
 use Rattle.card.specs.Cards.{card_of}
 use Rattle.roles.specs.declared.Role.{Role as Told}
 use Rattle.roles.specs.declared.Role.TheVariants as T
-use Rattle.roles.specs.Roles.{Held, Role, entry, neutral, role_by, role_in}
+use Rattle.roles.specs.Roles.{Held, Role, entry, neutral, role_by, role_in, role_read}
 use Rattle.roles.specs.Cards.{roles_of, card_no, card_at}
 use Rattle.roles.proofs.Cards.{role_count, role_is}
 use Rattle.roles.proofs.Counting.{card-here}
 use Rattle.joining.specs.Lookup.{lookup}
-use Rattle.finding.specs.declared.Header.TheVariants.{Accepted}
 use Rattle.finding.specs.Finding.{header_of}
-use Rattle.entries.specs.declared.LookupAnswer.TheVariants as L
 use Rattle.entries.specs.declared.ValueHalf.{ValueHalf}
 use Rattle.entries.specs.Halves.{Sought, held_in, value_left, value_in, value_numbered}
 use Rattle.entries.proofs.Looking.{accepted_good}
@@ -31,14 +31,14 @@ use Rattle.agreeing.specs.Firsts.{times_borne}
 use Rattle.agreeing.specs.Agreeing.{PlaceTaken, FoundIn, names_listed}
 use Rattle.agreeing.proofs.Agreed.{by_cards, sought_at_lem, each_taken, each_standing}
 use Rattle.agreeing.proofs.Times.{times-at_place}
-use Rattle.agreeing.proofs.Naming.{at_map, first-long, name_kth}
+use Rattle.agreeing.proofs.Naming.{first-long, name_kth}
 use Rattle.bounds.specs.Longest.{longest_text, Short}
 use Rattle.bounds.proofs.Joined.{each_short}
 use Rattle.printing.specs.Output.{line_for, name_lines, in_order}
 
 -- a value that was found
 abbrev pub half_of : Held → ValueHalf
-half_of v = record { answer = L.Found v.value; digits = text_of v.digits; text = length v.words.text }
+half_of v = record { answer = Ok v.value; digits = text_of v.digits; text = length v.words.text }
 
 -- ---- lines one behind the other
 pub in_order_next : (ls : List (List ℕ)) (k : ℕ) → k < length ls
@@ -56,16 +56,20 @@ in_order_next (l ∷ ls) (suc k) p =
     ∙ sym (add_assoc (length l) (length (in_order (take k ls))) (length (get_or ls k [])))
     ∙ ap (λ (n : ℕ). n + length (get_or ls k [])) (sym (length-append l (in_order (take k ls))))
 
-pub in_order_all : (ls : List (List ℕ)) (k : ℕ) → k ≡ length ls → in_order (take k ls) ≡ in_order ls
-in_order_all ls k e = ap (λ (n : ℕ). in_order (take n ls)) e ∙ ap in_order (take-length ls)
+-- ---- a card that is an entry is read, and bears its name
+abbrev pub BearsName : List ℕ → Result CardRead Fault → Type 0
+BearsName n (Ok r) = bytes_of r.name ≡ n
+BearsName n (Err f) = ⊥
 
--- ---- a card that is an entry bears its name
 entry_named : (t : Told) (r : CardRead) (n : List ℕ) (v : Held) → role_in t r ≡ entry n v → bytes_of r.name ≡ n
 entry_named (T.Entry w joins) r n v e = cc
 entry_named T.More r n v e = cc
 entry_named T.Neutral r n v e = cc
 entry_named T.Last r n v e = cc
-entry_named (T.Refused f) r n v e = cc
+
+entry_read : (a : Result CardRead Fault) (n : List ℕ) (v : Held) → role_read a ≡ entry n v → BearsName n a
+entry_read (Ok r) n v e = entry_named (role_by r.card) r n v e
+entry_read (Err f) n v e = absurd (let z : ◌≡◌ {A = ℕ} 0 1 = cc in omega arith)
 
 inside : (rs : List Role) (i : ℕ) (n : List ℕ) (v : Held) → get_or rs i neutral ≡ entry n v → i < length rs
 inside [] i n v e = absurd (let z : ◌≡◌ {A = ℕ} 0 1 = cc in omega arith)
@@ -73,14 +77,13 @@ inside (r ∷ rs) zero n v e = omega arith
 inside (r ∷ rs) (suc i) n v e = omega (arith, inside rs i n v e)
 
 card-named : (h : List ℕ) (i : ℕ) (n : List ℕ) (v : Held) → get_or (roles_of h) i neutral ≡ entry n v
-    → bytes_of (card_at h i).name ≡ n
+    → BearsName n (card_at h i)
 card-named h i n v e =
     let within : i < length h / 80 = omega (arith, inside (roles_of h) i n v e, role_count h) in
-    ap (λ (r : CardRead). bytes_of r.name) (card-here h i within)
-    ∙ entry_named (role_by (card_of (card_no h i)).answer) (card_of (card_no h i)) n v (sym (role_is h i within) ∙ e)
+    subst (BearsName n) (sym (card-here h i within)) (entry_read (card_of (card_no h i)) n v (sym (role_is h i within) ∙ e))
 
 -- ---- the name at place k of an accepted header
-module _ (h : List ℕ) (end : ℕ) (a : header_of h ≡ Accepted end) where
+module _ (h : List ℕ) (end : ℕ) (a : header_of h ≡ Ok end) where
   -- its arrays have a number for each name, and so a place
   pub last-long : (list_of h).count ≤ length (list_of h).last
   last-long = let all = all_places h in omega (arith, all.last, all.few)
@@ -120,7 +123,7 @@ module _ (h : List ℕ) (end : ℕ) (a : header_of h ≡ Accepted end) where
     short = each_short h name value (accepted_good h end a) found.is
 
     -- the place's first card bears the name
-    pub first-named : bytes_of (card_at h (get_or (list_of h).first k free)).name ≡ name
+    pub first-named : BearsName name (card_at h (get_or (list_of h).first k free))
     first-named = card-named h (get_or (list_of h).first k free) name taken.stands.held taken.stands.bears
 
     -- the value of the entry at its last card is read whole where the buffer is wide
@@ -137,7 +140,7 @@ module _ (h : List ℕ) (end : ℕ) (a : header_of h ≡ Accepted end) where
         ≡ entry_line name value.value value.digits value.words.text (times_borne name (roles_of h))
     line-is =
         let names-long : k < length (names_listed h) = omega (arith, p, as_many, length-map (names_listed h) lined) in
-        at_map lined (names_listed h) k [] [] names-long
+        get_or-map lined (names_listed h) k [] [] names-long
         ∙ ap lined (name_kth h end a name k taken.stands)
         ∙ ap (λ (o : Option Held). line_for name o (times_borne name (roles_of h))) found.is
 

@@ -1,17 +1,14 @@
 -- What is known where the names of a header are printed.
-use Rattle.std.specs.Prelude.{ℕ, ◌+◌, ◌≤◌, ◌≡◌, List, length, take}
-use Rattle.finding.specs.declared.Header.TheVariants.{Accepted}
+use Rattle.std.specs.Prelude.{ℕ, ◌+◌, ◌≤◌, ◌≡◌, List, length, take, None, Ok, Option, Some}
 use Rattle.finding.specs.Finding.{header_of}
 use Rattle.listing.specs.Listing.{list_of}
-use Rattle.lines.specs.declared.Line.{Line}
-use Rattle.lines.specs.declared.Line.TheVariants.{Written, Short}
 use Rattle.lines.specs.Lines.{line_room}
 use Rattle.bounds.specs.Longest.{longest_text}
 
 -- the header is accepted, and these are the first cards, the last entries and the numbers of its list
 pub record IsListed (h first last times : List ℕ) : Type 0 where
   pub end : ℕ
-  pub accepted : header_of h ≡ Accepted end
+  pub accepted : header_of h ≡ Ok end
   pub first-cards : first ≡ (list_of h).first
   pub last_entries : last ≡ (list_of h).last
   pub how_often : times ≡ (list_of h).times
@@ -28,6 +25,6 @@ pub record Front (n : ℕ) (out line : List ℕ) : Type 0 where
   pub few : n ≤ length out
 
 -- how many bytes a line has that was written
-abbrev pub length_of : Line → ℕ
-length_of (Written n) = n
-length_of Short = 0
+abbrev pub length_of : Option ℕ → ℕ
+length_of (Some n) = n
+length_of None = 0

@@ -11,20 +11,19 @@ ghost use Rattle.output.specs.Shown.{printed_line, IsWhole};
 ghost use Rattle.printing.specs.Output.{name_lines, in_order, printed_of};
 ghost use Rattle.printing.specs.Ready.{IsListed, IsWide, Front, length_of};
 
-use entries::LookupAnswer;
-use finding::{Header, Stop};
-use lines::Line;
+use finding::Stop;
 use output::Printed;
 use std::io::Write;
 
 // What became of a header: whether it is accepted, and whether its lines were written.
 #[derive(Clone, Copy)]
 pub struct Report {
-    pub header: Header,
+    pub header: Result<usize, Stop>,
     pub printed: Printed,
 }
 
-// Prints a header's lines to a writer, as they stand or made visible, and says how that went.
+// Prints a header's lines to a writer, as they stand or made visible, and says how that went. `escaped` is a bool, and no type or closure:
+// the program learns it as it runs, the public clauses of `printed_of` and `output::write_line` speak of it, and one loop serves both.
 pub fn print_header(to: &mut impl Write, header: &[u8], escaped: bool) -> Report
     ensures { (result.header ≡ header_of header.now)
         × IsWhole result.printed (printed_of escaped header.now) }
@@ -33,16 +32,13 @@ pub fn print_header(to: &mut impl Write, header: &[u8], escaped: bool) -> Report
     let mut last: [usize; 720] = [0; 720];
     let mut times: [usize; 720] = [0; 720];
     let listed = listing::list_over(header, &mut first, &mut last, &mut times);
-    let answer = listed.header;
-    match answer {
-        Header::Accepted(_) => Report {
-            header: answer,
-            printed: print_names(to, header, &first, &last, &times, listed.count, escaped),
-        },
-        Header::Refused(stop) => Report {
-            header: answer,
-            printed: print_refusal(to, stop, escaped),
-        },
+    let printed = match listed.header {
+        Ok(_) => print_names(to, header, &first, &last, &times, listed.count, escaped),
+        Err(stop) => print_refusal(to, stop, escaped),
+    };
+    Report {
+        header: listed.header,
+        printed,
     }
 }
 
@@ -55,7 +51,8 @@ fn print_refusal(to: &mut impl Write, stop: Stop, escaped: bool) -> Printed
     output::write_line(to, text::first_of(&line, n), escaped)
 }
 
-// The lines of the names in their order, then that of their count. The first write that fails ends it.
+// The lines of the names in their order, then that of their count. The first write that fails ends it. The arrays go on one by one, as
+// `list_over` is lent them: a struct of borrows would be made for this call alone, and taken apart in `name_part`.
 fn print_names<'a>(
     to: &mut impl Write,
     header: &[u8],
@@ -72,22 +69,14 @@ fn print_names<'a>(
     let mut text = [0u8; 51200];
     let mut line = [0u8; 52640];
     let mut printed = 0;
-    let mut k = 0;
-    while k < count {
+    for k in 0..count {
         let n = name_part(header, first, last, times, k, &mut text, &mut line);
-        let Printed::Whole(written) = output::write_line(to, text::first_of(&line, n), escaped)
-        else {
-            return Printed::Cut;
-        };
+        let written = output::write_line(to, text::first_of(&line, n), escaped)?;
         printed += written;
-        k += 1;
     }
     let n = count_part(count, &mut line);
-    let Printed::Whole(written) = output::write_line(to, text::first_of(&line, n), escaped) else {
-        return Printed::Cut;
-    };
-    let all = printed + written;
-    Printed::Whole(all)
+    let written = output::write_line(to, text::first_of(&line, n), escaped)?;
+    Ok(printed + written)
 }
 
 // ---- the lines, each at the front of a lent buffer, by their lengths
@@ -96,8 +85,7 @@ fn refused_part(stop: Stop, line: &mut [u8]) -> usize
     requires { line_room ≤ length line.old }
     ensures { Front result line.new (refused_line stop.fault stop.card) }
 {
-    let fault = stop.fault;
-    length_of(lines::refused_line(fault, stop.card, line))
+    length_of(lines::refused_line(stop.fault, stop.card, line))
 }
 
 fn count_part(count: usize, line: &mut [u8]) -> usize
@@ -121,24 +109,20 @@ fn name_part(
         × IsWide text.old line.old }
     ensures { Front result line.new (get_or (name_lines header.now) k []) }
 {
-    let card = roles::card_at(header, first[k]);
-    let looked = entries::value_at(header, last[k], text);
-    let answer = looked.answer;
-    let LookupAnswer::Found(value) = answer else {
+    let Ok(card) = roles::card_at(header, first[k]) else {
         return 0;
     };
-    let name = card.name;
-    let digits = looked.digits;
+    let looked = entries::value_at(header, last[k], text);
+    let Ok(value) = looked.answer else {
+        return 0;
+    };
     let shown = text::first_of(text, looked.text);
-    length_of(lines::entry_line(name, value, digits, shown, times[k], line))
+    length_of(lines::entry_line(card.name, value, looked.digits, shown, times[k], line))
 }
 
 // How many bytes a line has that was written.
-fn length_of(written: Line) -> usize
+fn length_of(written: Option<usize>) -> usize
     ensures { result ≡ length_of written }
 {
-    match written {
-        Line::Written(n) => n,
-        Line::Short => 0,
-    }
+    written.unwrap_or(0)
 }

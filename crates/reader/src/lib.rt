@@ -5,20 +5,13 @@
 ghost use Rattle.std.specs.Prelude.{◌≡◌};
 ghost use Rattle.reader.specs.Fields.{at_place, behind, field_of, zeros_of};
 
-use rice::{Cursor, Taken};
+use rice::Cursor;
 
 // The tile, and the place of the next bit.
 #[derive(Clone, Copy)]
 pub struct Reader<'a> {
     pub tile: &'a [u8],
     pub bit: usize,
-}
-
-// A number, and the place after it; or it cannot be had.
-#[derive(Clone, Copy)]
-pub enum Field {
-    Bits(u64, usize),
-    Short,
 }
 
 // A reader at the tile's first bit.
@@ -35,8 +28,9 @@ pub fn place<'a>(r: Reader<'a>, bit: usize) -> Reader<'a>
     Reader { tile: r.tile, bit }
 }
 
-// The next n bits, and the reader moves past them. Where they cannot be had it stays.
-pub fn take_bits<'s, 'a>(r: &'s mut Reader<'a>, n: usize) -> Field
+// The next n bits and the place after them, and the reader moves there. Where they cannot be had it stays. It and `skip_zeros` share no
+// function, nor do `bits_at` and `zeros_at`: what differs is the call, and a closure for it is no plainer than the two lines around it.
+pub fn take_bits<'s, 'a>(r: &'s mut Reader<'a>, n: usize) -> Option<(u64, usize)>
     ensures { (result ≡ field_of r.old.tile.now r.old.bit n)
         × (r.new.tile ≡ r.old.tile)
         × (r.new.bit ≡ behind r.old.bit (field_of r.old.tile.now r.old.bit n)) }
@@ -47,8 +41,8 @@ pub fn take_bits<'s, 'a>(r: &'s mut Reader<'a>, n: usize) -> Field
     field
 }
 
-// The number of zeros that come next, and the reader moves past them and the one after them. Where no one comes it stays.
-pub fn skip_zeros<'s, 'a>(r: &'s mut Reader<'a>) -> Field
+// The number of zeros that come next and the place after the one that ends them, and the reader moves there. Where no one comes it stays.
+pub fn skip_zeros<'s, 'a>(r: &'s mut Reader<'a>) -> Option<(u64, usize)>
     ensures { (result ≡ zeros_of r.old.tile.now r.old.bit)
         × (r.new.tile ≡ r.old.tile)
         × (r.new.bit ≡ behind r.old.bit (zeros_of r.old.tile.now r.old.bit)) }
@@ -60,7 +54,7 @@ pub fn skip_zeros<'s, 'a>(r: &'s mut Reader<'a>) -> Field
 }
 
 // The n bits from a place of a tile on, taken through a reader.
-pub fn field_at(tile: &[u8], bit: usize, n: usize) -> Field
+pub fn field_at(tile: &[u8], bit: usize, n: usize) -> Option<(u64, usize)>
     ensures { result ≡ field_of tile.now bit n }
 {
     let mut r = place(new(tile), bit);
@@ -68,13 +62,10 @@ pub fn field_at(tile: &[u8], bit: usize, n: usize) -> Field
 }
 
 // The place behind a field; the place where it was asked for if it cannot be had.
-fn past(bit: usize, field: Field) -> usize
+fn past(bit: usize, field: Option<(u64, usize)>) -> usize
     ensures { result ≡ behind bit field }
 {
-    match field {
-        Field::Bits(_, next) => next,
-        Field::Short => bit,
-    }
+    field.map_or(bit, |(_, next)| next)
 }
 
 // The cursor at a place.
@@ -89,21 +80,17 @@ fn at(bit: usize) -> Cursor
 }
 
 // The work of `take_bits`, by a cursor at the place.
-fn bits_at(tile: &[u8], bit: usize, n: usize) -> Field
+fn bits_at(tile: &[u8], bit: usize, n: usize) -> Option<(u64, usize)>
     ensures { result ≡ field_of tile.now bit n }
 {
-    match at(bit).take_bits(tile, n) {
-        Taken::Bits(u, next) => Field::Bits(u, next.bit),
-        Taken::Short => Field::Short,
-    }
+    let (u, next) = at(bit).take_bits(tile, n)?;
+    Some((u, next.bit))
 }
 
 // The work of `skip_zeros`, by a cursor at the place.
-fn zeros_at(tile: &[u8], bit: usize) -> Field
+fn zeros_at(tile: &[u8], bit: usize) -> Option<(u64, usize)>
     ensures { result ≡ zeros_of tile.now bit }
 {
-    match at(bit).skip_zeros(tile) {
-        Taken::Bits(n, next) => Field::Bits(n, next.bit),
-        Taken::Short => Field::Short,
-    }
+    let (zeros, next) = at(bit).skip_zeros(tile)?;
+    Some((zeros, next.bit))
 }

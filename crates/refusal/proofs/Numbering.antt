@@ -1,9 +1,9 @@
 -- Numbers and refusals are one to one.
+use Rattle.std.specs.Prelude.{Option, None, Some}
 use Prim.Native.Nat.{ℕ}
 use native.Mathlib.Omega.{arith}
 use mathlib.Core.Path.{◌≡◌, refl, sym, ap, ◌∙◌}
 use mathlib.Core.List.{List, [], ◌∷◌}
-use mathlib.Core.Option.{Option, none, some}
 use lib.ListN.{get_or}
 use Rattle.refusal.specs.declared.Refusal.{Refusal}
 use Rattle.refusal.specs.declared.Refusal.TheVariants.{HighByte, OddByte, StringNotClosed, StringNotOpened, Complex, NoEquals}
@@ -15,13 +15,13 @@ use Rattle.refusal.specs.Numbers.{number_of}
 -- the cases by their numbers: no case has the number 0 or 11
 abbrev table : List (Option Refusal)
 table =
-    none ∷ some HighByte ∷ some OddByte ∷ some StringNotClosed ∷ some StringNotOpened ∷ some Complex ∷ some NoEquals ∷ some NoName
-    ∷ some ExtensionNotQuoted ∷ some HeaderLength ∷ some NoEnd ∷ none ∷ some NameNotFound ∷ some BufferShort ∷ some Limits
-    ∷ some PixelCount ∷ some TileEnds ∷ some FsAboveTop ∷ some BadCursor ∷ some UnwritableName
-    ∷ some UnwritableValue ∷ some BlockShort ∷ []
+    None ∷ Some HighByte ∷ Some OddByte ∷ Some StringNotClosed ∷ Some StringNotOpened ∷ Some Complex ∷ Some NoEquals ∷ Some NoName
+    ∷ Some ExtensionNotQuoted ∷ Some HeaderLength ∷ Some NoEnd ∷ None ∷ Some NameNotFound ∷ Some BufferShort ∷ Some Limits
+    ∷ Some PixelCount ∷ Some TileEnds ∷ Some FsAboveTop ∷ Some BadCursor ∷ Some UnwritableName
+    ∷ Some UnwritableValue ∷ Some BlockShort ∷ []
 
 -- a refusal is the one with its number
-told : (r : Refusal) → get_or table (number_of r) none ≡ some r
+told : (r : Refusal) → get_or table (number_of r) None ≡ Some r
 told HighByte = refl
 told OddByte = refl
 told StringNotClosed = refl
@@ -45,16 +45,16 @@ told BlockShort = refl
 
 -- the case of an option, or another
 abbrev or : Refusal → Option Refusal → Refusal
-or s none = s
-or s (some r) = r
+or s None = s
+or s (Some r) = r
 
 -- so a number tells the refusal
 pub number_tells : (r s : Refusal) → number_of r ≡ number_of s → r ≡ s
-number_tells r s e = ap (or s) (sym (told r) ∙ ap (λ (n : ℕ). get_or table n none) e ∙ told s)
+number_tells r s e = ap (or s) (sym (told r) ∙ ap (λ (n : ℕ). get_or table n None) e ∙ told s)
 
 -- the number 11 is a gap
 pub no_eleven : (r : Refusal) → number_of r ≡ 11 → ⊥
 no_eleven r e =
-    let none-there : ◌≡◌ {A = Option Refusal} none (some r) = sym (ap (λ (n : ℕ). get_or table n none) e) ∙ told r in
+    let none-there : ◌≡◌ {A = Option Refusal} None (Some r) = sym (ap (λ (n : ℕ). get_or table n None) e) ∙ told r in
     let z : ◌≡◌ {A = ℕ} 0 1 = cc in
     omega arith

@@ -49,18 +49,11 @@ pub enum Refusal {
     BlockShort,
 }
 
-// The byte of a card at which it is refused, counted from 0, or that there is none.
-#[derive(Clone, Copy)]
-pub enum Column {
-    At(usize),
-    Absent,
-}
-
 // A refusal on its way up: every answer that can be refused holds one, and hands it on unchanged.
 #[derive(Clone, Copy)]
 pub struct Fault {
     pub why: Refusal,
-    pub column: Column,
+    pub column: Option<usize>,
 }
 
 // The fault of a refusal that has no column.
@@ -69,7 +62,7 @@ pub fn fault_of(why: Refusal) -> Fault
 {
     Fault {
         why: why,
-        column: Column::Absent,
+        column: None,
     }
 }
 
@@ -79,7 +72,7 @@ pub fn fault_at(why: Refusal, byte: usize) -> Fault
 {
     Fault {
         why: why,
-        column: Column::At(byte),
+        column: Some(byte),
     }
 }
 

@@ -1,12 +1,12 @@
 -- The conditions can be met: `goodOld` and `goodNew` of `Conditions` meet them.
+use Rattle.std.specs.Prelude.{Ok, None}
 use Prim.Native.Nat.{ℕ, zero, suc, ◌<◌}
 use native.Mathlib.Omega.{arith}
 use mathlib.Core.Path.{◌≡◌, refl, sym, ap, ◌∙◌}
 use mathlib.Core.Bool.{Bool, true, false, true≢false}
 use mathlib.Core.List.{List, [], ◌∷◌}
-use mathlib.Core.Option.{none}
 use lib.ListN.{get_or, get_or-map, get_or-eq_default}
-use Rattle.text.specs.Bytes.{ascii, is_space, is_blank, is_printable, is_digit, shown}
+use Rattle.text.specs.Bytes.{ascii, is_space, is_blank, is_printable, is_digit, shown, every}
 use Rattle.text.specs.Trim.{trim_start, cons_trimmed, trim_end, trim}
 use Rattle.text.specs.Same.{same}
 use Rattle.text.specs.Ends.{stem, ends_with}
@@ -22,11 +22,10 @@ use Rattle.roles.specs.Roles.{neutral}
 use Rattle.roles.specs.Cards.{cards_in, cards_of, roles_of, role_no, is_bad_length}
 use Rattle.joining.specs.Words.{ends_open, opens}
 use Rattle.joining.specs.Belonging.{idle, nothing, effects, bears}
-use Rattle.finding.specs.declared.Header.TheVariants.{Accepted}
 use Rattle.finding.specs.Finding.{header_from, header_of}
 use Rattle.writing.specs.Pieces.{doubled, bytes_for, fitting, leftover, pieces_from}
 use Rattle.writing.specs.Written.{name_front, written_cards}
-use Rattle.writing.specs.Rules.{every, is_name_byte, is_name, ends_well, is_text, is_writable}
+use Rattle.writing.specs.Rules.{is_name_byte, is_name, ends_well, is_text, is_writable}
 use Rattle.demands.specs.Demands.{is_of}
 use Rattle.rereading.specs.ReadsBack.{MayWrite}
 use Rattle.replacing.specs.Replacing.{chosen, marks_of, Replaces, Together, IsReplaced}
@@ -49,12 +48,12 @@ abbrev marks : List Bool
 marks = false ∷ true ∷ false ∷ true ∷ false ∷ []
 
 -- the string may be written
-may : MayWrite k Str new_code none
+may : MayWrite k Str new_code None
 unfolding is_name every is_name_byte is_digit class_of same is_writable is_text is_printable ends_well ends_with
 may = record { named = refl; allowed = refl }
 
 -- the header is accepted, these are K's places, and commentary stands between them
-read : (header_of g ≡ Accepted 4) × (marks_of k g ≡ marks) × (role_no g 2 ≡ neutral)
+read : (header_of g ≡ Ok 4) × (marks_of k g ≡ marks) × (role_no g 2 ≡ neutral)
 unfolding is_space is_blank is_printable shown trim_start cons_trimmed trim_end trim same stem ends_with filled scan_from byte_class
     split_of settled_of opened string_of start_of of_string value_with value_of has_high class_of other_of unplaced_of card_of cards_in
     is_bad_length header_from header_of effects opens ends_open
@@ -84,10 +83,10 @@ kept (suc (suc zero)) e = refl
 kept (suc (suc (suc zero))) e = absurd (true≢false (sym (mark_at 3) ∙ e))
 kept (suc (suc (suc (suc p)))) e = refl
 
-replaces : Replaces k g h (written_cards Str k new_code none)
+replaces : Replaces k g h (written_cards Str k new_code None)
 unfolding chosen cards_in filled doubled bytes_for fitting leftover pieces_from name_front
 replaces = record { long = refl; kept = kept; taken = ap (λ (m : List Bool). chosen m (cards_of h)) read.1 }
 
 -- so what is certain of such headers is certain of these
-pub replaced : IsReplaced k Str new_code none g h
-replaced = replacing k Str new_code none may g h (record { end = 4; accepted = read.0 }) together replaces
+pub replaced : IsReplaced k Str new_code None g h
+replaced = replacing k Str new_code None may g h (record { end = 4; accepted = read.0 }) together replaces

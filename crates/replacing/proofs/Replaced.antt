@@ -1,5 +1,6 @@
 -- Where written cards take the places of the name's old ones, which stand together, every other name is answered and borne as before,
 -- and the name reads back and is borne once.
+use Rattle.std.specs.Prelude.{Err, Result}
 use Prim.Native.Nat.{ℕ, ◌/◌, ◌<◌, ◌≤◌}
 use native.Mathlib.Omega.{arith}
 use mathlib.Core.Path.{◌≡◌, sym, ap, ap₂, subst, ◌∙◌}
@@ -13,8 +14,6 @@ use Rattle.roles.specs.Roles.{Comment, role_of}
 use Rattle.roles.specs.Cards.{cards_of, roles_of, is_bad_length}
 use Rattle.roles.proofs.Cards.{card_count_lem, role_count, role_is}
 use Rattle.joining.specs.Belonging.{idle}
-use Rattle.finding.specs.declared.Header.{Header}
-use Rattle.finding.specs.declared.Header.TheVariants.{Refused}
 use Rattle.finding.specs.Finding.{stop_at, header_of}
 use Rattle.writing.specs.Written.{written_cards}
 use Rattle.demands.specs.Demands.{IsAccepted, is_of}
@@ -28,6 +27,7 @@ use Rattle.rereading.proofs.Headers.{reads-back, halves-read-back}
 use Rattle.replacing.specs.Replacing.{Replaces, Together, Replacing}
 use Rattle.replacing.proofs.Walking.{Begins, same-places, same-header, stands, times_begun}
 use Rattle.replacing.proofs.Choosing.{its_within, Grouped, begins}
+use Rattle.finding.specs.declared.Stop.{Stop}
 
 -- cards that stand together have only commentary between them
 together : (k g : List ℕ) → Together k g → Grouped k role_of idle (cards_of g)
@@ -56,10 +56,10 @@ module _ (k : List ℕ) (v : Value) (text : List ℕ) (c : Comment) (may : MayWr
   accepts : IsAccepted g → IsAccepted h
   unfolding header_of
   accepts a =
-      let bad = Refused (stop_at (fault_of R.HeaderLength) 0) in
+      let bad = Err (stop_at (fault_of R.HeaderLength) 0) in
       record {
         end = a.end;
-        accepted = ap₂ (λ (n : ℕ) (x : Header). cond (is_bad_length n) bad x) r.long (sym (same-header k begun 0)) ∙ a.accepted;
+        accepted = ap₂ (λ (n : ℕ) (x : Result ℕ Stop). cond (is_bad_length n) bad x) r.long (sym (same-header k begun 0)) ∙ a.accepted;
       }
 
   standing : StandIn h k new

@@ -1,9 +1,9 @@
 -- Two headers card by card: where the first has a card of K the second has one too, and elsewhere both have the same card.
+use Rattle.std.specs.Prelude.{None}
 use Prim.Native.Nat.{ℕ, zero, suc}
 use mathlib.Core.Path.{◌≡◌, refl, sym, ap, ◌∙◌}
 use mathlib.Core.Bool.{true, false, true≢false}
 use mathlib.Core.List.{List, [], ◌∷◌, ◌++◌}
-use mathlib.Core.Option.{none}
 use Rattle.text.specs.Same.{same}
 use Rattle.text.proofs.Comparing.{same_self}
 use Rattle.roles.specs.Roles.{Comment, Held, Role, entry, more, neutral, last, refused}
@@ -95,7 +95,7 @@ module _ (k : List ℕ) where
   clear_others (clear_on {q} {c} {h} b n) = rw b (ap (λ (l : List Effect). does q c ∷ l) (clear_others n))
 
   -- K is not found among them
-  clear_lookup : {h : List Role} → Clear k idle h → lookup k h ≡ none
+  clear_lookup : {h : List Role} → Clear k idle h → lookup k h ≡ None
   clear_lookup {h} n = by_effects k h ∙ ap (answer k) (sym (clear_others n)) ∙ answer_gone k (effects idle h)
 
 -- ---- from the first card of K on
@@ -115,7 +115,7 @@ pub data Walk (k : List ℕ) : Open → Open → List Role → List Role → Lis
 record Left (k : List ℕ) (h new : List Role) : Type 0 where
   pub behind : List Role
   pub order : spoken h ≡ new ++ behind
-  pub latest : lookup k behind ≡ none
+  pub latest : lookup k behind ≡ None
 
 module _ (k : List ℕ) where
   its_own : (r : Open) (d : Role) (e : Entry) → does r d ≡ gives e → e.name ≡ k → bears k (does r d) ≡ true
@@ -177,7 +177,7 @@ pub record Standing (k : List ℕ) (h new : List Role) : Type 0 where
   pub behind : List Role
   pub order : spoken h ≡ before ++ (new ++ behind)
   pub reached : goes_on before ≡ true
-  pub latest : lookup k behind ≡ none
+  pub latest : lookup k behind ≡ None
 
 module _ (k : List ℕ) where
   -- the same places belong to K

@@ -1,9 +1,8 @@
 -- Why each condition is there: headers that break one of them, with what is answered. Each row is computed.
 -- The name K is written anew with the string `newCode` of 69 bytes, which takes two cards. X is another name.
-use Rattle.std.specs.Prelude.{ℕ, ◌≡◌, refl, List, [], ◌∷◌, ◌++◌, map, replicate, take}
+use Rattle.std.specs.Prelude.{ℕ, ◌≡◌, refl, List, [], ◌∷◌, ◌++◌, map, replicate, take, None, Result, Err, Ok}
 use Prim.Native.Char.{code}
 use Prim.Native.String.{String}
-use Rattle.std.proofs.Math.Option.{none}
 use Rattle.refusal.specs.Numbers.{number_of}
 use Rattle.text.specs.Bytes.{ascii, is_space, is_blank, is_printable, shown}
 use Rattle.text.specs.Trim.{trim_start, leading, cons_trimmed, trim_end, trim}
@@ -23,8 +22,8 @@ use Rattle.joining.specs.Words.{ends_open, adds_nothing, join_text, join_comment
 use Rattle.joining.specs.Lookup.{join_on, lookup}
 use Rattle.roles.specs.Cards.{cards_in, is_bad_length}
 use Rattle.finding.specs.Finding.{header_from, header_of}
-use Rattle.entries.specs.declared.LookupAnswer.{LookupAnswer}
-use Rattle.entries.specs.declared.LookupAnswer.TheVariants as L
+use Rattle.entries.specs.declared.NoEntry.{NoEntry}
+use Rattle.entries.specs.declared.NoEntry.TheVariants as N
 use Rattle.entries.specs.Answers.{LookupOutcome, written, lookup_of}
 use Rattle.writing.specs.Pieces.{doubled, bytes_for, fitting, leftover, pieces_from}
 use Rattle.writing.specs.Written.{name_front, written_cards}
@@ -53,10 +52,10 @@ value_answer Str t = text t
 value_answer Undefined t = other
 value_answer Invalid t = other
 
-abbrev pub lookup_answer : LookupAnswer → List ℕ → Answer
-lookup_answer (L.Found v) t = value_answer v t
-lookup_answer (L.Header stop) t = refusal (number_of stop.fault.why)
-lookup_answer (L.Refused fault) t = refusal (number_of fault.why)
+abbrev pub lookup_answer : Result Value NoEntry → List ℕ → Answer
+lookup_answer (Ok v) t = value_answer v t
+lookup_answer (Err (N.Header stop)) t = refusal (number_of stop.fault.why)
+lookup_answer (Err (N.Refused fault)) t = refusal (number_of fault.why)
 
 abbrev pub answer_of : LookupOutcome → Answer
 answer_of o = lookup_answer o.answer.answer (take o.answer.text o.text)
@@ -76,7 +75,7 @@ new_first = "K       = '12345678901234567890123456789012345678901234567890123456
 abbrev pub new_second : String
 new_second = "CONTINUE  '89'"
 
-pub new-cards : written_cards Str (ascii "K") new_code none ≡ padded_card new_first ∷ padded_card new_second ∷ []
+pub new-cards : written_cards Str (ascii "K") new_code None ≡ padded_card new_first ∷ padded_card new_second ∷ []
 unfolding filled doubled bytes_for fitting leftover pieces_from name_front
 new-cards = refl
 

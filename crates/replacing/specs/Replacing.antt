@@ -1,6 +1,5 @@
 -- Written cards in the places of a name's old ones (SPECIFICATION 16.6).
-use Rattle.std.specs.Prelude.{ℕ, ◌<◌, ◌≡◌, Bool, true, false, cond, List, [], ◌∷◌, map, length, get_or}
-use Rattle.std.proofs.Math.Option.{some}
+use Rattle.std.specs.Prelude.{ℕ, ◌<◌, ◌≡◌, Bool, true, false, cond, List, [], ◌∷◌, map, length, get_or, Some}
 use Rattle.numbers.specs.declared.Value.{Value}
 use Rattle.roles.specs.Roles.{Comment, neutral}
 use Rattle.roles.specs.Cards.{cards_of, roles_of, role_no}
@@ -42,7 +41,7 @@ pub record IsReplaced (k : List ℕ) (v : Value) (text : List ℕ) (c : Comment)
   pub others : (name : List ℕ) → (k ≡ name → ⊥)
       → (lent-text lent-comment : List ℕ) → lookup_of g name lent-text lent-comment ≡ lookup_of h name lent-text lent-comment
   pub back : (lent-text lent-comment : List ℕ)
-      → lookup_of h k lent-text lent-comment ≡ given (some (held_for v text c)) lent-text lent-comment
+      → lookup_of h k lent-text lent-comment ≡ given (Some (held_for v text c)) lent-text lent-comment
   pub others-named : (name : List ℕ) → (k ≡ name → ⊥) → named g name ≡ named h name
   pub back-named : named h k ≡ holds (held_for v text c)
   pub others-times : (name : List ℕ) → (k ≡ name → ⊥) → times_borne name (roles_of g) ≡ times_borne name (roles_of h)

@@ -5,10 +5,9 @@
 // A stored tile is its width in a byte, then nx, nblock and the tile's length in three bytes each, the highest first, then the tile.
 #![tactic(auto)]
 
-ghost use Rattle.std.specs.Prelude.{◌≡◌, true, ◌+◌, ◌/◌, ◌<◌};
+ghost use Rattle.std.specs.Prelude.{◌≡◌, ◌+◌, ◌/◌};
 
-use refusal::Fault;
-use rice::{Cursor, Decoded, Opened, Stepped};
+use rice::{Broken, Cursor};
 use std::io::Read;
 use test_output::{put, put_number, put_pixels, put_space};
 
@@ -33,32 +32,22 @@ struct Stored {
     len: usize,
 }
 
-// The next stored tile, or none where the list ends.
-#[derive(Clone, Copy)]
-enum Next {
-    Tile(Stored),
-    End,
-}
-
 fn main(rt: HostRuntime) {
     let mut input = rt.stdin();
-    let mut left = TILES;
-    'tiles: while 0 < left {
-        left -= 1;
-        let Next::Tile(t) = next_tile(&mut input) else {
-            break 'tiles;
+    for _ in 0..TILES {
+        let Some(t) = next_tile(&mut input) else {
+            return;
         };
         replay(&rt, &mut input, t);
     }
 }
 
-fn next_tile(input: &mut impl Read) -> Next {
+// The next stored tile, or none where the list ends.
+fn next_tile(input: &mut impl Read) -> Option<Stored> {
     let mut head = [0u8; HEAD];
-    if input.read_exact(&mut head).is_err() {
-        return Next::End;
-    }
-    Next::Tile(Stored {
-        bits: wide(head[0]),
+    input.read_exact(&mut head).ok()?;
+    Some(Stored {
+        bits: usize::from(head[0]),
         nx: three(head[1], head[2], head[3]),
         nblock: three(head[4], head[5], head[6]),
         len: three(head[7], head[8], head[9]),
@@ -67,13 +56,7 @@ fn next_tile(input: &mut impl Read) -> Next {
 
 // A number of three bytes, the highest first.
 fn three(a: u8, b: u8, c: u8) -> usize {
-    wide(a) * 65536 + wide(b) * 256 + wide(c)
-}
-
-fn wide(b: u8) -> usize
-    ensures { result < 256 }
-{
-    b as usize
+    u32::from_be_bytes([0, a, b, c]) as usize
 }
 
 // A stored tile and its pixels, in fresh memory.
@@ -111,7 +94,7 @@ fn put_tile(
     let tile = &bytes[..len];
     put_whole(rt, tile, t, &mut whole[..nx]);
     put_blocks(rt, tile, t, &mut parts[..nx]);
-    if !same(whole, parts) {
+    if *whole != *parts {
         put(rt, b" apart");
     }
     put(rt, b"\n");
@@ -122,8 +105,8 @@ fn put_tile(
 fn put_whole(rt: &impl Print, tile: &[u8], t: Stored, pixels: &mut [i32]) {
     put(rt, b"whole");
     match rice::decode(tile, t.nx, t.nblock, t.bits, pixels) {
-        Decoded::Whole(used) => put_bytes(rt, used),
-        Decoded::Refused { fault, written } => put_refused(rt, fault, written),
+        Ok(used) => put_bytes(rt, used),
+        Err(broken) => put_refused(rt, broken),
     }
     put(rt, b"\npixels");
     put_pixels(rt, pixels);
@@ -135,48 +118,24 @@ fn put_whole(rt: &impl Print, tile: &[u8], t: Stored, pixels: &mut [i32]) {
 fn put_blocks(rt: &impl Print, tile: &[u8], t: Stored, pixels: &mut [i32]) {
     put(rt, b"blocks");
     match rice::open(tile, t.nx, t.nblock, t.bits) {
-        Opened::Refused(fault) => put_refused(rt, fault, 0),
-        Opened::At(start) => put_steps(rt, start, tile, t, pixels),
+        Err(fault) => put_refused(rt, fault.into()),
+        Ok(start) => put_steps(rt, start, tile, t, pixels),
     }
 }
 
 // Step after step: a tile has no more blocks than pixels.
 fn put_steps(rt: &impl Print, start: Cursor, tile: &[u8], t: Stored, pixels: &mut [i32]) {
     let mut c = start;
-    let mut left = PIXELS + 1;
-    while 0 < left {
-        left -= 1;
+    for _ in 0..PIXELS + 1 {
         match c.step(tile, t.nx, t.nblock, t.bits, pixels) {
-            Stepped::Done => {
-                return;
-            }
-            Stepped::Refused { fault, written } => {
-                put_refused(rt, fault, written);
-                return;
-            }
-            Stepped::Next(next) => {
+            Ok(Some(next)) => {
                 put_bytes(rt, next.bit);
                 c = next;
             }
+            Ok(None) => return,
+            Err(broken) => return put_refused(rt, broken),
         }
     }
-}
-
-// Whether two rows of pixels are the same.
-fn same(a: &[i32], b: &[i32]) -> bool
-    ensures { result ≡ true → a.now ≡ b.now }
-{
-    if a.len() != b.len() {
-        return false;
-    }
-    let mut i = 0;
-    while i < a.len() {
-        if a[i] != b[i] {
-            return false;
-        }
-        i += 1;
-    }
-    true
 }
 
 // ---- numbers
@@ -190,16 +149,13 @@ fn put_bytes(rt: &impl Print, bits: usize) {
 fn whole_bytes(bits: usize) -> usize
     ensures { result ≡ (bits + 7) / 8 }
 {
-    if bits % 8 == 0 {
-        bits / 8
-    } else {
-        bits / 8 + 1
-    }
+    bits.div_ceil(8)
 }
 
-fn put_refused(rt: &impl Print, fault: Fault, written: usize) {
+// No function for this line and that of `tile_rows`: it would be told the words in which they differ, and be no plainer.
+fn put_refused(rt: &impl Print, broken: Broken) {
     put(rt, b" refused ");
-    put_number(rt, fault.number() as usize);
+    put_number(rt, usize::from(broken.fault.number()));
     put_space(rt);
-    put_number(rt, written);
+    put_number(rt, broken.written);
 }

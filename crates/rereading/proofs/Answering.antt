@@ -1,10 +1,10 @@
 -- For every kind of value: what is written is what a lookup answers, and its cards belong to the name, which one of them bears.
+use Rattle.std.specs.Prelude.{None, Some}
 use Prim.Native.Nat.{ℕ}
 use mathlib.Core.Path.{◌≡◌, refl, sym, ap, subst, ◌∙◌}
 use mathlib.Core.Logic.{⊎_elim}
 use mathlib.Core.Bool.{true, false}
 use mathlib.Core.List.{List, [], ◌∷◌, ◌++◌, map}
-use mathlib.Core.Option.{none, some}
 use lib.ListN.{length}
 use Rattle.text.specs.Bytes.{ascii, is_space}
 use Rattle.text.specs.Ends.{ends_with}
@@ -32,16 +32,16 @@ use Rattle.rereading.proofs.Continued.{owns_string}
 -- ---- an entry and what is joined to it
 
 -- an entry behind which nothing bears its name
-lookup-here : (n : List ℕ) (v : Held) (h : List Role) → lookup n h ≡ none → lookup n (entry n v ∷ h) ≡ some (whole v h)
+lookup-here : (n : List ℕ) (v : Held) (h : List Role) → lookup n h ≡ None → lookup n (entry n v ∷ h) ≡ Some (whole v h)
 unfolding lookup
 lookup-here n v h e = rw (e, same_self n)
 
 -- the same of one that stays shut
-lookup_shut : (n : List ℕ) (v : Held) (h : List Role) → is_open v ≡ false → lookup n h ≡ none
-    → lookup n (entry n v ∷ h) ≡ some v
+lookup_shut : (n : List ℕ) (v : Held) (h : List Role) → is_open v ≡ false → lookup n h ≡ None
+    → lookup n (entry n v ∷ h) ≡ Some v
 lookup_shut n v h o e =
     lookup-here n v h e
-    ∙ ap (λ (w : Words). some (record { value = v.value; digits = v.digits; words = w })) (join_on_shut v.words o h)
+    ∙ ap (λ (w : Words). Some (record { value = v.value; digits = v.digits; words = w })) (join_on_shut v.words o h)
 
 -- CONTINUE cards bear no name
 lookup-more : (n : List ℕ) (ps : List Piece) (h : List Role) → lookup n (map more_of ps ++ h) ≡ lookup n h
@@ -51,13 +51,13 @@ lookup-more n (p ∷ ps) h = lookup-more n ps h
 
 -- the entry of a string's first piece, joined with the others
 lookup-string : (name : List ℕ) {c : Comment} {s : List ℕ} {ps : List Piece} → Cut c s ps → last_is is_space s ≡ false
-    → ends_open s ≡ false → (h : List Role) → lookup name h ≡ none
-    → lookup name (roles_for name ps ++ h) ≡ some (held_string s c)
+    → ends_open s ≡ false → (h : List Role) → lookup name h ≡ None
+    → lookup name (roles_for name ps ++ h) ≡ Some (held_string s c)
 unfolding opens
 lookup-string name {c} (final {s}) l o h free = lookup_shut name (held_string s c) h o free
 lookup-string name {c} (goes_on {s} {ps} cut) l o h free =
-    lookup-here name (held_string (open_text_lem (head_part s)) none) (map more_of ps ++ h) (lookup-more name ps h ∙ free)
-    ∙ ap (λ (w : Words). some (record { value = String; digits = []; words = w }))
+    lookup-here name (held_string (open_text_lem (head_part s)) None) (map more_of ps ++ h) (lookup-more name ps h ∙ free)
+    ∙ ap (λ (w : Words). Some (record { value = String; digits = []; words = w }))
     (join_pieces_lem cut (head_part s) (ap (last_is is_space) (parts_whole s) ∙ l) h
     ∙ ap (λ (t : List ℕ). join_on (words_of t c) h) (parts_whole s)
     ∙ join_on_shut (words_of s c) o h)
@@ -87,15 +87,15 @@ written_roles name good text c v e = formed_roles good (written_formed name good
 
 -- ---- so they are answered
 answers_roled : {name : List ℕ} {c : Comment} {v : Value} {text : List ℕ} {rs : List Role} → Roled name c v text rs
-    → (h : List Role) → lookup name h ≡ none → lookup name (rs ++ h) ≡ some (held_for v text c)
+    → (h : List Role) → lookup name h ≡ None → lookup name (rs ++ h) ≡ Some (held_for v text c)
 answers_roled {name} {c} (alone {v} {text} shut) h free = lookup_shut name (held_for v text c) h shut free
 answers_roled {name} (in_pieces cut l o) h free = lookup-string name cut l o h free
 
 -- What may be written is answered by the lookup as the same kind, number, digits, text and comment, where no later card bears the
 -- name.
-pub written_back : (name : List ℕ) → is_name name ≡ true → (text : List ℕ) (c : Comment) (h : List Role) → lookup name h ≡ none
+pub written_back : (name : List ℕ) → is_name name ≡ true → (text : List ℕ) (c : Comment) (h : List Role) → lookup name h ≡ None
     → (v : Value) → is_writable v text c ≡ true
-    → lookup name (map role_of (written_cards v name text c) ++ h) ≡ some (held_for v text c)
+    → lookup name (map role_of (written_cards v name text c) ++ h) ≡ Some (held_for v text c)
 written_back name good text c h free v e = answers_roled (written_roles name good text c v e) h free
 
 -- ---- and they belong to the name

@@ -1,9 +1,10 @@
 -- The block after writing: the cards stand at its front, and what follows them stays.
-use Prim.Native.Nat.{ℕ, ◌*◌, ◌/◌}
+use Rattle.std.specs.Prelude.{Err, Ok, Result}
+use Prim.Native.Nat.{ℕ, ◌*◌}
 use native.Mathlib.Omega.{arith}
 use mathlib.Core.Path.{◌≡◌, refl, sym, ap, ap₂, ◌∙◌}
 use mathlib.Core.Bool.{Bool, true, false, cond}
-use mathlib.Core.List.{List, [], ◌∷◌, ◌++◌, append_assoc, append-nil}
+use mathlib.Core.List.{List, ◌∷◌, ◌++◌, append_assoc}
 use borrow.Author.Tests.{leb-true}
 use lib.Dec.{leb}
 use lib.ListN.{length, take, drop, length-append}
@@ -12,23 +13,17 @@ use Rattle.laws.proofs.Truths.{false≢true}
 use Rattle.refusal.specs.declared.Refusal.{Refusal}
 use Rattle.text.specs.Text.{size}
 use Rattle.text.proofs.Laying.{sets-front}
-use Rattle.roles.specs.Cards.{cards_in, cards_of}
+use Rattle.roles.specs.Cards.{cards_in}
 use Rattle.writing.specs.Written.{written_cards}
 use Rattle.writing.specs.Rules.{is_name, is_writable}
 use Rattle.writing.specs.Block.{flat, WriteOutcome, not_written, put_cards, write_of}
-use Rattle.writing.specs.declared.WriteAnswer.{WriteAnswer}
-use Rattle.writing.specs.declared.WriteAnswer.TheVariants.{Cards, Refused}
 use Rattle.rereading.specs.ReadsBack.{AtFront, BlockHolds}
 use Rattle.rereading.proofs.Lists.{All, no_more, also}
 use Rattle.rereading.proofs.Lengths.{IsWhole, written-whole}
 use Rattle.refusal.specs.declared.Refusal.TheVariants as R
+use Rattle.refusal.specs.declared.Fault.{Fault}
 
 -- ---- whole cards, one after another
-pub flat_append : (a b : List (List ℕ)) → flat (a ++ b) ≡ flat a ++ flat b
-unfolding flat
-flat_append [] b = refl
-flat_append (c ∷ a) b = ap (λ (l : List ℕ). c ++ l) (flat_append a b) ∙ sym (append_assoc c (flat a) (flat b))
-
 pub flat-long : {cs : List (List ℕ)} → All IsWhole cs → length (flat cs) ≡ length cs * size
 unfolding flat
 flat-long no_more = refl
@@ -45,25 +40,19 @@ cards-front (also {x} {l} h w) r =
     (ap (λ (s : List ℕ). cards_in (length l) (drop size s)) apart ∙ ap (cards_in (length l)) (drop_at x (flat l ++ r) size h)
     ∙ cards-front w r)
 
--- a header of whole cards has those cards
-pub cards-flat : {cs : List (List ℕ)} → All IsWhole cs → cards_of (flat cs) ≡ cs
-cards-flat {cs} w =
-    let n : length (flat cs) / size ≡ length cs = omega (arith, flat-long w) in
-    ap₂ cards_in n (sym (append-nil (flat cs))) ∙ cards-front w []
-
 -- ---- what was answered tells what was done
 
-abbrev is_count : WriteAnswer → Bool
-is_count (Cards n) = true
-is_count (Refused f) = false
+abbrev is_count : Result ℕ Fault → Bool
+is_count (Ok n) = true
+is_count (Err f) = false
 
-abbrev count_of : WriteAnswer → ℕ
-count_of (Cards n) = n
-count_of (Refused f) = 0
+abbrev count_of : Result ℕ Fault → ℕ
+count_of (Ok n) = n
+count_of (Err f) = 0
 
 -- where cards are answered, nothing was refused
-passed : (u : Bool) (o : WriteOutcome) (why : Refusal) (block : List ℕ) (n : ℕ) → (cond u o (not_written why block)).answer ≡ Cards n
-    → (u ≡ true) × (o.answer ≡ Cards n)
+passed : (u : Bool) (o : WriteOutcome) (why : Refusal) (block : List ℕ) (n : ℕ) → (cond u o (not_written why block)).answer ≡ Ok n
+    → (u ≡ true) × (o.answer ≡ Ok n)
 passed true o why block n e = (refl, e)
 passed false o why block n e = absurd (false≢true (ap is_count e))
 

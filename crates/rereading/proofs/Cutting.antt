@@ -1,17 +1,17 @@
 -- The pieces of a string: nothing is lost, and each is sound.
+use Rattle.std.specs.Prelude.{None, Some}
 use Prim.Native.Nat.{ℕ, zero, suc, ◌-◌}
 use Prim.Native.Char.{code}
 use mathlib.Core.Path.{◌≡◌, refl, sym, ap, ◌∙◌}
 use mathlib.Core.Bool.{Bool, true, false, cond}
 use mathlib.Core.List.{List, [], ◌∷◌, ◌++◌, append_assoc}
-use mathlib.Core.Option.{none, some}
 use lib.Dec.{eqb, leb}
-use Rattle.text.specs.Bytes.{ascii, is_space, is_printable}
+use Rattle.text.specs.Bytes.{ascii, is_space, is_printable, every}
 use Rattle.splitting.specs.Strings.{settled_of}
 use Rattle.roles.specs.Roles.{Comment}
 use Rattle.writing.specs.Pieces.{doubled, quoted, tail_of, bytes_for, fitting, leftover, Piece, piece_text, open_room, fits, last_piece}
 use Rattle.writing.specs.Pieces.{open_piece, pieces_from}
-use Rattle.writing.specs.Rules.{every, is_comment}
+use Rattle.writing.specs.Rules.{is_comment}
 use Rattle.rereading.proofs.Lists.{All, no_more, also}
 use Rattle.rereading.proofs.Endings.{every_first, every_rest, every_append, last_is, last-behind}
 use Rattle.rereading.proofs.Splitting.{remark_printable}
@@ -119,8 +119,8 @@ doubled-printable (b ∷ s) e = go (eqb b (code "'")) (doubled-printable s (ever
 
 pub tail_printable : (c : Comment) → is_comment c ≡ true → every is_printable (tail_of c) ≡ true
 unfolding every is_printable
-tail_printable none y = refl
-tail_printable (some c) y = remark_printable c y
+tail_printable None y = refl
+tail_printable (Some c) y = remark_printable c y
 
 pub piece_printable : {p : Piece} → Sound p → every is_printable (piece_text p) ≡ true
 unfolding every is_printable

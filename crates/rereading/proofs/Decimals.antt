@@ -9,7 +9,7 @@ use borrow.Author.Tests.{eqb-true, lt-leb, leb-true}
 use lib.IntN.{ℤ, pos, negsuc, -ℤ-+ℤ_cancel}
 use lib.ListN.{length}
 use Rattle.laws.proofs.Truths.{and_both, false≢true}
-use Rattle.text.specs.Bytes.{ascii, is_digit, is_zero}
+use Rattle.text.specs.Bytes.{ascii, is_digit, is_zero, every}
 use Rattle.text.specs.Trim.{trim_start, trim_end, trim, leading}
 use Rattle.text.specs.Same.{same}
 use Rattle.text.proofs.Trimming.{shorter}
@@ -25,7 +25,7 @@ use Rattle.numbers.specs.Decimals.{finite_of, lowered, is_word, decimal_of}
 use Rattle.numbers.specs.Numbers.{read_number}
 use Rattle.numerals.specs.Numerals.{digits_before, decimal_digits, minus_of, signed_digits}
 use Rattle.writing.specs.Written.{decimal_text}
-use Rattle.writing.specs.Rules.{every, is_name_byte, is_significant, is_power}
+use Rattle.writing.specs.Rules.{is_name_byte, is_significant, is_power}
 use Rattle.rereading.proofs.Endings.{every_first, every_rest, every_append, every_weaker}
 use Rattle.rereading.proofs.Plain.{Figures, figures_names}
 use Rattle.rereading.proofs.Digits.{digit_range, digit_above, digit_name, unsigned-front, negative_front, figures_front}

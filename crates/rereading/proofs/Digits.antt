@@ -3,19 +3,20 @@ use Prim.Native.Nat.{ℕ, zero, suc, ◌/◌, ◌%◌, ◌<◌, ◌≤◌}
 use Prim.Native.Char.{code}
 use native.Mathlib.Omega.{arith}
 use mathlib.Core.Path.{◌≡◌, refl, sym, ap, subst, ◌∙◌}
-use mathlib.Core.Bool.{Bool, true, false, cond, ◌&&◌, ◌||◌}
+use mathlib.Core.Bool.{Bool, true, false, cond, ◌&&◌}
 use mathlib.Core.List.{List, [], ◌∷◌, ◌++◌}
 use borrow.Author.Tests.{ne_eqb, le-leb, leb-true, ltb-true}
 use lib.Dec.{eqb, leb, ltb}
+use Rattle.std.proofs.lemmas.Bool.{or_right}
 use Rattle.laws.proofs.Truths.{and_both}
-use Rattle.text.specs.Bytes.{is_digit}
+use Rattle.text.specs.Bytes.{is_digit, every}
 use Rattle.text.specs.Trim.{trim_start}
 use Rattle.numbers.specs.Signs.{is_sign, is_negative, unsigned}
 use Rattle.numbers.specs.Digits.{is_digits}
 use Rattle.numerals.specs.Numerals.{digit_byte, digits_before, decimal_digits, minus_of}
 use Rattle.numerals.proofs.Decimals.{some-digits}
 use Rattle.value.specs.Values.{starts_number, start_of}
-use Rattle.writing.specs.Rules.{every, is_name_byte}
+use Rattle.writing.specs.Rules.{is_name_byte}
 use Rattle.rereading.proofs.Endings.{every_first, every_rest, every_weaker}
 use Rattle.rereading.proofs.Plain.{Figures, figures}
 use Rattle.value.specs.declared.Start.TheVariants.{Number as Numeric}
@@ -74,11 +75,7 @@ digit_above b k e h = ne_eqb b k (λ x. let y : b ≡ k = x in omega (arith, dig
 
 pub digit_name : (b : ℕ) → is_digit b ≡ true → is_name_byte b ≡ true
 unfolding is_name_byte
-digit_name b e = rw e (any (leb (code "A") b && leb b (code "Z")))
-  where
-    any : (u : Bool) → (u || true) ≡ true
-    any true = refl
-    any false = refl
+digit_name b e = rw e (or_right (leb (code "A") b && leb b (code "Z")) true refl)
 
 digit_sign : (b : ℕ) → is_digit b ≡ true → is_sign b ≡ false
 unfolding is_sign

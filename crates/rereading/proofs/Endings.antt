@@ -10,12 +10,11 @@ use lib.Dec.{eqb, leb}
 use lib.ListN.{length, replicate, get_or}
 use lib.Seq.{get_or_at, take_at}
 use Rattle.laws.proofs.Truths.{and_both}
-use Rattle.text.specs.Bytes.{is_space, is_blank, is_printable, shown, line_feed, tab, form_feed, carriage_return}
+use Rattle.text.specs.Bytes.{is_space, is_blank, is_printable, shown, line_feed, tab, form_feed, carriage_return, every}
 use Rattle.text.specs.Trim.{trim_start, trim_end, trim, cons_trimmed}
 use Rattle.text.specs.Ends.{stem, ends_with}
 use Rattle.text.proofs.Texts.{length-put}
 use Rattle.card.specs.Keywords.{has_high, first_high}
-use Rattle.writing.specs.Rules.{every}
 
 -- ---- every byte
 module _ (p : ℕ → Bool) where

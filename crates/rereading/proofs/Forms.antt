@@ -6,7 +6,7 @@ use mathlib.Core.List.{List, []}
 use borrow.Author.Tests.{leb-true}
 use lib.ListN.{length}
 use Rattle.laws.proofs.Truths.{and_both, false≢true}
-use Rattle.text.specs.Bytes.{is_printable}
+use Rattle.text.specs.Bytes.{is_printable, every}
 use Rattle.numbers.specs.declared.Size.TheVariants.{Finite, Infinite, Nan}
 use Rattle.numbers.specs.declared.Value.{Value}
 use Rattle.numbers.specs.declared.Value.TheVariants.{Integer, Float, Logical, String, Undefined, Invalid}
@@ -15,7 +15,7 @@ use Rattle.roles.specs.Roles.{Comment, entry, is_string, role_of}
 use Rattle.writing.specs.Pieces.{text_room, pieces_of}
 use Rattle.writing.specs.Written.{card_from, name_front, truth_text, decimal_text, plain_text, plain_cards, string_cards, written_cards}
 use Rattle.writing.specs.Written.{held_for}
-use Rattle.writing.specs.Rules.{every, is_name, is_comment, is_short, remark_limit, is_text, is_long, is_significant, is_power, fits_card}
+use Rattle.writing.specs.Rules.{is_name, is_comment, is_short, remark_limit, is_text, is_long, is_significant, is_power, fits_card}
 use Rattle.writing.specs.Rules.{is_value, is_writable}
 use Rattle.rereading.proofs.Plain.{truth_printable, truth_role, figures_printable, figures_role}
 use Rattle.rereading.proofs.Integers.{integer_figures, integer-number}

@@ -1,4 +1,5 @@
 -- What a written card is: its bytes, its keyword, and the text behind it.
+use Rattle.std.specs.Prelude.{Result}
 use Prim.Native.Nat.{ℕ, ◌+◌, ◌-◌, ◌≤◌}
 use Prim.Native.Char.{code}
 use native.Mathlib.Omega.{arith}
@@ -8,19 +9,21 @@ use mathlib.Core.List.{List, [], ◌∷◌, ◌++◌, append_assoc}
 use lib.ListN.{length, replicate, take, drop, length-append, length-replicate}
 use lib.Seq.{take_at, drop_at}
 use Rattle.laws.proofs.Truths.{false≢true}
-use Rattle.text.specs.Bytes.{ascii, is_blank, is_printable}
+use Rattle.refusal.specs.declared.Fault.{Fault}
+use Rattle.refusal.specs.Numbers.{answer_placed}
+use Rattle.text.specs.Bytes.{ascii, is_blank, is_printable, every}
 use Rattle.text.specs.Trim.{trim_start, trim_end, trim, cons_trimmed}
 use Rattle.text.specs.Same.{same}
 use Rattle.text.specs.Text.{size, filled, text_of}
 use Rattle.value.specs.Values.{value_of}
 use Rattle.card.specs.declared.CardRead.{CardRead}
 use Rattle.card.specs.Keywords.{has_high, keyword_of, class_of}
-use Rattle.card.specs.Cards.{of_value, other_of, continuation_of, unplaced_of, card_placed, card_of}
+use Rattle.card.specs.Cards.{of_value, other_of, continuation_of, unplaced_of, card_of}
 use Rattle.card.specs.Columns.{column_of}
 use Rattle.roles.specs.Roles.{role_read, role_of}
 use Rattle.writing.specs.Pieces.{text_room}
 use Rattle.writing.specs.Written.{card_from, name_front, continue_front}
-use Rattle.writing.specs.Rules.{every, is_name_byte, is_other, is_name}
+use Rattle.writing.specs.Rules.{is_name_byte, is_other, is_name}
 use Rattle.rereading.proofs.Endings.{every_first, every_append, every_weaker, low_all, every-spaces, trim-padded, last_none}
 use Rattle.rereading.proofs.Names.{name-printable, name_blank, name-length, name-bytes, name-other}
 use Rattle.rereading.proofs.Splitting.{spaced}
@@ -121,6 +124,7 @@ unfolding filled
 continue_text t = refl
 
 -- ---- the role of a card that is read
-pub role_by_lem : (c : List ℕ) {r : CardRead} → unplaced_of c ≡ r → role_of c ≡ role_read (card_placed (column_of c) r)
+pub role_by_lem : (c : List ℕ) {r : Result CardRead Fault} → unplaced_of c ≡ r
+    → role_of c ≡ role_read (answer_placed (column_of c) r)
 unfolding card_of
-role_by_lem c e = ap (λ (r : CardRead). role_read (card_placed (column_of c) r)) e
+role_by_lem c e = ap (λ (r : Result CardRead Fault). role_read (answer_placed (column_of c) r)) e

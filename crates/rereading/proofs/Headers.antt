@@ -1,9 +1,9 @@
 -- What is written reads back within a header: other cards before, commentary between, and no later card of the name.
+use Rattle.std.specs.Prelude.{Option, Some}
 use Prim.Native.Nat.{ℕ}
 use mathlib.Core.Path.{◌≡◌, refl, sym, ap, ap₂, ◌∙◌}
 use mathlib.Core.Bool.{true, cond}
 use mathlib.Core.List.{List, [], ◌∷◌, ◌++◌, map}
-use mathlib.Core.Option.{Option, some}
 use Rattle.laws.proofs.Truths.{false≢true}
 use Rattle.numbers.specs.declared.Value.{Value}
 use Rattle.roles.specs.Roles.{Comment, Words, Held, Role, entry, more, neutral, last, refused, role_of}
@@ -39,8 +39,8 @@ lookup-spoken n (last ∷ h) = refl
 lookup-spoken n (refused f ∷ h) = lookup-spoken n h
 
 -- an answer stays behind other cards, where none of them is END
-pub lookup-behind : (n : List ℕ) (b h : List Role) (v : Held) → goes_on b ≡ true → lookup n h ≡ some v
-    → lookup n (b ++ h) ≡ some v
+pub lookup-behind : (n : List ℕ) (b h : List Role) (v : Held) → goes_on b ≡ true → lookup n h ≡ Some v
+    → lookup n (b ++ h) ≡ Some v
 unfolding lookup goes_on
 lookup-behind n [] h v g e = e
 lookup-behind n (entry m w ∷ b) h v g e = rw (lookup-behind n b h v g e)
@@ -51,7 +51,7 @@ lookup-behind n (refused f ∷ b) h v g e = lookup-behind n b h v g e
 
 -- ---- roles of a header in which the written cards stand in order
 pub answered_among : (name : List ℕ) (v : Value) (text : List ℕ) (c : Comment) → MayWrite name v text c
-    → (h : List ℕ) → StandIn h name (written_cards v name text c) → lookup name (roles_of h) ≡ some (held_for v text c)
+    → (h : List ℕ) → StandIn h name (written_cards v name text c) → lookup name (roles_of h) ≡ Some (held_for v text c)
 answered_among name v text c may h stand =
     sym (lookup-spoken name (roles_of h)) ∙ ap (lookup name) stand.order
     ∙ lookup-behind name stand.before (map role_of (written_cards v name text c) ++ stand.behind) (held_for v text c) stand.reached

@@ -1,10 +1,10 @@
 -- Joining the pieces gives the string and its comment.
+use Rattle.std.specs.Prelude.{None}
 use Prim.Native.Nat.{ℕ}
 use Prim.Native.Char.{code}
 use mathlib.Core.Path.{◌≡◌, refl, sym, ap, ◌∙◌}
 use mathlib.Core.Bool.{true, false}
 use mathlib.Core.List.{List, [], ◌∷◌, ◌++◌, append_assoc, append-nil, map}
-use mathlib.Core.Option.{none}
 use Rattle.text.specs.Bytes.{is_space}
 use Rattle.text.specs.Trim.{trim_end}
 use Rattle.roles.specs.Roles.{Comment, Words, Role, more}
@@ -47,15 +47,15 @@ unfolding join_text
 join_open a s = rw (open_adds s, stem-behind a (code "&"), append_assoc)
 
 step : (a s : List ℕ) (c : Comment) (t : List ℕ) → join_text (open_text_lem a) s ≡ t → (h : List Role)
-    → join_on (words_of (open_text_lem a) none) (more s c ∷ h) ≡ join_on (words_of t c) h
+    → join_on (words_of (open_text_lem a) None) (more s c ∷ h) ≡ join_on (words_of t c) h
 unfolding join_on join_words join_comment
-step a s c t e h = rw (opens-here a none, e)
+step a s c t e h = rw (opens-here a None, e)
 
 -- the pieces joined to a text that ends in &
 pub join_pieces_lem : {c : Comment} {s : List ℕ} {ps : List Piece} → Cut c s ps → (a : List ℕ) → last_is is_space (a ++ s) ≡ false
-    → (h : List Role) → join_on (words_of (open_text_lem a) none) (map more_of ps ++ h) ≡ join_on (words_of (a ++ s) c) h
+    → (h : List Role) → join_on (words_of (open_text_lem a) None) (map more_of ps ++ h) ≡ join_on (words_of (a ++ s) c) h
 join_pieces_lem {c} (final {s}) a e h = step a s c (a ++ s) (join_last a s e) h
 join_pieces_lem {c} (goes_on {s} {ps} cut) a e h =
-    step a (open_text_lem (head_part s)) none (open_text_lem (a ++ head_part s)) (join_open a (head_part s)) (map more_of ps ++ h)
+    step a (open_text_lem (head_part s)) None (open_text_lem (a ++ head_part s)) (join_open a (head_part s)) (map more_of ps ++ h)
     ∙ join_pieces_lem cut (a ++ head_part s) (ap (last_is is_space) (parts_behind a s) ∙ e) h
     ∙ ap (λ (t : List ℕ). join_on (words_of t c) h) (parts_behind a s)

@@ -1,11 +1,11 @@
 -- Every written card has 80 bytes.
+use Rattle.std.specs.Prelude.{None, Some}
 use Prim.Native.Nat.{ℕ, zero, suc, ◌+◌, ◌-◌, ◌≤◌}
 use Prim.Native.Char.{code}
 use native.Mathlib.Omega.{arith}
 use mathlib.Core.Path.{◌≡◌, refl, ap, ◌∙◌}
 use mathlib.Core.Bool.{Bool, true, false, cond}
 use mathlib.Core.List.{List, [], ◌∷◌, append-nil}
-use mathlib.Core.Option.{none, some}
 use borrow.Author.Tests.{le-leb, leb-true}
 use lib.Dec.{eqb, leb}
 use lib.ListN.{length}
@@ -86,8 +86,8 @@ Fits p = length (piece_text p) ≤ text_room
 pub empty-fits : (s : List ℕ) (c : Comment) → length s ≤ 0 → is_short remark_limit c ≡ true
     → length (piece_text (last_piece s c)) ≤ text_room
 unfolding doubled
-empty-fits [] none h y = omega arith
-empty-fits [] (some c) h y = omega (arith, leb-true (length c) remark_limit y)
+empty-fits [] None h y = omega arith
+empty-fits [] (Some c) h y = omega (arith, leb-true (length c) remark_limit y)
 empty-fits (b ∷ s) c h y = absurd (omega arith)
 
 pub pieces_fit : (n : ℕ) (s : List ℕ) (c : Comment) → length s ≤ n → is_short remark_limit c ≡ true

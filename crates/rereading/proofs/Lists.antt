@@ -1,7 +1,7 @@
 -- Lists of which every member has a property.
 use Prim.Native.Nat.{ℕ, zero, suc, ◌<◌}
 use native.Mathlib.Nat.{le_of_suc-le-suc, not-suc-le-zero}
-use mathlib.Core.List.{List, [], ◌∷◌, ◌++◌, map}
+use mathlib.Core.List.{List, [], ◌∷◌, map}
 use lib.ListN.{length, get_or}
 
 pub data All {A : Type 0} (P : A → Type 0) : List A → Type 0 where
@@ -9,10 +9,6 @@ pub data All {A : Type 0} (P : A → Type 0) : List A → Type 0 where
   also : {x : A} {l : List A} → P x → All P l → All P (x ∷ l)
 
 module _ {A : Type 0} (P : A → Type 0) where
-  pub all_append : {a b : List A} → All P a → All P b → All P (a ++ b)
-  all_append no_more v = v
-  all_append (also h u) v = also h (all_append u v)
-
   pub all_map : {B : Type 0} (Q : B → Type 0) (f : A → B) → ((x : A) → P x → Q (f x)) → {l : List A} → All P l
       → All Q (map f l)
   all_map Q f g no_more = no_more

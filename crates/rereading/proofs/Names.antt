@@ -4,24 +4,21 @@ use Prim.Native.Char.{code}
 use native.Mathlib.Omega.{arith}
 use mathlib.Core.Path.{◌≡◌, refl, ◌∙◌}
 use mathlib.Core.Logic.{◌⊎◌, inl, inr, ⊎_elim}
-use mathlib.Core.Bool.{Bool, true, false, ◌&&◌, ◌||◌}
+use mathlib.Core.Bool.{true, false, ◌&&◌, ◌||◌}
 use mathlib.Core.List.{List}
 use borrow.Author.Tests.{ne_eqb, eqb-true, le-leb, leb-true}
 use lib.Dec.{eqb, leb}
 use lib.ListN.{length}
+use Rattle.std.proofs.lemmas.Bool.{or_cases}
 use Rattle.laws.proofs.Truths.{and_both, false≢true}
-use Rattle.text.specs.Bytes.{is_space, is_blank, is_printable, is_digit}
+use Rattle.text.specs.Bytes.{is_space, is_blank, is_printable, is_digit, every}
 use Rattle.splitting.specs.Scan.{plain, byte_class}
 use Rattle.splitting.proofs.Scanning.{class_plain}
 use Rattle.card.specs.declared.Class.{Class}
 use Rattle.card.specs.Keywords.{class_of}
-use Rattle.writing.specs.Rules.{every, is_name_byte, is_other, is_name}
+use Rattle.writing.specs.Rules.{is_name_byte, is_other, is_name}
 use Rattle.rereading.proofs.Endings.{blank_printable}
 use Rattle.card.specs.declared.Class.TheVariants as K
-
-pub or_case : (u v : Bool) → (u || v) ≡ true → (u ≡ true) ⊎ (v ≡ true)
-or_case true v e = inl refl
-or_case false v e = inr e
 
 abbrev Visible : ℕ → Type 0
 Visible b = (code "!" ≤ b) × (b ≤ code "~")
@@ -40,9 +37,9 @@ name_range b e =
     (λ r. ⊎_elim (λ x. inr (between (code "0") (code "9") b (omega arith) (omega arith) x))
     (λ r. ⊎_elim (λ x. inl (eqb-true b (code "-") x))
     (λ x. inr (let y : b ≡ code "_" = eqb-true b (code "_") x in (omega arith, omega arith)))
-    (or_case (eqb b (code "-")) (eqb b (code "_")) r))
-    (or_case (leb (code "0") b && leb b (code "9")) (eqb b (code "-") || eqb b (code "_")) r))
-    (or_case (leb (code "A") b && leb b (code "Z"))
+    (or_cases (eqb b (code "-")) (eqb b (code "_")) r))
+    (or_cases (leb (code "0") b && leb b (code "9")) (eqb b (code "-") || eqb b (code "_")) r))
+    (or_cases (leb (code "A") b && leb b (code "Z"))
     ((leb (code "0") b && leb b (code "9")) || (eqb b (code "-") || eqb b (code "_"))) e)
 
 name_visible : (b : ℕ) → is_name_byte b ≡ true → Visible b

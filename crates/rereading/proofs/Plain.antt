@@ -1,11 +1,12 @@
 -- Cards of logicals and numbers, by what their texts read as.
+use Rattle.std.specs.Prelude.{Ok}
 use Prim.Native.Nat.{ℕ, ◌-◌}
 use Prim.Native.Char.{code}
 use mathlib.Core.Path.{◌≡◌, refl, ap, ◌∙◌}
 use mathlib.Core.Bool.{Bool, true, false}
 use mathlib.Core.List.{List, [], ◌∷◌, ◌++◌, append_assoc}
 use lib.ListN.{length}
-use Rattle.text.specs.Bytes.{is_printable}
+use Rattle.text.specs.Bytes.{is_printable, every}
 use Rattle.text.specs.Text.{text_of}
 use Rattle.text.proofs.Texts.{bytes-text}
 use Rattle.numbers.specs.declared.Number.{Number}
@@ -17,13 +18,12 @@ use Rattle.value.specs.declared.Start.{Start}
 use Rattle.value.specs.Values.{keeps_comment, start_of, value_as, of_number, by_start, value_of}
 use Rattle.card.specs.Cards.{of_value}
 use Rattle.roles.specs.Roles.{Comment, entry, role_of}
-use Rattle.entries.specs.Answers.{is_there, bytes_in}
 use Rattle.writing.specs.Pieces.{tail_of}
 use Rattle.writing.specs.Written.{card_from, name_front, truth_text, number_room, justified, plain_text, held_for}
-use Rattle.writing.specs.Rules.{every, is_name_byte, is_name, is_comment}
+use Rattle.writing.specs.Rules.{is_name_byte, is_name, is_comment}
 use Rattle.rereading.proofs.Endings.{every_append, every_weaker, every-spaces}
 use Rattle.rereading.proofs.Names.{name-printable}
-use Rattle.rereading.proofs.Splitting.{spaced, split_names}
+use Rattle.rereading.proofs.Splitting.{texted, spaced, split_names}
 use Rattle.rereading.proofs.Valuing.{by_halves, by_start_lem}
 use Rattle.rereading.proofs.Fronts.{spaces, left, card-read}
 use Rattle.rereading.proofs.Cutting.{tail_printable}
@@ -52,8 +52,7 @@ module _ (b : ℕ) (s : List ℕ) (e : every is_name_byte (b ∷ s) ≡ true) (c
 
   -- the card of such a text, where its first byte says that it is read as v with text t
   plain_role : (name : List ℕ) → is_name name ≡ true → (v : Value) (t : List ℕ) → keeps_comment v ≡ true
-      → ((raw : List ℕ) → by_start (start_of b) (text_of (b ∷ s)) raw (is_there c) (text_of (bytes_in c))
-      ≡ value_as v (text_of t) (is_there c) (text_of (bytes_in c)))
+      → ((raw : List ℕ) → by_start (start_of b) (text_of (b ∷ s)) raw (texted c) ≡ Ok (value_as v (text_of t) (texted c)))
       → role_of (card_from (name_front name) (plain_text (b ∷ s) c)) ≡ entry name (held_for v t c)
   plain_role name good v t keeps about =
       let m = left (name_front name) (plain_text (b ∷ s) c) in
@@ -62,7 +61,7 @@ module _ (b : ℕ) (s : List ℕ) (e : every is_name_byte (b ∷ s) ≡ true) (c
       (card-read name (plain_text (b ∷ s) c) good plain_printable
       ∙ ap (λ (w : List ℕ). of_value false (text_of name) (value_of w)) (plain_spaced m)
       ∙ ap (of_value false (text_of name))
-      (by_halves raw (b ∷ s) c (split_names b s e room m c y) ∙ by_start_lem raw b s (is_there c) (text_of (bytes_in c)) ∙ about raw))
+      (by_halves raw (b ∷ s) c (split_names b s e room m c y) ∙ by_start_lem raw b s (texted c) ∙ about raw))
 
 -- ---- logicals
 truth_names : (t : Bool) → every is_name_byte (truth_text t) ≡ true
@@ -92,7 +91,7 @@ module _ (c : Comment) (y : is_comment c ≡ true) where
   figures_printable (figures {b} {s} first e) = plain_printable b s e c y
 
   abbrev number_read_lem : Number → ValueRead
-  number_read_lem r = value_as r.value r.text (is_there c) (text_of (bytes_in c))
+  number_read_lem r = value_as r.value r.text (texted c)
 
   pub figures_role : (name : List ℕ) → is_name name ≡ true → {t : List ℕ} → Figures t → (v : Value) (d : List ℕ)
       → keeps_comment v ≡ true
@@ -101,5 +100,5 @@ module _ (c : Comment) (y : is_comment c ≡ true) where
   unfolding of_number
   figures_role name good (figures {b} {s} first e) v d keeps is =
       plain_role b s e c y name good v d keeps (λ raw.
-      ap (λ (k : Start). by_start k (text_of (b ∷ s)) raw (is_there c) (text_of (bytes_in c))) first
-      ∙ ap (λ (w : List ℕ). number_read_lem (read_number w)) (bytes-text (b ∷ s)) ∙ ap number_read_lem is)
+      ap (λ (k : Start). by_start k (text_of (b ∷ s)) raw (texted c)) first
+      ∙ ap (λ (w : List ℕ). Ok (number_read_lem (read_number w))) (bytes-text (b ∷ s)) ∙ ap (λ (r : Number). Ok (number_read_lem r)) is)

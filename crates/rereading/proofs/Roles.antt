@@ -1,14 +1,15 @@
 -- What a card that is read is to a header, and the written cards of a string.
+use Rattle.std.specs.Prelude.{None, Ok, Result, Some}
 use Prim.Native.Nat.{ℕ}
 use mathlib.Core.Path.{◌≡◌, refl, ap, ap₂, ◌∙◌}
 use mathlib.Core.Bool.{true, false}
 use mathlib.Core.List.{List, [], ◌∷◌, map}
-use mathlib.Core.Option.{none, some}
+use Rattle.refusal.specs.declared.Fault.{Fault}
+use Rattle.text.specs.declared.Text.{Text}
 use Rattle.text.specs.Bytes.{ascii}
 use Rattle.text.specs.Text.{text_of, bytes_of}
 use Rattle.text.proofs.Texts.{bytes-text}
 use Rattle.splitting.specs.declared.Halves.{Halves}
-use Rattle.splitting.specs.declared.StringRead.{StringRead}
 use Rattle.splitting.specs.Split.{split_of}
 use Rattle.splitting.specs.Strings.{string_of}
 use Rattle.numbers.specs.declared.Value.{Value}
@@ -16,29 +17,28 @@ use Rattle.numbers.specs.declared.Value.TheVariants.{String}
 use Rattle.value.specs.Values.{keeps_comment, value_as}
 use Rattle.card.specs.declared.CardRead.{CardRead}
 use Rattle.card.specs.Cards.{of_value, string_card, continued, continuation_of, unplaced_of}
-use Rattle.roles.specs.Roles.{Comment, Held, Role, entry, more, comment_of, role_of}
-use Rattle.entries.specs.Answers.{is_there, bytes_in}
+use Rattle.roles.specs.Roles.{Comment, Held, Role, entry, more, comment_read, role_of}
 use Rattle.writing.specs.Pieces.{Piece, piece_text}
 use Rattle.writing.specs.Written.{card_from, name_front, continue_front, string_cards, held_for}
 use Rattle.writing.specs.Rules.{is_name}
 use Rattle.rereading.proofs.Lists.{All, no_more, also}
 use Rattle.rereading.proofs.Scanning.{within}
-use Rattle.rereading.proofs.Splitting.{halves_of_lem, split_quoted}
+use Rattle.rereading.proofs.Splitting.{texted, halves_of_lem, split_quoted}
 use Rattle.rereading.proofs.Valuing.{string-within, value-quoted}
 use Rattle.rereading.proofs.Fronts.{left, card-read, continue_read, continue_text, role_by_lem}
 use Rattle.rereading.proofs.Cutting.{Sound, piece_printable}
 
 -- a comment that was read
-comment-back : (c : Comment) → comment_of (is_there c) (bytes_of (text_of (bytes_in c))) ≡ c
-comment-back none = refl
-comment-back (some c) = ap some (bytes-text c)
+comment-back : (c : Comment) → comment_read (texted c) ≡ c
+comment-back None = refl
+comment-back (Some c) = ap Some (bytes-text c)
 
 -- a card whose value is read with text t and comment c is the entry of its name, with that value, text and comment
 pub value_role : (card name : List ℕ) (v : Value) (t : List ℕ) (c : Comment) → keeps_comment v ≡ true
-    → unplaced_of card ≡ of_value false (text_of name) (value_as v (text_of t) (is_there c) (text_of (bytes_in c)))
+    → unplaced_of card ≡ of_value false (text_of name) (Ok (value_as v (text_of t) (texted c)))
     → role_of card ≡ entry name (held_for v t c)
 value_role card name v t c keeps e =
-    let read = comment_of (is_there c) (bytes_of (text_of (bytes_in c))) in
+    let read = comment_read (texted c) in
     role_by_lem card e
     ∙ rw keeps (ap (λ (n : List ℕ). entry n (held_for v (bytes_of (text_of t)) read)) (bytes-text name)
     ∙ ap₂ (λ (s : List ℕ) (d : Comment). entry name (held_for v s d)) (bytes-text t) (comment-back c))
@@ -57,15 +57,14 @@ string_role name e {p} h =
     ∙ ap (of_value false (text_of name)) (value-quoted p.text h.printable h.settles 0 room p.comment h.remark))
 
 -- and a CONTINUE card likewise
-abbrev read_by : Halves → CardRead
-read_by h = continued h.answer (text_of (ascii "CONTINUE")) h.value h.comment
+abbrev read_by : Result Halves Fault → Result CardRead Fault
+read_by h = continued h (text_of (ascii "CONTINUE"))
 
-abbrev string_by : Comment → StringRead → CardRead
-string_by c r = string_card r.answer (text_of (ascii "CONTINUE")) r.text (is_there c) (text_of (bytes_in c))
+abbrev string_by : Comment → Result Text Fault → Result CardRead Fault
+string_by c r = string_card r (text_of (ascii "CONTINUE")) (texted c)
 
 halves-read : (s : List ℕ) (c : Comment) → read_by (halves_of_lem (within s) c) ≡ string_by c (string_of (within s))
-halves-read s none = ap (λ (w : List ℕ). string_by none (string_of w)) (bytes-text (within s))
-halves-read s (some c) = ap (λ (w : List ℕ). string_by (some c) (string_of w)) (bytes-text (within s))
+halves-read s c = ap (λ (w : List ℕ). string_by c (string_of w)) (bytes-text (within s))
 
 continue_role : {p : Piece} → Sound p → role_of (card_from continue_front (piece_text p)) ≡ more p.text p.comment
 unfolding continuation_of

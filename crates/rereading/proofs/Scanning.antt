@@ -8,14 +8,14 @@ use mathlib.Core.List.{List, [], ◌∷◌, ◌++◌, append_assoc}
 use borrow.Author.Tests.{eqb-true, eqb-false}
 use lib.Dec.{eqb}
 use lib.ListN.{length}
-use Rattle.text.specs.Bytes.{ascii, is_printable, shown}
+use Rattle.text.specs.Bytes.{ascii, is_printable, shown, every}
 use Rattle.text.proofs.Texts.{length-put}
 use Rattle.splitting.specs.declared.Quoting.{Quoting}
 use Rattle.splitting.specs.declared.Quoting.TheVariants.{Outside, Inside, Closed}
 use Rattle.splitting.specs.Scan.{byte_class, puts, move, Scan, put_before, after, scan_from}
 use Rattle.splitting.proofs.Scanning.{inside-other}
 use Rattle.writing.specs.Pieces.{doubled, quoted}
-use Rattle.writing.specs.Rules.{every, is_name_byte}
+use Rattle.writing.specs.Rules.{is_name_byte}
 use Rattle.rereading.proofs.Endings.{every_first, every_rest, shown-printable}
 use Rattle.rereading.proofs.Names.{name_class, name-printable}
 

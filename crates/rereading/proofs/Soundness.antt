@@ -1,20 +1,20 @@
 -- Every written card has 80 printable bytes and is accepted.
+use Rattle.std.specs.Prelude.{Err, Ok, Result}
 use Prim.Native.Nat.{ℕ}
 use mathlib.Core.Path.{◌≡◌, refl, sym, ap, ◌∙◌}
 use mathlib.Core.Bool.{Bool, true, false, true≢false}
 use mathlib.Core.List.{List, [], ◌∷◌, map}
 use Rattle.laws.proofs.Truths.{false≢true}
 use Rattle.refusal.specs.declared.Fault.{Fault}
-use Rattle.text.specs.Bytes.{is_printable}
+use Rattle.text.specs.Bytes.{is_printable, every}
 use Rattle.numbers.specs.declared.Value.{Value}
-use Rattle.card.specs.declared.Card.{Card}
-use Rattle.card.specs.declared.CardAnswer.{CardAnswer}
+use Rattle.card.specs.declared.CardRead.{CardRead}
 use Rattle.card.specs.Cards.{card_of}
-use Rattle.roles.specs.Roles.{Comment, refused, role_by, role_in, role_of}
+use Rattle.roles.specs.Roles.{Comment, refused, role_read, role_of}
 use Rattle.joining.specs.Belonging.{Open, ended, idle, held, Effect, gives, nothing, stops, does, leaves}
 use Rattle.writing.specs.Pieces.{piece_text}
 use Rattle.writing.specs.Written.{name_front, continue_front, plain_text, written_cards}
-use Rattle.writing.specs.Rules.{every, is_name}
+use Rattle.writing.specs.Rules.{is_name}
 use Rattle.rereading.specs.ReadsBack.{EachIsSound}
 use Rattle.rereading.proofs.Lists.{All, all_at, no_more, also}
 use Rattle.rereading.proofs.Fronts.{front-printable, continue_printable, card-printable}
@@ -24,7 +24,6 @@ use Rattle.rereading.proofs.Forms.{Formed, written_formed, one-card, string_card
 use Rattle.rereading.proofs.Owning.{Owns, gives_one}
 use Rattle.rereading.proofs.Answering.{written_owned}
 use Rattle.rereading.proofs.Lengths.{IsWhole, string_all, written-whole}
-use Rattle.card.specs.declared.CardAnswer.TheVariants as A
 
 -- ---- printable bytes
 abbrev Printable : List ℕ → Type 0
@@ -41,7 +40,7 @@ formed_printable {name} {c} good (string_cards_lem {s} is remark short) =
 
 -- ---- a card that gives an entry is read
 abbrev IsRead : List ℕ → Type 0
-IsRead card = (x : Card) × ((card_of card).answer ≡ A.Read x)
+IsRead card = (x : CardRead) × (card_of card ≡ Ok x)
 
 abbrev is_gift : Effect → Bool
 is_gift (gives e) = true
@@ -55,11 +54,11 @@ gives_nothing idle f = refl
 gives_nothing (held e) f = refl
 
 read_by : (q : Open) (card : List ℕ) → is_gift (does q (role_of card)) ≡ true → IsRead card
-read_by q card e = go (card_of card).answer refl e
+read_by q card e = go (card_of card) refl e
   where
-    go : (a : CardAnswer) → (card_of card).answer ≡ a → is_gift (does q (role_in (role_by a) (card_of card))) ≡ true → IsRead card
-    go (A.Read x) is e = (x, is)
-    go (A.Refused f) is e = absurd (true≢false (sym e ∙ gives_nothing q f))
+    go : (a : Result CardRead Fault) → card_of card ≡ a → is_gift (does q (role_read a)) ≡ true → IsRead card
+    go (Ok x) is e = (x, is)
+    go (Err f) is e = absurd (true≢false (sym e ∙ gives_nothing q f))
 
 owned_read : (name : List ℕ) (q : Open) (cs : List (List ℕ)) → Owns name q (map role_of cs) → All IsRead cs
 owned_read name q [] o = no_more

@@ -1,29 +1,30 @@
 -- Splitting what was written: the value text and the comment.
+use Rattle.std.specs.Prelude.{None, Ok, Option, Result, Some}
 use Prim.Native.Nat.{ℕ, suc, ◌+◌}
 use Prim.Native.Char.{code}
 use native.Mathlib.Omega.{arith}
 use mathlib.Core.Path.{◌≡◌, refl, sym, ap, ap₂, ◌∙◌}
 use mathlib.Core.Bool.{true, false, not}
 use mathlib.Core.List.{List, [], ◌∷◌, ◌++◌, append-nil, map}
-use mathlib.Core.Option.{none, some}
 use borrow.Author.Tests.{not-true}
 use lib.ListN.{length, replicate, drop}
 use lib.Seq.{drop-append-add}
 use Rattle.laws.proofs.Truths.{and_both}
-use Rattle.text.specs.Bytes.{ascii, is_space, is_blank, is_printable, shown}
+use Rattle.refusal.specs.declared.Fault.{Fault}
+use Rattle.text.specs.declared.Text.{Text}
+use Rattle.text.specs.Bytes.{ascii, is_space, is_blank, is_printable, shown, every}
 use Rattle.text.specs.Trim.{trim_end, trim}
 use Rattle.text.specs.Ends.{ends_with}
 use Rattle.text.specs.Text.{text_of}
 use Rattle.splitting.specs.declared.Quoting.{Quoting}
 use Rattle.splitting.specs.declared.Quoting.TheVariants.{Outside, Closed}
 use Rattle.splitting.specs.declared.Slash.TheVariants.{At, Nowhere}
-use Rattle.splitting.specs.declared.SplitAnswer.TheVariants.{Bare, Commented}
 use Rattle.splitting.specs.declared.Halves.{Halves}
 use Rattle.splitting.specs.Scan.{byte_class, Scan, put_before, after, scan_from}
 use Rattle.splitting.specs.Split.{parts_at, split_of}
 use Rattle.roles.specs.Roles.{Comment}
 use Rattle.writing.specs.Pieces.{doubled, quoted, tail_of}
-use Rattle.writing.specs.Rules.{every, is_name_byte, is_remark, is_comment}
+use Rattle.writing.specs.Rules.{is_name_byte, is_remark, is_comment}
 use Rattle.rereading.proofs.Endings.{every_first, blank_printable, shown_all, last_is, ends_space, last-behind, end_kept}
 use Rattle.rereading.proofs.Endings.{trim-padded, last_agrees, last_none}
 use Rattle.rereading.proofs.Names.{name_blank, name_space}
@@ -65,10 +66,14 @@ remark_last (b ∷ c) e =
 remark_read : (c : List ℕ) → is_remark c ≡ true → trim_end is_space (map shown c) ≡ c
 remark_read c e = ap (trim_end is_space) (shown_all c (remark_printable c e)) ∙ end_kept is_space c (remark_end c e)
 
+-- a comment as a card's text holds it
+abbrev pub texted : Comment → Option Text
+texted None = None
+texted (Some c) = Some (text_of c)
+
 -- a value text and a comment, as splitting finds them
-abbrev pub halves_of_lem : List ℕ → Comment → Halves
-halves_of_lem v none = record { answer = Bare; value = text_of v; comment = text_of [] }
-halves_of_lem v (some c) = record { answer = Commented; value = text_of v; comment = text_of c }
+abbrev pub halves_of_lem : List ℕ → Comment → Result Halves Fault
+halves_of_lem v c = Ok (record { value = text_of v; comment = texted c })
 
 -- a text behind n spaces and before m of them
 abbrev pub spaced : ℕ → ℕ → List ℕ → List ℕ
@@ -83,7 +88,7 @@ unfolding is_space
 space_space = refl
 
 -- a trimmed text, by its scan
-abbrev by_scan : List ℕ → Halves
+abbrev by_scan : List ℕ → Result Halves Fault
 by_scan s = let r = scan_from Outside s 0 in parts_at r.place s r.value
 
 module _ {q : Quoting} (d : ℕ) (t : List ℕ) (e : ℕ) (v : List ℕ) (out : Out q) (pass : Passes (d ∷ t) (e ∷ v) q)
@@ -91,8 +96,8 @@ module _ {q : Quoting} (d : ℕ) (t : List ℕ) (e : ℕ) (v : List ℕ) (out : 
     (end : last_is is_space (e ∷ v) ≡ false) where
   tail_last : (c : Comment) → is_comment c ≡ true → last_is is_blank ((d ∷ t) ++ tail_of c) ≡ false
   unfolding last_is
-  tail_last none y = ap (last_is is_blank) (append-nil (d ∷ t)) ∙ ending
-  tail_last (some c) y = last-behind is_blank (d ∷ t) (code " ") (code "/" ∷ c) ∙ remark_last c y
+  tail_last None y = ap (last_is is_blank) (append-nil (d ∷ t)) ∙ ending
+  tail_last (Some c) y = last-behind is_blank (d ∷ t) (code " ") (code "/" ∷ c) ∙ remark_last c y
 
   trimmed : (n m : ℕ) (c : Comment) → is_comment c ≡ true
       → trim is_blank (spaced n m ((d ∷ t) ++ tail_of c)) ≡ (d ∷ t) ++ tail_of c
@@ -105,18 +110,18 @@ module _ {q : Quoting} (d : ℕ) (t : List ℕ) (e : ℕ) (v : List ℕ) (out : 
   value-spaced = trim-padded is_space 0 1 (code " ") e v space_space front end
 
   halves : (c : Comment) → is_comment c ≡ true → by_scan ((d ∷ t) ++ tail_of c) ≡ halves_of_lem (e ∷ v) c
-  halves none y =
+  halves None y =
       ap (λ (r : Scan). parts_at r.place ((d ∷ t) ++ []) r.value)
       (pass [] ∙ ap (put_before (e ∷ v)) (ends_here q (length (d ∷ t))))
-      ∙ ap (λ (w : List ℕ). halves_of_lem w none) value_alone_lem
-  halves (some c) y =
-      let tail = tail_of (some c) in
+      ∙ ap (λ (w : List ℕ). halves_of_lem w None) value_alone_lem
+  halves (Some c) y =
+      let tail = tail_of (Some c) in
       let n : suc (suc (length (d ∷ t))) ≡ length (d ∷ t) + 2 = omega arith in
       let cut : drop (suc (suc (length (d ∷ t)))) ((d ∷ t) ++ tail) ≡ c =
       ap (λ (k : ℕ). drop k ((d ∷ t) ++ tail)) n ∙ drop-append-add (d ∷ t) tail 2 in
       ap (λ (r : Scan). parts_at r.place ((d ∷ t) ++ tail) r.value)
       (pass tail ∙ ap (put_before (e ∷ v)) (slash_ends out c (length (d ∷ t))))
-      ∙ ap₂ (λ (w k : List ℕ). halves_of_lem w (some k)) value-spaced
+      ∙ ap₂ (λ (w k : List ℕ). halves_of_lem w (Some k)) value-spaced
       (ap (λ (k : List ℕ). trim_end is_space (map shown k)) cut ∙ remark_read c y)
 
   -- a value that the scan passes, with its comment, among spaces

@@ -1,4 +1,5 @@
 -- Strings that may be written, and their pieces.
+use Rattle.std.specs.Prelude.{None, Some}
 use Prim.Native.Nat.{ℕ, suc, ◌≤◌}
 use Prim.Native.Char.{code}
 use native.Mathlib.Omega.{arith}
@@ -6,23 +7,22 @@ use mathlib.Core.Path.{◌≡◌, refl, sym, subst, ◌∙◌}
 use mathlib.Core.Logic.{◌⊎◌, inl, inr, ⊎_elim}
 use mathlib.Core.Bool.{true, false, not, ◌&&◌, ◌||◌}
 use mathlib.Core.List.{List, [], ◌∷◌}
-use mathlib.Core.Option.{none, some}
 use borrow.Author.Tests.{le-leb, leb-true, not-true}
 use lib.Dec.{leb}
 use lib.ListN.{length}
 use Rattle.laws.proofs.Truths.{and_both}
-use Rattle.text.specs.Bytes.{ascii, is_space, is_printable}
+use Rattle.text.specs.Bytes.{ascii, is_space, is_printable, every}
 use Rattle.text.specs.Same.{same}
 use Rattle.text.specs.Ends.{ends_with}
 use Rattle.text.proofs.Comparing.{same_eq}
 use Rattle.roles.specs.Roles.{Comment}
 use Rattle.joining.specs.Words.{ends_open}
 use Rattle.writing.specs.Pieces.{doubled, text_room, last_piece, pieces_from, pieces_of}
-use Rattle.writing.specs.Rules.{every, is_comment, is_short, text_limit, remark_limit, ends_well, is_text}
+use Rattle.writing.specs.Rules.{is_comment, is_short, text_limit, remark_limit, ends_well, is_text}
 use Rattle.rereading.proofs.Lists.{All, no_more, also}
 use Rattle.rereading.proofs.Endings.{last_is, ends_space}
 use Rattle.rereading.proofs.Valuing.{settled_space}
-use Rattle.rereading.proofs.Names.{or_case}
+use Rattle.std.proofs.lemmas.Bool.{or_cases}
 use Rattle.rereading.proofs.Cutting.{pieces_cut, Sound, pieces_sound}
 
 module _ (s : List ℕ) (e : is_text s ≡ true) where
@@ -51,13 +51,13 @@ module _ (s : List ℕ) (e : is_text s ≡ true) where
   pub string-end : (last_is is_space s ≡ false) ⊎ (s ≡ ascii " ")
   string-end =
       ⊎_elim (λ x. inl (sym (ends_space s) ∙ not-true (ends_with (code " ") s) x)) (λ x. inr (same_eq s (ascii " ") x))
-      (or_case (not (ends_with (code " ") s)) (same s (ascii " ")) ends.0)
+      (or_cases (not (ends_with (code " ") s)) (same s (ascii " ")) ends.0)
 
 -- one space is written on one card, whatever its comment
 pub one_space : (c : Comment) → is_short remark_limit c ≡ true → pieces_of (ascii " ") c ≡ last_piece (ascii " ") c ∷ []
 unfolding pieces_from doubled
-one_space none y = refl
-one_space (some c) y =
+one_space None y = refl
+one_space (Some c) y =
     let long : length c ≤ remark_limit = leb-true (length c) remark_limit y in
     rw (le-leb (suc (suc (suc (suc (suc (length c)))))) text_room (omega arith))
 

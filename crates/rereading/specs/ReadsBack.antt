@@ -1,20 +1,17 @@
 -- What is written reads back (SPECIFICATION 16.5).
-use Rattle.std.specs.Prelude.{ℕ, ◌*◌, ◌<◌, ◌≤◌, ◌≡◌, Bool, true, false, List, [], ◌∷◌, ◌++◌, map, length, get_or, drop}
-use Rattle.std.proofs.Math.Option.{none, some}
-use Rattle.text.specs.Bytes.{is_printable}
+use Rattle.std.specs.Prelude.{ℕ, ◌*◌, ◌<◌, ◌≤◌, ◌≡◌, Bool, true, false, List, [], ◌∷◌, ◌++◌, map, length, get_or, drop, Ok, None, Some}
+use Rattle.text.specs.Bytes.{is_printable, every}
 use Rattle.text.specs.Text.{size}
 use Rattle.numbers.specs.declared.Value.{Value}
-use Rattle.card.specs.declared.Card.{Card}
-use Rattle.card.specs.declared.CardAnswer.TheVariants.{Read}
+use Rattle.card.specs.declared.CardRead.{CardRead}
 use Rattle.card.specs.Cards.{card_of}
 use Rattle.roles.specs.Roles.{Comment, Role, entry, more, neutral, last, refused, role_of}
 use Rattle.roles.specs.Cards.{cards_in, roles_of}
 use Rattle.joining.specs.Lookup.{lookup}
 use Rattle.entries.specs.Answers.{given, lookup_of}
 use Rattle.entries.specs.Halves.{holds, named}
-use Rattle.writing.specs.declared.WriteAnswer.TheVariants.{Cards}
 use Rattle.writing.specs.Written.{written_cards, held_for}
-use Rattle.writing.specs.Rules.{every, is_name, is_writable}
+use Rattle.writing.specs.Rules.{is_name, is_writable}
 use Rattle.writing.specs.Block.{write_of}
 use Rattle.demands.specs.Demands.{IsAccepted}
 
@@ -29,8 +26,8 @@ pub record MayWrite (name : List ℕ) (v : Value) (text : List ℕ) (c : Comment
 pub record IsSound (card : List ℕ) : Type 0 where
   pub whole : length card ≡ size
   pub printable : every is_printable card ≡ true
-  pub reading : Card
-  pub read : (card_of card).answer ≡ Read reading
+  pub reading : CardRead
+  pub read : card_of card ≡ Ok reading
 
 abbrev pub EachIsSound : Type 0
 EachIsSound =
@@ -56,7 +53,7 @@ pub record AtFront (name : List ℕ) (v : Value) (text : List ℕ) (c : Comment)
 abbrev pub BlockHolds : Type 0
 BlockHolds =
     (name : List ℕ) (v : Value) (text : List ℕ) (c : Comment) (block : List ℕ) (n : ℕ)
-    → (write_of name v text c block).answer ≡ Cards n → AtFront name v text c block (write_of name v text c block).block n
+    → (write_of name v text c block).answer ≡ Ok n → AtFront name v text c block (write_of name v text c block).block n
 
 -- ---- in a header
 
@@ -84,14 +81,14 @@ pub record StandIn (h name : List ℕ) (cards : List (List ℕ)) : Type 0 where
   pub behind : List Role
   pub order : spoken (roles_of h) ≡ before ++ (map role_of cards ++ behind)
   pub reached : goes_on before ≡ true
-  pub latest : lookup name behind ≡ none
+  pub latest : lookup name behind ≡ None
 
 -- What is written is answered by the lookup as the same kind, number, digits, text and comment, with any lent buffers.
 abbrev pub ReadsBack : Type 0
 ReadsBack =
     (name : List ℕ) (v : Value) (text : List ℕ) (c : Comment) → MayWrite name v text c
     → (h : List ℕ) → IsAccepted h → StandIn h name (written_cards v name text c)
-    → (lent-text lent-comment : List ℕ) → lookup_of h name lent-text lent-comment ≡ given (some (held_for v text c)) lent-text lent-comment
+    → (lent-text lent-comment : List ℕ) → lookup_of h name lent-text lent-comment ≡ given (Some (held_for v text c)) lent-text lent-comment
 
 -- The header holds for its reader what is written, so each half of the lookup answers it, with its own lent buffer.
 abbrev pub HalvesReadBack : Type 0

@@ -7,25 +7,24 @@ use native.Mathlib.Nat.{zero-add, sub-zero}
 use native.Mathlib.Omega.{arith}
 use borrow.Rule.Slice.PartMut.{mid_of, post_of, put_mid, mid_len, same_len_mid, take_put, drop_put}
 use lib.IntN.{ℤ}
-use lib.ListN.{length, take, drop, set, length-take, length-drop}
+use lib.ListN.{length, take, drop, set}
 use lib.Seq.{sets, set-set, set_comm, length-take-le, take_at, drop_at}
 use Rattle.rice.specs.Widths.{bits_of, fs_bits}
 use Rattle.rice.specs.Reads.{found, field_read, moved}
 use Rattle.rice.specs.Held.{held_bits}
 use Rattle.rice.specs.Blocks.{StepOutcome, Run, run_of, cut, ran_to, filled_of, code_of, block_of}
-use Rattle.rice.specs.Filling.{raised, spot_at, Outlook, outlook, whole_at}
+use Rattle.rice.specs.Filling.{raised, counted, spot_at, Outlook, outlook, whole_at}
 use Rattle.rice.specs.Steps.{part_lent, after_step, steps_of}
 use Rattle.rice.specs.Easy.{Standing, Reaches}
 use Rattle.rice.specs.declared.width.Width.{Width}
 use Rattle.rice.specs.declared.width.Code.{Code}
-use Rattle.rice.specs.declared.width.Coded.TheVariants.{Known}
 use Rattle.rice.specs.declared.Cursor.{Cursor}
-use Rattle.rice.specs.declared.Stepped.TheVariants.{Next}
 use Rattle.rice.proofs.HeldBits.{held_first}
 use Rattle.rice.proofs.Wrapping.{sizes}
 use Rattle.rice.proofs.Reading.{field_found}
 use Rattle.rice.proofs.FsCodes.{block-known}
-use Rattle.rice.proofs.Reaching.{facts, reach-start, reach_on, reach-block, step_is}
+use Rattle.rice.proofs.Reaching.{stand, reach_on, reach-block, step_is}
+use Rattle.std.specs.Prelude.{Some, Ok}
 
 -- ---- the FS field at the top of a window
 
@@ -74,7 +73,7 @@ abbrev answered : Cursor → List ℤ → Outlook → StepOutcome
 answered c part o = record { answer = ran_to c (length part) o.end o.written; content = o.content }
 
 module _ (w : Width) (s : List ℕ) (c : Cursor) (f q level : ℕ) (code : Code) (field : field_read s c.bit (fs_bits w) ≡ found f q)
-    (says : code_of w f ≡ Known code) (last : raised w level ≡ c.last) where
+    (says : code_of w f ≡ Some code) (last : raised w level ≡ c.last) where
   pub block_came : (part : List ℤ) (o : Outlook) → outlook w code s part (spot_at q level) ≡ o
       → block_of w s c part ≡ answered (moved c q) part o
   block_came part o e =
@@ -100,7 +99,8 @@ module _ (w : Width) (s : List ℕ) (c : Cursor) (f q level : ℕ) (code : Code)
 
 -- ---- a part that is written, and whose block is made again, changes nothing
 
-put_mid_lem : (d e : ℕ) (px ys : List ℤ) → d ≤ length px → length ys ≡ e - d → mid_of d (e - d) (put_mid d (e - d) px ys) ≡ ys
+put_mid_lem : (d e : ℕ) (px ys : List ℤ) → d ≤ length px → length ys ≡ e - d
+    → mid_of d (e - d) (put_mid d (e - d) px ys) ≡ ys
 put_mid_lem d e px ys h l =
     ap (take (e - d)) (drop_at (take d px) (ys ++ post_of d (e - d) px) d (length-take-le d px h))
     ∙ take_at ys (post_of d (e - d) px) (e - d) l
@@ -129,11 +129,8 @@ module _ {w : Width} {s : List ℕ} {nx nblock : ℕ} {c : Cursor} {px : List �
   reach-same ys l same =
       let d = c.done in
       let new = put_mid d (e - d) px ys in
-      let T : Standing w s nx nblock c new = record {
-        planned = S.planned;
-        sized = same_len_mid d (e - d) px ys (l ∙ sym (mid_len d e px (omega (arith, S.sized)))) ∙ S.sized;
-        rules = S.rules;
-      }
+      let T : Standing w s nx nblock c new =
+      stand S.planned (same_len_mid d (e - d) px ys (l ∙ sym (mid_len d e px (omega (arith, S.sized)))) ∙ S.sized) S.rules
       in
       record {
         steps = 0;
@@ -147,52 +144,29 @@ module _ {w : Width} {s : List ℕ} {nx nblock : ℕ} {c : Cursor} {px : List �
 
 -- ---- a loop over blocks: what is reached, with the last pixel counted from the lowest one
 
-abbrev pub counted : Width → ℕ → ℕ → ℕ → Cursor
-counted w bit done level = record { bit = bit; done = done; last = raised w level }
-
 pub record Onto (w : Width) (s : List ℕ) (nx nblock : ℕ) (c₀ : Cursor) (px₀ px : List ℤ) (bit done level : ℕ) : Type 0 where
   pub small : level < 2 ^ bits_of w
   pub reach : Reaches w s nx nblock c₀ px₀ (counted w bit done level) px
 
--- a part of the pixels has few enough of them
-pub part_small : {w : Width} {s : List ℕ} {nx nblock : ℕ} {c : Cursor} {px : List ℤ} (d e : ℕ) → Standing w s nx nblock c px
-    → length (mid_of d (e - d) px) < 2 ^ 32
-part_small {px = px} d e S =
-    let n : length (mid_of d (e - d) px) ≡ min (e - d) (length px - d) = length-take (e - d) (drop d px)
-    ∙ ap (min (e - d)) (length-drop d px) in
-    omega (arith, (facts S).few, S.sized)
-
--- the loop's start, and its end: the last pixels are those of the two cursors
-module _ {w : Width} {s : List ℕ} {nx nblock : ℕ} (c : Cursor) {px₀ : List ℤ} (level₀ : ℕ)
-    (first : raised w level₀ ≡ c.last) where
-  pub onto-start : level₀ < 2 ^ bits_of w → Standing w s nx nblock c px₀
-      → Onto w s nx nblock (counted w c.bit c.done level₀) px₀ px₀ c.bit c.done level₀
-  onto-start h S = record {
-    small = h;
-    reach = reach-start
-        (subst (λ (z : ℤ). Standing w s nx nblock (record { bit = c.bit; done = c.done; last = z }) px₀) (sym first) S);
-  }
-
-  pub onto-end : {px : List ℤ} {bit done level : ℕ}
-      → Onto w s nx nblock (counted w c.bit c.done level₀) px₀ px bit done level → (z : ℤ) → z ≡ raised w level
-      → Reaches w s nx nblock c px₀ (record { bit = bit; done = done; last = z }) px
-  onto-end {px} {bit} {done} {level} O z e =
-      subst (λ (y : ℤ). Reaches w s nx nblock (record { bit = c.bit; done = c.done; last = y }) px₀
-      (record { bit = bit; done = done; last = z }) px) first
-      (subst (λ (y : ℤ). Reaches w s nx nblock (counted w c.bit c.done level₀) px₀
-      (record { bit = bit; done = done; last = y }) px) (sym e) O.reach)
+-- the loop's end: the last pixels are those of the two cursors
+pub onto-end : {w : Width} {s : List ℕ} {nx nblock : ℕ} (c : Cursor) {px₀ : List ℤ} (level₀ : ℕ) → raised w level₀ ≡ c.last
+    → {px : List ℤ} {bit done level : ℕ} → Onto w s nx nblock (counted w c.bit c.done level₀) px₀ px bit done level
+    → (d : Cursor) → d ≡ counted w bit done level → Reaches w s nx nblock c px₀ d px
+onto-end {w} {s} {nx} {nblock} c {px₀} level₀ first {px} O d e =
+    subst (λ (y : ℤ). Reaches w s nx nblock (record { bit = c.bit; done = c.done; last = y }) px₀ d px) first
+    (subst (λ (x : Cursor). Reaches w s nx nblock (counted w c.bit c.done level₀) px₀ x px) (sym e) O.reach)
 
 module _ {w : Width} {s : List ℕ} {nx nblock : ℕ} {c₀ : Cursor} {px₀ px : List ℤ} {bit done level : ℕ}
     (O : Onto w s nx nblock c₀ px₀ px bit done level) (e : ℕ) (is : e ≡ done + nblock) (more : nblock ≤ nx - done)
-    (f q : ℕ) (code : Code) (field : field_read s bit (fs_bits w) ≡ found f q) (says : code_of w f ≡ Known code) where
+    (f q : ℕ) (code : Code) (field : field_read s bit (fs_bits w) ≡ found f q) (says : code_of w f ≡ Some code) where
   left : done < nx
-  left = omega (arith, (facts O.reach.standing).block, (facts O.reach.standing).done)
+  left = omega (arith, O.reach.standing.block, O.reach.standing.done)
 
   ends : e ≡ min (done + nblock) nx
-  ends = omega (arith, (facts O.reach.standing).done)
+  ends = omega (arith, O.reach.standing.done)
 
   lent : length (mid_of done (e - done) px) ≡ e - done
-  lent = mid_len done e px (omega (arith, (facts O.reach.standing).done, O.reach.standing.sized))
+  lent = mid_len done e px (omega (arith, O.reach.standing.done, O.reach.standing.sized))
 
   pub onto-block : (p next : ℕ) (new : List ℤ) → next < 2 ^ bits_of w
       → outlook w code s (mid_of done (e - done) px) (spot_at q level) ≡ whole_at p (raised w next) new
@@ -206,7 +180,7 @@ module _ {w : Width} {s : List ℕ} {nx nblock : ℕ} {c₀ : Cursor} {px₀ px 
         reach = reach_on O.reach
             (reach-block O.reach.standing left done e refl ends new (sym (ap (λ (x : StepOutcome). x.content) b))
             (counted w p e next)
-            (ap (λ (n : ℕ). Next (record { bit = p; done = n; last = raised w next })) to
+            (ap (λ (n : ℕ). Ok (Some (record { bit = p; done = n; last = raised w next }))) to
             ∙ sym (ap (λ (x : StepOutcome). x.answer) b)));
       }
 

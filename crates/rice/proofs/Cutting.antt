@@ -8,7 +8,6 @@ use native.Mathlib.Nat.{mod-eq_of_lt, mod-eq-sub-mod, mul-le-mul, mul-le-mul_rig
 use native.Mathlib.Omega.{arith}
 use lib.Bits.{bit_and, bit_xor, and_mask, xor_add_and}
 use lib.Count.{count_leading_zeros, leading_le, leading_length, leading_top}
-use lib.Dec.{lit<}
 use lib.Pow.{pow-add, pow_mono, shl-shr, shr_le, shr_lt, shr_mono}
 use Rattle.rice.specs.Tile.{bits_in, field_at}
 use Rattle.rice.specs.Widths.{fs_bits, fs_top}
@@ -16,7 +15,6 @@ use Rattle.rice.specs.Reads.{found, field_read, diff_read}
 use Rattle.rice.specs.Held.{held_bits}
 use Rattle.rice.specs.Words.{Told, Pair, Pairs, Single}
 use Rattle.rice.specs.declared.width.Width.{Width}
-use Rattle.rice.specs.declared.width.Width.TheVariants.{Eight, Sixteen, ThirtyTwo}
 use Rattle.rice.specs.declared.width.Code.TheVariants.{Same, Split}
 use Rattle.rice.proofs.HeldBits.{held_shift, held_first}
 use Rattle.rice.proofs.Wrapping.{sizes}
@@ -198,11 +196,6 @@ module _ {fs v w x y z a b c d i j n o : ℕ} (t₁ : Told v fs i a w) (t₂ : T
       }
 
 -- ---- an FS field, and one code word after it
-
-pub field-some : (w : Width) → 0 < fs_bits w
-field-some Eight = lit< tt
-field-some Sixteen = lit< tt
-field-some ThirtyTwo = lit< tt
 
 module _ (w : Width) (s : List ℕ) (p m n x : ℕ) (k : m ≤ 64) (r : 57 ≤ m) (h : p + m ≤ bits_in s) (e : x ≡ held_bits s p m)
     (size : n ≡ fs_bits w) where

@@ -10,33 +10,31 @@ use lib.Dec.{eqb}
 use lib.IntN.{ℤ}
 use lib.ListN.{length, take, drop, length-take, length-drop}
 use Rattle.rice.specs.Widths.{in_width}
+use Rattle.refusal.specs.declared.Refusal.{Refusal}
 use Rattle.refusal.specs.declared.Refusal.TheVariants as R
-use Rattle.rice.specs.Blocks.{StepOutcome, block_of}
+use Rattle.rice.specs.Blocks.{broken, StepOutcome, block_of}
 use Rattle.rice.specs.Steps.{plan_of, open_of, stands, part_lent, step_in, step_of}
 use Rattle.rice.specs.Steps.{DecodeOutcome, decode_refused, decode_from, decode_in, decode_of}
 use Rattle.rice.specs.declared.width.Width.{Width}
 use Rattle.rice.specs.declared.Cursor.{Cursor}
-use Rattle.rice.specs.declared.Stepped.{Stepped}
-use Rattle.rice.specs.declared.Stepped.TheVariants.{Done, Next, Refused}
-use Rattle.rice.specs.declared.Opened.{Opened}
-use Rattle.rice.specs.declared.width.Planned.{Planned}
-use Rattle.rice.specs.declared.width.Planned.TheVariants.{Of, None}
-use Rattle.rice.specs.declared.Decoded.{Decoded}
 use Rattle.rice.proofs.Landing.{Bounded, block_bounded}
 use Rattle.rice.proofs.Stepping.{plan_within, kept}
+use Rattle.std.specs.Prelude.{Option, Some, None, Result, Ok, Err}
+use Rattle.rice.specs.declared.Broken.{Broken}
+use Rattle.refusal.specs.declared.Fault.{Fault}
 
 -- ---- a step is done at the end, goes on, or is refused after at most as many pixels as are lent
 
-abbrev pub Fine : ℕ → ℕ → ℕ → Stepped → Type 0
-Fine nx d l Done = d ≡ nx
-Fine nx d l (Next c) = (d < c.done) × (c.done ≤ nx)
-Fine nx d l (Refused f m) = m ≤ l
+abbrev pub Fine : ℕ → ℕ → ℕ → Result (Option Cursor) Broken → Type 0
+Fine nx d l (Ok None) = d ≡ nx
+Fine nx d l (Ok (Some c)) = (d < c.done) × (c.done ≤ nx)
+Fine nx d l (Err b) = b.written ≤ l
 
-fine_of : (w : Width) (s : List ℕ) (c : Cursor) (nx l n : ℕ) (a : Stepped) → 0 < n → c.done + n ≤ nx → n ≤ l
+fine_of : (w : Width) (s : List ℕ) (c : Cursor) (nx l n : ℕ) (a : Result (Option Cursor) Broken) → 0 < n → c.done + n ≤ nx → n ≤ l
     → Bounded w s c n a → Fine nx c.done l a
-fine_of w s c nx l n Done h k m b = absurd b
-fine_of w s c nx l n (Next d) h k m b = (omega (arith, b.0), omega (arith, b.0))
-fine_of w s c nx l n (Refused f j) h k m b = omega arith
+fine_of w s c nx l n (Ok None) h k m b = absurd b
+fine_of w s c nx l n (Ok (Some d)) h k m b = (omega (arith, b.0), omega (arith, b.0))
+fine_of w s c nx l n (Err g) h k m b = omega arith
 
 by_test : (P : StepOutcome → Type 0) (t : Bool) {x y : StepOutcome} → (t ≡ true → P x) → (t ≡ false → P y) → P (cond t x y)
 by_test P true h k = h refl
@@ -54,8 +52,8 @@ module _ (s : List ℕ) (nx nblock bits : ℕ) (c : Cursor) (px : List ℤ) wher
       fine_of w s c nx (length px) (length part) (block_of w s c part).answer (omega arith) (omega arith) (omega arith)
       (block_bounded w s c part i)
 
-  in_fine : (p : Planned) → plan_of (length s) nx nblock bits ≡ p → FineOf (step_in s nx nblock c px p)
-  in_fine (Of w) e =
+  in_fine : (p : Option Width) → plan_of (length s) nx nblock bits ≡ p → FineOf (step_in s nx nblock c px p)
+  in_fine (Some w) e =
       by_test FineOf (eqb (length px) nx)
       (λ count. by_test FineOf (stands w s nx nblock c)
       (λ stand. by_test FineOf (eqb c.done nx) (λ done. eqb-true _ _ done)
@@ -77,18 +75,23 @@ module _ (s : List ℕ) (nx nblock bits : ℕ) (px : List ℤ) where
   unfolding decode_of
   decode_limits e = ap (decode_in s nx nblock bits px) e
 
-  module _ (w : Width) (plan : plan_of (length s) nx nblock bits ≡ Of w) where
+  module _ (w : Width) (plan : plan_of (length s) nx nblock bits ≡ Some w) where
     pub decode_count : (length px ≡ nx → ⊥)
         → decode_of s nx nblock bits px ≡ decode_refused R.PixelCount px
     unfolding decode_of
     decode_count h = ap (decode_in s nx nblock bits px) plan ∙ rw (ne_eqb (length px) nx h)
 
-    pub decode_open : length px ≡ nx → (o : Opened) → open_of s nx nblock bits ≡ o
+    pub decode_open : length px ≡ nx → (o : Result Cursor Fault) → open_of s nx nblock bits ≡ o
         → decode_of s nx nblock bits px ≡ decode_from s nx nblock bits px o
     unfolding decode_of
     decode_open h o e = ap (decode_in s nx nblock bits px) plan
         ∙ rw (eq-eqb (length px) nx h) (ap (decode_from s nx nblock bits px) e)
 
 -- the two parts of what whole decoding comes to, where a is its answer
-pub finished : {a : Decoded} {f g : DecodeOutcome} → a ≡ g.answer → f ≡ g → (a ≡ f.answer) × (g.content ≡ f.content)
+pub finished : {a : Result ℕ Broken} {f g : DecodeOutcome} → a ≡ g.answer → f ≡ g → (a ≡ f.answer) × (g.content ≡ f.content)
 finished h e = (h ∙ sym (ap (λ (f : DecodeOutcome). f.answer) e), sym (ap (λ (f : DecodeOutcome). f.content) e))
+
+-- the same of a refusal before any pixel
+pub finished-refused : {b : Broken} {f : DecodeOutcome} {why : Refusal} {px : List ℤ} → b ≡ broken why 0 → f ≡ decode_refused why px
+    → (Err b ≡ f.answer) × (px ≡ f.content)
+finished-refused h e = finished (ap (λ (b : Broken). Err b) h) e

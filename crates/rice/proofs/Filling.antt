@@ -2,7 +2,7 @@
 use mathlib.Core.Path.{◌≡◌, refl, sym, ap, ap₂, ◌∙◌}
 use mathlib.Core.List.{List, []}
 use Prim.Native.Nat.{ℕ, suc, ◌+◌, ◌-◌, ◌*◌, ◌%◌, ◌^◌, ◌≤◌, ◌<◌}
-use native.Mathlib.Nat.{add-zero, zero-add, sub-zero, mod-lt, lt_of_lt_of_le}
+use native.Mathlib.Nat.{add-zero, mod-lt, lt_of_lt_of_le}
 use native.Mathlib.Numerals.{add-one}
 use native.Mathlib.Omega.{arith}
 use lib.IntN.{ℤ}
@@ -13,20 +13,17 @@ use Rattle.rice.proofs.Fields.{field_lt}
 use Rattle.rice.specs.Tile.{bits_in}
 use Rattle.rice.specs.Widths.{bits_of, following}
 use Rattle.rice.specs.Reads.{Read, found, short, field_read, run_read, above, then_field, diff_read}
-use Rattle.rice.specs.Held.{CodeFits}
-use Rattle.rice.specs.Blocks.{End, complete, cut, Run, also, onward, run_of, run_from, ran_to, filled_of, StepOutcome, coded}
+use Rattle.rice.specs.Held.{Holds, CodeFits}
+use Rattle.rice.specs.Blocks.{complete, cut, Run, also, onward, run_of}
 use Rattle.rice.specs.Words.{Pairs}
-use Rattle.rice.specs.Filling.{raised, Inside, Outlook, outlook, Onward, whole_at, CameTo, spot_at}
-use Rattle.rice.specs.declared.pixels.Came.{Came}
-use Rattle.rice.specs.declared.pixels.Came.TheVariants.{To, Short}
+use Rattle.rice.specs.Filling.{raised, Inside, Outlook, outlook, Onward, whole_at, CameTo}
 use Rattle.rice.specs.declared.pixels.Spot.{Spot}
 use Rattle.rice.specs.declared.width.Width.{Width}
 use Rattle.rice.specs.declared.width.Code.{Code}
 use Rattle.rice.specs.declared.width.Code.TheVariants.{Same, Raw, Split}
-use Rattle.rice.specs.declared.width.Coded.TheVariants.{Known}
-use Rattle.rice.specs.declared.Cursor.{Cursor}
-use Rattle.rice.specs.declared.Stepped.TheVariants.{Next}
 use Rattle.rice.proofs.Reading.{field_of}
+use Rattle.std.specs.Prelude.{Ok, Err}
+use Rattle.rice.specs.declared.ahead.Ahead.{Ahead}
 
 -- ---- a number that is found is below 2 ^ 32
 
@@ -80,49 +77,6 @@ module _ (w : Width) (code : Code) (s : List ℕ) (n i p : ℕ) (last : ℤ) whe
   run_done h =
       let none : n - i ≡ 0 = omega arith in
       ap (λ k. run_of w code s k p last) none
-
--- ---- a loop that stores the run R, i pixels of it, with r to come: the slice was old and is new
-pub record Going (R r : Run) (old new : List ℤ) (i : ℕ) : Type 0 where
-  pub stored : sets old 0 R.pixels ≡ sets new i r.pixels
-  pub ended : R.end ≡ r.end
-  pub counted : length R.pixels ≡ i + length r.pixels
-
-pub going_start : (R : Run) (old : List ℤ) → Going R R old old 0
-going_start R old = record { stored = refl; ended = refl; counted = omega arith }
-
-pub going_on : {R r r' : Run} {old new : List ℤ} {i : ℕ} (x : ℤ) → Going R r old new i → r ≡ also x r'
-    → Going R r' old (set new i x) (i + 1)
-going_on {R} {r} {r'} {old} {new} {i} x g e = record {
-  stored = g.stored ∙ ap (λ (y : Run). sets new i y.pixels) e
-      ∙ ap (λ (k : ℕ). sets (set new i x) k r'.pixels) (sym (add-one i));
-  ended = g.ended ∙ ap (λ (y : Run). y.end) e;
-  counted = omega (arith, g.counted, ap (λ (y : Run). length y.pixels) e);
-}
-
--- nothing is to come: the run is stored
-pub record Stored (R : Run) (old new : List ℤ) (i : ℕ) (e : End) : Type 0 where
-  pub content : new ≡ sets old 0 R.pixels
-  pub ended : R.end ≡ e
-  pub counted : length R.pixels ≡ i
-
-pub going_stops : {R r : Run} {old new : List ℤ} {i : ℕ} {e : End} → Going R r old new i
-    → r ≡ record { pixels = []; end = e } → Stored R old new i e
-going_stops {new = new} {i = i} g h = record {
-  content = sym (g.stored ∙ ap (λ (y : Run). sets new i y.pixels) h);
-  ended = g.ended ∙ ap (λ (y : Run). y.end) h;
-  counted = omega (arith, g.counted, ap (λ (y : Run). length y.pixels) h);
-}
-
--- the answer, where the run is that of the contract
-pub filled-whole : (c : Cursor) (n : ℕ) {R R' : Run} {old new : List ℤ} {i : ℕ} → R ≡ R' → {p : ℕ} {z last : ℤ}
-    → i ≡ n → z ≡ last
-    → Stored R old new i (complete p last)
-    → (Next (record { bit = p; done = c.done + i; last = z }) ≡ filled_of c n R') × (new ≡ sets old 0 R'.pixels)
-filled-whole c n {R} {R'} {old} same {p} h e s = (
-  ap₂ (λ (k : ℕ) (y : ℤ). Next (record { bit = p; done = c.done + k; last = y })) h e
-      ∙ sym (ap (filled_of c n) (sym same) ∙ ap (λ (x : End). ran_to c n x (length R.pixels)) s.ended),
-  s.content ∙ ap (λ (r : Run). sets old 0 r.pixels) same,
-)
 
 -- ---- what a block comes to, from a spot on
 
@@ -183,21 +137,24 @@ pub onward_then : {w : Width} {code : Code} {s : List ℕ} {old mid new : List �
     → Onward w code s old mid a b → Onward w code s mid new b c → Onward w code s old new a c
 onward_then f g = record { same = g.same ∙ f.same; sized = g.sized ∙ f.sized; inside = g.inside }
 
+-- the spot with what is ahead
+abbrev pub spot_ahead : Ahead → ℕ → ℕ → Spot
+spot_ahead a level i = record { bit = a.bit; level = level; next = i }
+
+-- a block that is filled one by one leads on, and what is ahead is the tile's
+pub record Filled (w : Width) (code : Code) (s : List ℕ) (old new : List ℤ) (from : Spot) (a : Ahead) (level i : ℕ) : Type 0 where
+  pub on : Onward w code s old new from (spot_ahead a level i)
+  pub holds : Holds s a
+
 -- where it ends: at a read that is short, or with the part
-module _ (w : Width) (code : Code) (s : List ℕ) (old new : List ℤ) (a b : Spot) (f : Onward w code s old new a b) where
-  pub came_short : b.next < length new → diff_read code s b.bit ≡ short → CameTo w code s old new a (Short b.next)
+module _ {w : Width} {code : Code} {s : List ℕ} {old new : List ℤ} {a b : Spot} (f : Onward w code s old new a b) where
+  pub came_short : b.next < length new → diff_read code s b.bit ≡ short → CameTo w code s old new a (Err b.next)
   came_short h e = (sym f.same ∙ outlook-cut w code s new b h e, f.sized)
 
-  pub came_to : length new ≤ b.next → CameTo w code s old new a (To b)
+  pub came_to : length new ≤ b.next → CameTo w code s old new a (Ok b)
   came_to h =
       let all : b.next ≡ length new = omega (arith, f.inside.2) in
       (sym f.same ∙ outlook-whole w code s new b all, f.inside.1, f.sized)
-
--- from an earlier spot on it comes to the same
-pub came_then : (w : Width) (code : Code) (s : List ℕ) (old mid new : List ℤ) (a b : Spot) → Onward w code s old mid a b
-    → (r : Came) → CameTo w code s mid new b r → CameTo w code s old new a r
-came_then w code s old mid new a b f (To c) g = (sym f.same ∙ g.0, g.1, g.2 ∙ f.sized)
-came_then w code s old mid new a b f (Short n) g = (sym f.same ∙ g.0, g.1 ∙ f.sized)
 
 pub pairs_small : (s : List ℕ) (p fs : ℕ) {a b c d q : ℕ} → fs ≤ 24 → Pairs s p fs a b c d q
     → (a < 2 ^ 32) × (b < 2 ^ 32) × (c < 2 ^ 32) × (d < 2 ^ 32)
@@ -214,12 +171,12 @@ Stores w old new i level u l =
     ((l < 2 ^ bits_of w) × (raised w l ≡ following w (raised w level) u)) × (new ≡ set old i (raised w l))
 
 -- four pixels more are stored
-pub onward_four : (w : Width) (s : List ℕ) (fs : ℕ) (a : Spot) (u v x y q k l m n : ℕ) (p₀ p₁ p₂ p₃ p₄ : List ℤ)
+pub onward_four : {w : Width} {s : List ℕ} {fs : ℕ} (a : Spot) {u v x y q k l m n : ℕ} {p₀ p₁ p₂ p₃ p₄ : List ℤ}
     → a.next + 4 ≤ length p₀ → Pairs s a.bit fs u v x y q
     → Stores w p₀ p₁ a.next a.level u k → Stores w p₁ p₂ (a.next + 1) k v l
     → Stores w p₂ p₃ (a.next + 2) l x m → Stores w p₃ p₄ (a.next + 3) m y n
     → Onward w (Split fs) s p₀ p₄ a (record { bit = q; level = n; next = a.next + 4 })
-onward_four w s fs a u v x y q k l m n p₀ p₁ p₂ p₃ p₄ h r f g i j =
+onward_four {w} {s} {fs} a {k = k} {l} {m} {n} {p₀} {p₁} {p₂} {p₃} {p₄} h r f g i j =
     let i₀ = a.next in
     let b : Spot = record { bit = r.one.middle; level = k; next = i₀ + 1 } in
     let c : Spot = record { bit = r.half; level = l; next = i₀ + 2 } in
@@ -233,23 +190,3 @@ onward_four w s fs a u v x y q k l m n p₀ p₁ p₂ p₃ p₄ h r f g i j =
     let four = onward-one w (Split fs) s p₃ d n (i₀ + 4) p₄ (omega (arith, one.sized, two.sized, three.sized))
     r.two.second (split_within s fs d.bit r.two.second) j.0 j.1 (omega arith) in
     onward_then (onward_then one two) (onward_then three four)
-
--- ---- a block from its first pixel on
-
--- what a cursor answers to what a block of n pixels comes to, and the part then
-abbrev pub outcome : Cursor → ℕ → Outlook → StepOutcome
-outcome c n o = record { answer = ran_to c n o.end o.written; content = o.content }
-
-pub coded_as : (w : Width) (code : Code) (s : List ℕ) (c : Cursor) (part : List ℤ) (level : ℕ) (o : Outlook)
-    → raised w level ≡ c.last → outlook w code s part (spot_at c.bit level) ≡ o
-    → coded w s c part (Known code) ≡ outcome c (length part) o
-coded_as w code s c part level o h e =
-    let r = run_from w code s c (length part) in
-    let from : ℕ → ℤ → ℕ → Outlook = λ n z k. let y = run_of w code s n c.bit z in record {
-      end = y.end;
-      content = sets part 0 y.pixels;
-      written = k + length y.pixels;
-    } in
-    ap (λ (n : ℕ). record { answer = ran_to c (length part) r.end n; content = sets part 0 r.pixels })
-    (sym (zero-add (length r.pixels)))
-    ∙ ap (outcome c (length part)) (ap₂ (λ (n : ℕ) (z : ℤ). from n z 0) (sym (sub-zero (length part))) (sym h) ∙ e)

@@ -86,3 +86,11 @@ pub zeros_held : (s : List ℕ) (p m : ℕ) → m ≤ 64 → min (count_leading_
 zeros_held s p m h =
     let r = zeros_long s p m in
     counted (zeros_at s p m) (field_at s p m) m (64 - m) r.0 r.1 (omega arith) r.2 r.3
+
+-- the zeros of the word at place p, of which 64 - p % 8 bits are the tile's
+pub zeros_in_word : (s : List ℕ) (p word : ℕ) → word ≡ field_at s (p / 8 * 8) 64
+    → min (count_leading_zeros 64 (word * 2 ^ (p % 8) % 2 ^ 64)) (64 - p % 8) ≡ zeros_at s p (64 - p % 8)
+zeros_in_word s p word e =
+    ap (λ (w : ℕ). min (count_leading_zeros 64 w) (64 - p % 8))
+    (ap (λ (w : ℕ). w * 2 ^ (p % 8) % 2 ^ 64) e ∙ window_held s p)
+    ∙ zeros_held s p (64 - p % 8) (omega arith)

@@ -18,13 +18,11 @@ use Rattle.rice.specs.Blocks.{End, complete, cut, Run, onward, run_of, run_from,
 use Rattle.rice.specs.declared.width.Width.{Width}
 use Rattle.rice.specs.declared.width.Code.{Code}
 use Rattle.rice.specs.declared.width.Code.TheVariants.{Same, Raw, Split}
-use Rattle.rice.specs.declared.width.Coded.{Coded}
-use Rattle.rice.specs.declared.width.Coded.TheVariants.{Known, Above}
 use Rattle.rice.specs.declared.Cursor.{Cursor}
-use Rattle.rice.specs.declared.Stepped.{Stepped}
-use Rattle.rice.specs.declared.Stepped.TheVariants.{Done, Next, Refused}
 use Rattle.rice.proofs.Moduli.{modulo_lt}
 use Rattle.rice.proofs.Wrapping.{sizes, pixel_low, pixel_high}
+use Rattle.std.specs.Prelude.{Option, Some, None, Result, Ok, Err}
+use Rattle.rice.specs.declared.Broken.{Broken}
 
 -- ---- a pixel made of a number of the width's bits, and one that follows, are the width's
 
@@ -109,10 +107,10 @@ run_ends w code s (suc k) p last h i =
 
 -- ---- a block of n pixels goes on by n from a cursor, or is refused after at most n
 
-abbrev pub Bounded : Width → List ℕ → Cursor → ℕ → Stepped → Type 0
-Bounded w s c n Done = ⊥
-Bounded w s c n (Next d) = (d.done ≡ c.done + n) × (c.bit ≤ d.bit) × (d.bit ≤ bits_in s) × (in_width w d.last ≡ true)
-Bounded w s c n (Refused f m) = m ≤ n
+abbrev pub Bounded : Width → List ℕ → Cursor → ℕ → Result (Option Cursor) Broken → Type 0
+Bounded w s c n (Ok None) = ⊥
+Bounded w s c n (Ok (Some d)) = (d.done ≡ c.done + n) × (c.bit ≤ d.bit) × (d.bit ≤ bits_in s) × (in_width w d.last ≡ true)
+Bounded w s c n (Err b) = b.written ≤ n
 
 answer_bounded : (w : Width) (s : List ℕ) (c : Cursor) (p n : ℕ) (e : End) (k : ℕ) → c.bit ≤ p → k ≤ n → Lands w s p e
     → Bounded w s c n (ran_to (moved c p) n e k)
@@ -120,12 +118,12 @@ answer_bounded w s c p n (complete q last) k l h e = (refl, omega (arith, e.0), 
 answer_bounded w s c p n cut k l h e = h
 
 module _ (w : Width) (s : List ℕ) (c : Cursor) (part : List ℤ) where
-  coded_bounded : (p : ℕ) (x : Coded) → c.bit ≤ p → p ≤ bits_in s → in_width w c.last ≡ true
+  coded_bounded : (p : ℕ) (x : Option Code) → c.bit ≤ p → p ≤ bits_in s → in_width w c.last ≡ true
       → Bounded w s c (length part) (coded w s (moved c p) part x).answer
-  coded_bounded p (Known code) l h i =
+  coded_bounded p (Some code) l h i =
       let r = run_ends w code s (length part) p c.last h i in
       answer_bounded w s c p (length part) (run_from w code s (moved c p) (length part)).end _ l r.0 r.1
-  coded_bounded p Above l h i = omega arith
+  coded_bounded p None l h i = omega arith
 
   field_bounded : (r : Read) → Further s c.bit r → in_width w c.last ≡ true
       → Bounded w s c (length part) (with_field w s c part r).answer
@@ -137,9 +135,9 @@ module _ (w : Width) (s : List ℕ) (c : Cursor) (part : List ℤ) where
   block_bounded i = field_bounded (field_read s c.bit (fs_bits w)) (field-further s c.bit (fs_bits w)) i
 
   -- the part keeps its length
-  coded-length : (d : Cursor) (x : Coded) → length (coded w s d part x).content ≡ length part
-  coded-length d (Known code) = length-sets part 0 (run_from w code s d (length part)).pixels
-  coded-length d Above = refl
+  coded-length : (d : Cursor) (x : Option Code) → length (coded w s d part x).content ≡ length part
+  coded-length d (Some code) = length-sets part 0 (run_from w code s d (length part)).pixels
+  coded-length d None = refl
 
   field-length : (r : Read) → length (with_field w s c part r).content ≡ length part
   field-length (found f q) = coded-length (moved c q) (code_of w f)

@@ -17,14 +17,13 @@ use Rattle.rice.specs.Blocks.{complete, Run, also, run_of, filled_of, StepOutcom
 use Rattle.rice.specs.Easy.{Standing, Reaches}
 use Rattle.rice.specs.declared.width.Width.{Width}
 use Rattle.rice.specs.declared.width.Code.TheVariants.{Same}
-use Rattle.rice.specs.declared.width.Coded.TheVariants.{Known}
 use Rattle.rice.specs.declared.Cursor.{Cursor}
-use Rattle.rice.specs.declared.Stepped.TheVariants.{Next}
 use Rattle.rice.proofs.ZeroRuns.{zeros_all, zeros_on, zeros_long}
 use Rattle.rice.proofs.Wrapping.{following-none}
 use Rattle.rice.proofs.FsCodes.{code_same, block-known}
 use Rattle.rice.proofs.Reading.{field_found}
-use Rattle.rice.proofs.Reaching.{facts, reach-start, reach_on, reach-block}
+use Rattle.rice.proofs.Reaching.{reach-start, reach_on, reach-block}
+use Rattle.std.specs.Prelude.{Some, Ok}
 
 -- no more than a quotient
 times-within : (m a n : ℕ) → m ≤ a / n → m * n ≤ a
@@ -63,17 +62,17 @@ over_all part z =
     ∙ ap (λ (l : List ℤ). replicate n z ++ l) (drop-length part)
     ∙ append-nil (replicate n z)
 
-level_coded : (w : Width) (s : List ℕ) (c : Cursor) (part : List ℤ) → in_width w c.last ≡ true
-    → coded w s c part (Known Same)
+pub level_coded : (w : Width) (s : List ℕ) (c : Cursor) (part : List ℤ) → in_width w c.last ≡ true
+    → coded w s c part (Some Same)
     ≡ record {
-      answer = Next (record { bit = c.bit; done = c.done + length part; last = c.last });
+      answer = Ok (Some (record { bit = c.bit; done = c.done + length part; last = c.last }));
       content = replicate (length part) c.last;
     }
 level_coded w s c part h =
     ap (λ (r : Run). record { answer = filled_of c (length part) r; content = sets part 0 r.pixels })
     (run_same w s c.last h (length part) c.bit)
     ∙ ap (λ (l : List ℤ). record {
-      answer = Next (record { bit = c.bit; done = c.done + length part; last = c.last });
+      answer = Ok (Some (record { bit = c.bit; done = c.done + length part; last = c.last }));
       content = l;
     }) (over_all part c.last)
 
@@ -119,14 +118,13 @@ level_one {w} {s} {nx} {nblock} {c} {px} S room inside none =
     let e = c.done + nblock in
     let part = mid_of d (e - d) px in
     let next : Cursor = record { bit = c.bit + fs_bits w; done = d + length part; last = c.last } in
-    let F = facts S in
-    let is : block_of w s c part ≡ record { answer = Next next; content = replicate (length part) c.last }
+    let is : block_of w s c part ≡ record { answer = Ok (Some next); content = replicate (length part) c.last }
     = block-known w s c part (moved c (c.bit + fs_bits w)) _ (field_found s c.bit (fs_bits w) inside) refl Same
     (code_same w _ none)
-    ∙ level_coded w s (moved c (c.bit + fs_bits w)) part F.last in
-    let one = reach-block S (omega (arith, F.block)) d e refl (omega arith) (replicate (length part) c.last)
+    ∙ level_coded w s (moved c (c.bit + fs_bits w)) part S.last in
+    let one = reach-block S (omega (arith, S.block)) d e refl (omega arith) (replicate (length part) c.last)
     (sym (ap (λ (o : StepOutcome). o.content) is)) next (sym (ap (λ (o : StepOutcome). o.answer) is)) in
-    let long : length part ≡ e - d = mid_len d e px (omega (arith, F.sized)) in
+    let long : length part ≡ e - d = mid_len d e px (omega (arith, S.sized)) in
     let size : e - d ≡ nblock = omega arith in
     reach_as one (cursor_as refl (omega arith) refl)
     (ap (λ (k : ℕ). put_mid d (e - d) px (replicate k c.last)) long ∙ ap (flat c px) size)
@@ -143,12 +141,11 @@ module _ {w : Width} {s : List ℕ} {nx nblock : ℕ} {c : Cursor} {px : List �
       let bits = suc-mul m (fs_bits w) in
       let pixels = suc-mul m nblock in
       let R = levels_on n tile m (omega arith) (omega arith) in
-      let F = facts S in
       let one = level_one R.standing (omega arith) (omega (arith, zeros_most s c.bit n))
       (field-zero s c.bit (m * fs_bits w) (fs_bits w) n (omega arith)) in
       reach_as (reach_on R one) (cursor_as (omega arith) (omega arith) refl)
       (put_on c.done (m * nblock) nblock px (replicate (m * nblock) c.last) (replicate nblock c.last)
-      (omega (arith, F.done, F.sized)) (length-replicate (m * nblock) c.last)
+      (omega (arith, S.done, S.sized)) (length-replicate (m * nblock) c.last)
       ∙ ap (put_mid c.done (m * nblock + nblock) px) (replicate-append-replicate (m * nblock) nblock c.last)
       ∙ ap (flat c px) (sym pixels))
 
@@ -158,26 +155,20 @@ module _ {w : Width} {s : List ℕ} {nx nblock : ℕ} {c : Cursor} {px : List �
     fields_fit : many * size ≤ zeros_at s c.bit n
     fields_fit = omega (arith, times-within many zeros size (omega arith))
 
-    pub bits_fit : c.bit + many * size ≤ bits_in s
-    bits_fit = omega (arith, fields_fit, zeros_most s c.bit n, (facts S).high)
-
     pub pixels_fit : c.done + many * nblock ≤ nx
-    pixels_fit = omega (arith, times-within many (nx - c.done) nblock (omega arith), (facts S).done)
+    pixels_fit = omega (arith, times-within many (nx - c.done) nblock (omega arith), S.done)
 
     pub reach_levels : (z : ℤ) (new : List ℤ) → z ≡ c.last
-        → new ≡ (coded w s c (mid_of c.done (c.done + many * nblock - c.done) px) (Known Same)).content
+        → new ≡ replicate (length (mid_of c.done (c.done + many * nblock - c.done) px)) z
         → Reaches w s nx nblock c px (record { bit = c.bit + many * size; done = c.done + many * nblock; last = z })
         (put_mid c.done (c.done + many * nblock - c.done) px new)
     reach_levels z new last content =
         let d = c.done in
         let e = c.done + many * nblock in
-        let F = facts S in
         let all : many * fs_bits w ≡ many * size = ap (λ (k : ℕ). many * k) (sym field) in
-        let long : length (mid_of d (e - d) px) ≡ e - d = mid_len d e px (omega (arith, F.sized, pixels_fit)) in
+        let long : length (mid_of d (e - d) px) ≡ e - d = mid_len d e px (omega (arith, S.sized, pixels_fit)) in
         let whole : e - d ≡ many * nblock = omega arith in
-        let filled : new ≡ replicate (e - d) c.last
-        = content ∙ ap (λ (o : StepOutcome). o.content) (level_coded w s c (mid_of d (e - d) px) F.last)
-        ∙ ap (λ (k : ℕ). replicate k c.last) long in
-        reach_as (levels_on n (omega (arith, F.high)) many (omega (arith, fields_fit)) pixels_fit)
+        let filled : new ≡ replicate (e - d) c.last = content ∙ ap₂ (λ (k : ℕ) (y : ℤ). replicate k y) long last in
+        reach_as (levels_on n (omega (arith, S.high)) many (omega (arith, fields_fit)) pixels_fit)
         (cursor_as (omega arith) refl (sym last))
         (ap (flat c px) (sym whole) ∙ ap (put_mid d (e - d) px) (sym filled))

@@ -5,7 +5,7 @@ use mathlib.Core.List.{List}
 use Prim.Native.Nat.{ℕ, ◌+◌, ◌-◌, ◌*◌, ◌/◌, ◌%◌, ◌^◌, ◌≤◌, ◌<◌}
 use native.Mathlib.Nat.{one-mul, mod-lt, mod-eq_of_lt, mul-le-mul}
 use native.Mathlib.Omega.{arith}
-use borrow.Author.Tests.{lt-ltb, le-ltb, le-leb, lt-leb, leb-true, ltb-true}
+use borrow.Author.Tests.{lt-ltb, le-leb, lt-leb, leb-true, ltb-true}
 use lib.Bits.{bit_and, and_mask}
 use lib.Count.{count_leading_zeros}
 use lib.Dec.{leb, ltb}
@@ -16,11 +16,12 @@ use Rattle.rice.specs.Reads.{Read, found, short, field_read, run_read, above, th
 use Rattle.rice.specs.Reads.{moved, taken_of, most_bytes, most_bits, take_of, skip_of}
 use Rattle.rice.specs.Held.{held_bits}
 use Rattle.rice.specs.declared.Cursor.{Cursor}
-use Rattle.rice.specs.declared.Taken.TheVariants.{Bits, Short}
 use Rattle.rice.specs.declared.width.Code.TheVariants.{Split}
 use Rattle.rice.proofs.Fields.{field_end}
 use Rattle.rice.proofs.ZeroRuns.{zeros_within}
 use Rattle.rice.proofs.HeldBits.{held_first, zeros_held}
+use Rattle.std.specs.Prelude.{Some, None}
+use Rattle.std.proofs.lemmas.Option.{some_pair_parts}
 
 -- ---- fields and runs of zeros
 
@@ -36,10 +37,6 @@ module _ (s : List ℕ) (p n : ℕ) where
   pub run_found : n ≡ zeros_at s p (bits_in s - p) → n < bits_in s - p → run_read s p ≡ found n (p + n + 1)
   unfolding run_read
   run_found e h = rw (← e, lt-ltb n (bits_in s - p) h)
-
-  pub run_short : n ≡ zeros_at s p (bits_in s - p) → bits_in s - p ≤ n → run_read s p ≡ short
-  unfolding run_read
-  run_short e h = rw (← e, le-ltb n (bits_in s - p) h)
 
 -- past the tile's end there is no one
 pub run_past : (s : List ℕ) (p : ℕ) → bits_in s < p → run_read s p ≡ short
@@ -72,37 +69,24 @@ run_of s p n q e =
 
 -- ---- what a cursor takes
 
-module _ (s : List ℕ) (c : Cursor) where
-  pub take_long : (n : ℕ) → most_bytes < length s → Short ≡ take_of s c n
+module _ (s : List ℕ) (c : Cursor) (few : length s ≤ most_bytes) where
+  pub take-read : (n : ℕ) → n ≤ most_bits → take_of s c n ≡ taken_of c (field_read s c.bit n)
   unfolding take_of
-  take_long n h = rw (lt-leb (length s) most_bytes h)
+  take-read n h = rw (le-leb (length s) most_bytes few, le-leb n most_bits h)
 
-  pub skip_long : most_bytes < length s → Short ≡ skip_of s c
+  pub skip_read : skip_of s c ≡ taken_of c (run_read s c.bit)
   unfolding skip_of
-  skip_long h = rw (lt-leb (length s) most_bytes h)
+  skip_read = rw (le-leb (length s) most_bytes few)
 
-  module _ (few : length s ≤ most_bytes) where
-    pub take_many : (n : ℕ) → most_bits < n → Short ≡ take_of s c n
-    unfolding take_of
-    take_many n h = rw (le-leb (length s) most_bytes few, lt-leb n most_bits h)
-
-    pub take-read : (n : ℕ) → n ≤ most_bits → take_of s c n ≡ taken_of c (field_read s c.bit n)
-    unfolding take_of
-    take-read n h = rw (le-leb (length s) most_bytes few, le-leb n most_bits h)
-
-    pub skip_read : skip_of s c ≡ taken_of c (run_read s c.bit)
-    unfolding skip_of
-    skip_read = rw (le-leb (length s) most_bytes few)
-
-pub taken-found : (c d : Cursor) (r : Read) (u : ℕ) → taken_of c r ≡ Bits u d
+pub taken-found : (c d : Cursor) (r : Read) (u : ℕ) → taken_of c r ≡ Some (u, d)
     → (r ≡ found u d.bit) × (d ≡ moved c d.bit)
 taken-found c d (found v q) u e =
-    let same : moved c q ≡ d = cc in
-    let place : q ≡ d.bit = ap (λ (x : Cursor). x.bit) same in
-    (cc, sym same ∙ ap (moved c) place)
+    let parts = some_pair_parts v u (moved c q) d e in
+    let place : q ≡ d.bit = ap (λ (x : Cursor). x.bit) parts.1 in
+    (ap₂ found parts.0 place, sym parts.1 ∙ ap (moved c) place)
 taken-found c d short u e = let z : ◌≡◌ {A = ℕ} 0 1 = cc in absurd (omega arith)
 
-pub taken-short : (c : Cursor) (r : Read) → taken_of c r ≡ Short → r ≡ short
+pub taken-short : (c : Cursor) (r : Read) → taken_of c r ≡ None → r ≡ short
 taken-short c (found v q) e = let z : ◌≡◌ {A = ℕ} 0 1 = cc in absurd (omega arith)
 taken-short c short e = refl
 

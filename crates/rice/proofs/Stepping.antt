@@ -4,7 +4,7 @@ use mathlib.Core.Bool.{Bool, true, false, cond, ◌||◌}
 use mathlib.Core.List.{List, ◌++◌}
 use Prim.Native.Nat.{ℕ, ◌+◌, ◌-◌, ◌*◌, ◌%◌, ◌≤◌, ◌<◌, min}
 use native.Mathlib.Omega.{arith}
-use borrow.Author.Tests.{eq-eqb, ne_eqb, le-leb, lt-leb, leb-true}
+use borrow.Author.Tests.{eq-eqb, ne_eqb, leb-true}
 use lib.Dec.{eqb}
 use lib.IntN.{ℤ}
 use lib.ListN.{length, take, drop}
@@ -21,11 +21,8 @@ use Rattle.rice.specs.Steps.{most_pixels, most_block, in_limits, width_of, plan_
 use Rattle.rice.specs.Steps.{stands, part_lent, step_in, step_of, start_at, open_in, open_of}
 use Rattle.rice.specs.declared.width.Width.{Width}
 use Rattle.rice.specs.declared.Cursor.{Cursor}
-use Rattle.rice.specs.declared.Stepped.TheVariants.{Done}
-use Rattle.rice.specs.declared.Opened.TheVariants as O
 use Rattle.rice.proofs.Reading.{field_found, field-short}
-use Rattle.rice.specs.declared.width.Planned.{Planned}
-use Rattle.rice.specs.declared.width.Planned.TheVariants.{Of, None}
+use Rattle.std.specs.Prelude.{Option, Some, None, Ok, Err}
 
 -- ---- limits
 
@@ -52,11 +49,11 @@ within len nx nblock e =
       tile = leb-true _ _ d.1;
     }
 
-planned : (t : Bool) (p : Planned) {w : Width} → cond t p None ≡ Of w → t ≡ true
+planned : (t : Bool) (p : Option Width) {w : Width} → cond t p None ≡ Some w → t ≡ true
 planned true p e = refl
 planned false p e = let z : ◌≡◌ {A = ℕ} 0 1 = cc in absurd (omega arith)
 
-pub plan_within : (len nx nblock bits : ℕ) {w : Width} → plan_of len nx nblock bits ≡ Of w → Within len nx nblock
+pub plan_within : (len nx nblock bits : ℕ) {w : Width} → plan_of len nx nblock bits ≡ Some w → Within len nx nblock
 unfolding plan_of
 plan_within len nx nblock bits e = within len nx nblock (planned (in_limits len nx nblock) (width_of bits) e)
 
@@ -86,52 +83,6 @@ module _ (w : Width) (s : List ℕ) (nx nblock : ℕ) (c : Cursor) where
         last = l.1;
       }
 
-  pub stands_low : c.bit < start_bytes w * 8 → false ≡ stands w s nx nblock c
-  unfolding stands
-  stands_low h = rw (lt-leb (start_bytes w * 8) c.bit h)
-
-  module _ (low : start_bytes w * 8 ≤ c.bit) where
-    pub stands_past : bits_in s < c.bit → false ≡ stands w s nx nblock c
-    unfolding stands
-    stands_past h = rw (le-leb (start_bytes w * 8) c.bit low, lt-leb c.bit (bits_in s) h)
-
-    module _ (high : c.bit ≤ bits_in s) where
-      pub stands-more : nx < c.done → false ≡ stands w s nx nblock c
-      unfolding stands
-      stands-more h = rw (le-leb (start_bytes w * 8) c.bit low, le-leb c.bit (bits_in s) high, lt-leb c.done nx h)
-
-      module _ (done : c.done ≤ nx) where
-        pub stands-between : (c.done ≡ nx → ⊥) → (c.done % nblock ≡ 0 → ⊥) → false ≡ stands w s nx nblock c
-        unfolding stands
-        stands-between h k =
-            rw (
-              le-leb (start_bytes w * 8) c.bit low,
-              le-leb c.bit (bits_in s) high,
-              le-leb c.done nx done,
-              ne_eqb c.done nx h,
-              ne_eqb (c.done % nblock) 0 k,
-            )
-
-        pub stands-end : c.done ≡ nx → in_width w c.last ≡ stands w s nx nblock c
-        unfolding stands
-        stands-end h = rw (
-          le-leb (start_bytes w * 8) c.bit low,
-          le-leb c.bit (bits_in s) high,
-          le-leb c.done nx done,
-          eq-eqb c.done nx h,
-        )
-
-        pub stands_edge : (c.done ≡ nx → ⊥) → c.done % nblock ≡ 0 → in_width w c.last ≡ stands w s nx nblock c
-        unfolding stands
-        stands_edge h k =
-            rw (
-              le-leb (start_bytes w * 8) c.bit low,
-              le-leb c.bit (bits_in s) high,
-              le-leb c.done nx done,
-              ne_eqb c.done nx h,
-              eq-eqb (c.done % nblock) 0 k,
-            )
-
 -- ---- steps
 
 module _ (s : List ℕ) (nx nblock bits : ℕ) (c : Cursor) (px : List ℤ) where
@@ -139,7 +90,7 @@ module _ (s : List ℕ) (nx nblock bits : ℕ) (c : Cursor) (px : List ℤ) wher
   unfolding step_of
   step_limits e = ap (step_in s nx nblock c px) e
 
-  module _ (w : Width) (plan : plan_of (length s) nx nblock bits ≡ Of w) where
+  module _ (w : Width) (plan : plan_of (length s) nx nblock bits ≡ Some w) where
     pub step_count : (length px ≡ nx → ⊥) → step_of s nx nblock bits c px ≡ step_refused R.PixelCount px
     unfolding step_of
     step_count h = ap (step_in s nx nblock c px) plan ∙ rw (ne_eqb (length px) nx h)
@@ -150,7 +101,7 @@ module _ (s : List ℕ) (nx nblock bits : ℕ) (c : Cursor) (px : List ℤ) wher
       step_cursor h = ap (step_in s nx nblock c px) plan ∙ rw (eq-eqb (length px) nx count, h)
 
       module _ (stand : stands w s nx nblock c ≡ true) where
-        pub step_done : c.done ≡ nx → step_of s nx nblock bits c px ≡ record { answer = Done; content = px }
+        pub step_done : c.done ≡ nx → step_of s nx nblock bits c px ≡ record { answer = Ok None; content = px }
         unfolding step_of
         step_done h = ap (step_in s nx nblock c px) plan ∙ rw (eq-eqb (length px) nx count, stand, eq-eqb c.done nx h)
 
@@ -168,19 +119,19 @@ part_back d e px ys zs h q = ap₂ (λ (u v : List ℤ). take d px ++ (u ++ v)) 
 -- ---- opening
 
 module _ (s : List ℕ) (nx nblock bits : ℕ) where
-  pub open_limits : plan_of (length s) nx nblock bits ≡ None → O.Refused (fault_of R.Limits) ≡ open_of s nx nblock bits
+  pub open_limits : plan_of (length s) nx nblock bits ≡ None → Err (fault_of R.Limits) ≡ open_of s nx nblock bits
   unfolding open_of
   open_limits e = sym (ap (open_in s) e)
 
-  module _ (w : Width) (plan : plan_of (length s) nx nblock bits ≡ Of w) where
-    pub open_short : bits_in s < start_bytes w * 8 → O.Refused (fault_of R.TileEnds) ≡ open_of s nx nblock bits
+  module _ (w : Width) (plan : plan_of (length s) nx nblock bits ≡ Some w) where
+    pub open_short : bits_in s < start_bytes w * 8 → Err (fault_of R.TileEnds) ≡ open_of s nx nblock bits
     unfolding open_of
     open_short h = sym (ap (open_in s) plan ∙ ap (start_at w) (field-short s 0 (start_bytes w * 8) (omega arith)))
 
     pub open_at : (n : ℕ) (z : ℤ) → n ≡ start_bytes w * 8 → n ≤ bits_in s → z ≡ pixel_of w (field_at s 0 n)
-        → O.At (record { bit = n; done = 0; last = z }) ≡ open_of s nx nblock bits
+        → Ok (record { bit = n; done = 0; last = z }) ≡ open_of s nx nblock bits
     unfolding open_of
     open_at n z e h ze =
-        ap₂ (λ (b : ℕ) (y : ℤ). O.At (record { bit = b; done = 0; last = y })) (sym (zero-add n)) ze
+        ap₂ (λ (b : ℕ) (y : ℤ). Ok (record { bit = b; done = 0; last = y })) (sym (zero-add n)) ze
         ∙ sym (ap (open_in s) plan ∙ ap (λ (k : ℕ). start_at w (field_read s 0 k)) (sym e)
         ∙ ap (start_at w) (field_found s 0 n (omega arith)))

@@ -1,5 +1,5 @@
 -- What holds at each width: its sizes, a pixel and its bits, the pixel that follows, pixels counted from the lowest one. Assumes nothing.
-use mathlib.Core.Path.{◌≡◌, refl, sym, ap, ap₂, subst, ◌∙◌}
+use mathlib.Core.Path.{◌≡◌, refl, sym, ap, ap₂, ◌∙◌}
 use mathlib.Core.Bool.{Bool, true, false}
 use Prim.Native.Nat.{ℕ, suc, ◌+◌, ◌-◌, ◌*◌, ◌/◌, ◌%◌, ◌^◌, ◌≤◌, ◌<◌}
 use native.Mathlib.Omega.{arith}
@@ -7,11 +7,8 @@ use native.Mathlib.Nat.{mod-lt, mod-eq_of_lt, mod-eq-sub-mod, add-mod-mod, mod-a
 use borrow.Author.Tests.{lt-ltb, le-ltb, ltb-true, ltb-false, eq-eqb, ne_eqb}
 use lib.Dec.{ltb, lit≤}
 use lib.Bits.{bit_and, and_mask}
-use lib.IntN.{ℤ, pos, negsuc, ◌+ℤ◌, ◌-ℤ◌, +ℤ_idr}
+use lib.IntN.{ℤ, pos, negsuc, ◌+ℤ◌, +ℤ_idr}
 use lib.Pow.{pow_pos}
-use mir.Syntax.{w32, w64}
-use mir.Val.{to_z, SFits}
-use mir.Facts.{to_z_pos}
 use Rattle.rice.specs.Widths.{bits_of, fs_bits, fs_top, start_bytes, positives, pixel_of, in_width, modulo, wrap, difference, following}
 use Rattle.rice.specs.Filling.{raised}
 use Rattle.rice.specs.declared.width.Width.{Width}
@@ -134,30 +131,21 @@ and_width_lt w n mask e = rw (and_width w n mask e) (mod-lt n (pow_pos (bits_of 
 
 module _ (w : Width) where
   -- the pixel with the bits that are so many above those of the lowest one
-  raised_by : (n : ℕ) → n < 2 ^ bits_of w → (t : Bool) → ltb n (2 ^ bits_of w - positives w) ≡ t
-      → (raised w n ≡ pixel_of w ((n + positives w) % 2 ^ bits_of w)) × SFits w32 (raised w n)
-  raised_by n h true e =
-      let low : n < 2 ^ bits_of w - positives w = ltb-true n (2 ^ bits_of w - positives w) e in
-      let turned : (n + positives w) % 2 ^ bits_of w ≡ n + positives w = mod-eq_of_lt (omega arith) in
-      let is : raised w n ≡ negsuc (2 ^ bits_of w - positives w - suc n) = minus_neg n (2 ^ bits_of w - positives w) low in (
-        is ∙ ap negsuc (omega arith) ∙ sym (ap (pixel_of w) turned ∙ pixel_high w (n + positives w) (omega arith) (omega arith)),
-        subst (SFits w32) (sym is) (record { sfits = omega (arith, sizes w) }),
-      )
-  raised_by n h false e =
-      let high : 2 ^ bits_of w - positives w ≤ n = ltb-false n (2 ^ bits_of w - positives w) e in
-      let turned : (n + positives w) % 2 ^ bits_of w ≡ n + positives w - 2 ^ bits_of w =
-      mod-eq-sub-mod (omega (arith, sizes w)) ∙ mod-eq_of_lt (omega (arith, sizes w)) in
-      let is : raised w n ≡ pos (n - (2 ^ bits_of w - positives w)) = minus_pos n (2 ^ bits_of w - positives w) high in (
-        is ∙ ap pos (omega (arith, sizes w))
-            ∙ sym (ap (pixel_of w) turned ∙ pixel_low w (n + positives w - 2 ^ bits_of w) (omega (arith, sizes w))),
-        subst (SFits w32) (sym is) (record { sfits = omega (arith, sizes w) }),
-      )
-
   raised_bits : (n : ℕ) → n < 2 ^ bits_of w → raised w n ≡ pixel_of w ((n + positives w) % 2 ^ bits_of w)
-  raised_bits n h = (raised_by n h (ltb n (2 ^ bits_of w - positives w)) refl).0
-
-  pub raised_32 : (n : ℕ) → n < 2 ^ bits_of w → SFits w32 (raised w n)
-  raised_32 n h = (raised_by n h (ltb n (2 ^ bits_of w - positives w)) refl).1
+  raised_bits n h = go (ltb n (2 ^ bits_of w - positives w)) refl
+    where
+      go : (t : Bool) → ltb n (2 ^ bits_of w - positives w) ≡ t → raised w n ≡ pixel_of w ((n + positives w) % 2 ^ bits_of w)
+      go true e =
+          let low : n < 2 ^ bits_of w - positives w = ltb-true n (2 ^ bits_of w - positives w) e in
+          let turned : (n + positives w) % 2 ^ bits_of w ≡ n + positives w = mod-eq_of_lt (omega arith) in
+          minus_neg n (2 ^ bits_of w - positives w) low ∙ ap negsuc (omega arith)
+          ∙ sym (ap (pixel_of w) turned ∙ pixel_high w (n + positives w) (omega arith) (omega arith))
+      go false e =
+          let high : 2 ^ bits_of w - positives w ≤ n = ltb-false n (2 ^ bits_of w - positives w) e in
+          let turned : (n + positives w) % 2 ^ bits_of w ≡ n + positives w - 2 ^ bits_of w =
+          mod-eq-sub-mod (omega (arith, sizes w)) ∙ mod-eq_of_lt (omega (arith, sizes w)) in
+          minus_pos n (2 ^ bits_of w - positives w) high ∙ ap pos (omega (arith, sizes w))
+          ∙ sym (ap (pixel_of w) turned ∙ pixel_low w (n + positives w - 2 ^ bits_of w) (omega (arith, sizes w)))
 
   -- the running sum, counted from the lowest pixel
   pub raised-following : (n u : ℕ) → n < 2 ^ bits_of w
@@ -173,17 +161,6 @@ module _ (w : Width) where
       ∙ ap (λ (z : ℤ). following w z u) (sym (raised_bits n h))
 
   module _ (below : ℕ) (b : below + positives w ≡ 2 ^ bits_of w) where
-    pub below_small : below ≤ 2 ^ 31
-    below_small = omega (arith, sizes w)
-
-    below-is : 2 ^ bits_of w - positives w ≡ below
-    below-is = omega arith
-
-    pub raised-made : (n : ℕ) → n < 2 ^ bits_of w → to_z w64 n -ℤ to_z w64 below ≡ raised w n
-    raised-made n h =
-        ap₂ (λ x y. x -ℤ y) (to_z_pos w64 {n = n} (omega (arith, (sizes w).all))) (to_z_pos w64 {n = below} (omega (arith, below_small)))
-        ∙ ap (λ (k : ℕ). pos n -ℤ pos k) (sym below-is)
-
     -- the bits of a pixel, turned so that they count from the lowest one
     pub turned_raised : (v : ℕ) → v < 2 ^ bits_of w → raised w ((v + below) % 2 ^ bits_of w) ≡ pixel_of w v
     turned_raised v h =

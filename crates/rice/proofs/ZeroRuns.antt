@@ -1,7 +1,7 @@
 -- Laws of runs of zeros: where they end, how they go on, and how many digits stand after them. Assumes nothing.
 use mathlib.Core.Path.{◌≡◌, refl, sym, ap, ◌∙◌}
 use mathlib.Core.List.{List}
-use Prim.Native.Nat.{ℕ, zero, suc, ◌+◌, ◌*◌, ◌^◌, ◌≤◌, ◌<◌, min}
+use Prim.Native.Nat.{◌-◌, ℕ, zero, suc, ◌+◌, ◌*◌, ◌^◌, ◌≤◌, ◌<◌, min}
 use native.Mathlib.Nat.{add-zero, zero-add, suc-add, pow-suc, le_of_suc-le-suc, not-suc-le-zero, suc_inj}
 use native.Mathlib.Numerals.{one-add}
 use native.Mathlib.Omega.{arith}
@@ -65,3 +65,19 @@ unfolding zeros_at field_at
 zeros_long s p zero = (0, refl, omega arith, omega arith)
 zeros_long s p (suc n) =
     rw field_top (long_under (bit_at s p) _ _ n (bit_lt s p) (field_lt s (p + 1) n) (zeros_long s (p + 1) n))
+
+-- k bits are passed, and all of them are 0
+pub record Passed (s : List ℕ) (p n k : ℕ) : Type 0 where
+  pub few : k ≤ n + 64
+  pub zeros : zeros_at s p k ≡ k
+
+-- with z the leading zeros of the word at p + k, of which `held` bits are the tile's
+module _ (s : List ℕ) (p n k held z : ℕ) (i : Passed s p n k) (l : k < n) (e : min z held ≡ zeros_at s (p + k) held) where
+  pub zeros_end : z < held → min (k + z) n ≡ zeros_at s p n
+  zeros_end h =
+      let left : n ≡ k + (n - k) = omega arith in
+      let on : zeros_at s p n ≡ k + zeros_at s (p + k) (n - k) = ap (zeros_at s p) left ∙ zeros_on s p k (n - k) i.zeros in
+      omega (arith, on, e, zeros_within s (p + k) (n - k) held (omega arith))
+
+  pub zeros_pass : held ≤ 64 → held ≤ z → Passed s p n (k + held)
+  zeros_pass f h = record { few = omega (arith, l); zeros = omega (arith, e, zeros_on s p k held i.zeros) }

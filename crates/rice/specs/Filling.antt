@@ -1,23 +1,22 @@
 -- What the private functions owe each other: a block that is filled from a spot on.
-use Rattle.std.specs.Prelude.{◌≡◌, List, ℕ, ◌+◌, ◌-◌, ◌*◌, ◌^◌, ◌≤◌, ◌<◌, ℤ, pos, ◌-ℤ◌, length}
+use Rattle.std.specs.Prelude.{◌≡◌, Result, Ok, Err, List, ℕ, ◌+◌, ◌-◌, ◌*◌, ◌^◌, ◌≤◌, ◌<◌, ℤ, pos, ◌-ℤ◌, length}
 use Rattle.std.proofs.lemmas.List.Edits.{sets}
 use Rattle.rice.specs.Tile.{bits_in}
 use Rattle.rice.specs.Widths.{bits_of, positives}
 use Rattle.rice.specs.Blocks.{End, complete, cut, run_of}
+use Rattle.rice.specs.declared.Cursor.{Cursor}
 use Rattle.rice.specs.declared.width.Width.{Width}
 use Rattle.rice.specs.declared.width.Code.{Code}
 use Rattle.rice.specs.declared.width.Code.TheVariants.{Raw}
 use Rattle.rice.specs.declared.pixels.Spot.{Spot}
-use Rattle.rice.specs.declared.pixels.Came.{Came}
-use Rattle.rice.specs.declared.pixels.Came.TheVariants.{To, Short}
 
 -- the pixel that stands so many above the width's lowest one
 abbrev pub raised : Width → ℕ → ℤ
 raised w n = pos n -ℤ pos (2 ^ bits_of w - positives w)
 
--- a width's numbers at hand: a mask of its bits, and how many of its pixels are negative
-abbrev pub AtHand : Width → ℕ → ℕ → Type 0
-AtHand w mask below = (mask + 1 ≡ 2 ^ bits_of w) × (below + positives w ≡ 2 ^ bits_of w)
+-- a cursor whose last pixel stands so many above the lowest one
+abbrev pub counted : Width → ℕ → ℕ → ℕ → Cursor
+counted w bit done level = record { bit = bit; done = done; last = raised w level }
 
 -- the spot before a block's first pixel
 abbrev pub spot_at : ℕ → ℕ → Spot
@@ -50,10 +49,10 @@ abbrev pub whole_at : ℕ → ℤ → List ℤ → Outlook
 whole_at p z new = record { end = complete p z; content = new; written = length new }
 
 -- filling from the spot a on comes to an answer
-abbrev pub CameTo : Width → Code → List ℕ → List ℤ → List ℤ → Spot → Came → Type 0
-CameTo w code s old new a (To b) =
+abbrev pub CameTo : Width → Code → List ℕ → List ℤ → List ℤ → Spot → Result Spot ℕ → Type 0
+CameTo w code s old new a (Ok b) =
     (outlook w code s old a ≡ whole_at b.bit (raised w b.level) new) × (b.level < 2 ^ bits_of w) × (length new ≡ length old)
-CameTo w code s old new a (Short n) =
+CameTo w code s old new a (Err n) =
     (outlook w code s old a ≡ record { end = cut; content = new; written = n }) × (length new ≡ length old)
 
 -- a raw block comes to its last pixel

@@ -1,9 +1,7 @@
 -- What is read at a place of a tile (SPECIFICATION 12.1 and 12.8; FITS Standard 10.4.1).
-use Rattle.std.specs.Prelude.{cond, ◌&&◌, List, ℕ, ◌+◌, ◌-◌, ◌*◌, ◌%◌, ◌^◌, leb, ltb, length}
+use Rattle.std.specs.Prelude.{cond, ◌&&◌, Option, Some, None, List, ℕ, ◌+◌, ◌-◌, ◌*◌, ◌%◌, ◌^◌, leb, ltb, length}
 use Rattle.rice.specs.Tile.{bits_in, field_at, zeros_at}
 use Rattle.rice.specs.declared.Cursor.{Cursor}
-use Rattle.rice.specs.declared.Taken.{Taken}
-use Rattle.rice.specs.declared.Taken.TheVariants.{Bits, Short}
 use Rattle.rice.specs.declared.width.Code.{Code}
 use Rattle.rice.specs.declared.width.Code.TheVariants.{Same, Raw, Split}
 
@@ -42,10 +40,10 @@ diff_read (Split fs) s p = then_field s fs (run_read s p)
 abbrev pub moved : Cursor → ℕ → Cursor
 moved c p = record { bit = p; done = c.done; last = c.last }
 
--- what a cursor answers to a read
-abbrev pub taken_of : Cursor → Read → Taken
-taken_of c (found u q) = Bits u (moved c q)
-taken_of c short = Short
+-- what a cursor answers to a read: the number, and the cursor after it
+abbrev pub taken_of : Cursor → Read → Option (ℕ × Cursor)
+taken_of c (found u q) = Some (u, moved c q)
+taken_of c short = None
 
 -- the most bytes of a tile, and the most bits that are taken at once (SPECIFICATION 1 and 12.8)
 abbrev pub most_bytes : ℕ
@@ -54,10 +52,10 @@ most_bytes = 8388608
 abbrev pub most_bits : ℕ
 most_bits = 32
 
--- a cursor takes n bits; what cannot be had is short: bits past the end, more than 32 of them, any of a tile above the limit
-unfoldable pub take_of : List ℕ → Cursor → ℕ → Taken
-take_of s c n = cond (leb (length s) most_bytes && leb n most_bits) (taken_of c (field_read s c.bit n)) Short
+-- a cursor takes n bits; what cannot be had is none: bits past the end, more than 32 of them, any of a tile above the limit
+unfoldable pub take_of : List ℕ → Cursor → ℕ → Option (ℕ × Cursor)
+take_of s c n = cond (leb (length s) most_bytes && leb n most_bits) (taken_of c (field_read s c.bit n)) None
 
 -- a cursor skips the next zeros and the one after them
-unfoldable pub skip_of : List ℕ → Cursor → Taken
-skip_of s c = cond (leb (length s) most_bytes) (taken_of c (run_read s c.bit)) Short
+unfoldable pub skip_of : List ℕ → Cursor → Option (ℕ × Cursor)
+skip_of s c = cond (leb (length s) most_bytes) (taken_of c (run_read s c.bit)) None

@@ -1,5 +1,5 @@
 -- What the private functions owe each other: code words that are cut out of one window, several at a time.
-use Rattle.std.specs.Prelude.{◌≡◌, List, ℕ, ◌+◌, ◌-◌, ◌*◌, ◌/◌, ◌%◌, ◌^◌, ◌≤◌, ◌<◌}
+use Rattle.std.specs.Prelude.{◌≡◌, Option, Some, None, List, ℕ, ◌+◌, ◌-◌, ◌*◌, ◌/◌, ◌%◌, ◌^◌, ◌≤◌, ◌<◌}
 use Rattle.std.specs.Int.Count.{count_leading_zeros}
 use Rattle.rice.specs.Widths.{fs_bits}
 use Rattle.rice.specs.Reads.{found, field_read, diff_read}
@@ -7,13 +7,7 @@ use Rattle.rice.specs.Blocks.{code_of}
 use Rattle.rice.specs.declared.width.Width.{Width}
 use Rattle.rice.specs.declared.width.Code.{Code}
 use Rattle.rice.specs.declared.width.Code.TheVariants.{Split}
-use Rattle.rice.specs.declared.width.Coded.TheVariants.{Known}
-use Rattle.rice.specs.declared.words.One.{One}
-use Rattle.rice.specs.declared.words.One.TheVariants as O
-use Rattle.rice.specs.declared.words.Two.{Two}
-use Rattle.rice.specs.declared.words.Two.TheVariants as T
 use Rattle.rice.specs.declared.words.Four.{Four}
-use Rattle.rice.specs.declared.words.Four.TheVariants as F
 
 -- what is told of the code word at the top of a word w that is not 0, where it has at most 57 bits: its number, its bits and 128 more,
 -- and what follows it; a word that is 0 leaves 0
@@ -43,18 +37,21 @@ pub record Single (w : Width) (s : List ℕ) (p u q : ℕ) : Type 0 where
   pub code : Code
   pub start : ℕ
   pub head : field_read s p (fs_bits w) ≡ found field start
-  pub known : code_of w field ≡ Known code
+  pub known : code_of w field ≡ Some code
   pub read : diff_read code s start ≡ found u q
 
 -- an answer, where there is one
-abbrev pub OneOf : Width → List ℕ → ℕ → One → Type 0
-OneOf w s p (O.Of u q) = Single w s p u q
-OneOf w s p O.None = Unit {0}
+abbrev pub OneOf : Width → List ℕ → ℕ → Option (ℕ × ℕ) → Type 0
+OneOf w s p (Some (u, q)) = Single w s p u q
+OneOf w s p None = Unit {0}
 
-abbrev pub TwoOf : List ℕ → ℕ → ℕ → Two → Type 0
-TwoOf s p fs (T.Of a b q) = Pair s p fs a b q
-TwoOf s p fs T.None = Unit {0}
+abbrev pub TwoOf : List ℕ → ℕ → ℕ → Option (ℕ × ℕ × ℕ) → Type 0
+TwoOf s p fs (Some (a, b, q)) = Pair s p fs a b q
+TwoOf s p fs None = Unit {0}
 
-abbrev pub FourOf : List ℕ → ℕ → ℕ → Four → Type 0
-FourOf s p fs (F.Of a b c d q) = Pairs s p fs a b c d q
-FourOf s p fs F.None = Unit {0}
+abbrev pub FourAt : List ℕ → ℕ → ℕ → Four → Type 0
+FourAt s p fs f = Pairs s p fs f.a f.b f.c f.d f.end
+
+abbrev pub FourOf : List ℕ → ℕ → ℕ → Option Four → Type 0
+FourOf s p fs (Some f) = FourAt s p fs f
+FourOf s p fs None = Unit {0}

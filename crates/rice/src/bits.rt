@@ -3,19 +3,11 @@ ghost use Rattle.std.specs.Prelude.{◌≡◌, ◌+◌, ◌-◌, ◌*◌, ◌/�
 ghost use Rattle.rice.specs.Tile.{field_at, zeros_at};
 ghost use Rattle.rice.specs.Held.{held_bits};
 
-// One byte more, below what is there.
-fn push(high: u64, byte: u8) -> u64
-    requires { high < 2 ^ 56 }
-    ensures { result ≡ high * 256 + byte }
-{
-    high << 8 | byte as u64
-}
-
 // Four bytes, the highest first.
 fn quad(a: u8, b: u8, c: u8, d: u8) -> u64
     ensures { result ≡ ((a * 256 + b) * 256 + c) * 256 + d }
 {
-    push(push(push(a as u64, b), c), d)
+    u64::from(u32::from_be_bytes([a, b, c, d]))
 }
 
 // Two quads, the higher first.
@@ -30,7 +22,7 @@ fn join(high: u64, low: u64) -> u64
 fn byte_or_zero(s: &[u8], i: usize) -> u8
     ensures { result ≡ get_or s.now i 0 }
 {
-    if i < s.len() { s[i] } else { 0 }
+    s.get(i).copied().unwrap_or(0)
 }
 
 // The 32 bits from byte i on, where they are all there.
@@ -90,15 +82,8 @@ pub(crate) fn field(s: &[u8], p: usize, n: usize) -> u64
     (word(s, p / 8) << (p % 8)) >> 1 >> (63 - n)
 }
 
-// The lesser of two numbers.
-pub(crate) fn least(a: usize, b: usize) -> usize
-    ensures { result ≡ min a b }
-{
-    if a < b { a } else { b }
-}
-
 // How many of the n bits from place p on stand before the first one: n where none is set. A word at a time: the zeros that are shifted in
-// below its bits are not the tile's.
+// below its bits are not the tile's. No `for`: how far a turn comes depends on where its word starts.
 pub(crate) fn zeros(s: &[u8], p: usize, n: usize) -> usize
     requires { p + n < 2 ^ 62 }
     ensures { result ≡ zeros_at s.now p n }
@@ -109,7 +94,7 @@ pub(crate) fn zeros(s: &[u8], p: usize, n: usize) -> usize
         let held = 64 - at % 8;
         let z = u64::leading_zeros(word(s, at / 8) << (at % 8)) as usize;
         if z < held {
-            return least(k + z, n);
+            return (k + z).min(n);
         }
         k += held;
     }

@@ -3,7 +3,9 @@ ghost use Rattle.std.specs.Prelude.{◌≡◌, true, ◌+◌, ◌^◌, ◌<◌};
 ghost use Rattle.rice.specs.Widths.{bits_of, fs_bits, fs_top, start_bytes, positives, pixel_of, in_width, modulo, difference, following};
 ghost use Rattle.rice.specs.Blocks.{code_of};
 ghost use Rattle.rice.specs.Steps.{width_of};
-ghost use Rattle.rice.specs.Filling.{raised};
+ghost use Rattle.rice.specs.Filling.{raised, counted};
+
+use super::Cursor;
 
 // The highest number of 32 bits.
 const HIGHEST: u64 = 0xffff_ffff;
@@ -16,14 +18,21 @@ pub enum Width {
     ThirtyTwo,
 }
 
-// The width, where all limits are kept.
+// A width with its numbers at hand: a mask of its bits, and how many of its pixels are negative.
+// That a level, a number of pixels above the lowest one, is below 2 ^ bits is a clause: in a struct of its own with that ghost field
+// each level would have its width beside it, also where one is stored for each pixel.
 #[derive(Clone, Copy)]
-pub enum Planned {
-    Of(Width),
-    None,
+pub struct Scale {
+    pub width: Width,
+    pub mask: u64,
+    pub below: u64,
+    ghost masked: { mask + 1 ≡ 2 ^ bits_of width },
+    ghost negatives: { below + positives width ≡ 2 ^ bits_of width },
 }
 
 // How a block's differences are written: all 0; in so many bits each; in a run of zeros, a one and so many bits.
+// That a code is one of a width's (`CodeFits`), and its fs at most 24, are clauses: an enum has no ghost field and no model, and with a
+// struct round fs the definitions `code_of` and `diff_read`, which public promises cite, would build its proof.
 #[derive(Clone, Copy)]
 pub enum Code {
     Same,
@@ -31,49 +40,20 @@ pub enum Code {
     Split(usize),
 }
 
-// What an FS field says.
-#[derive(Clone, Copy)]
-pub enum Coded {
-    Known(Code),
-    Above,
-}
-
-// The width of so many bits.
-pub(crate) fn width_of(bits: usize) -> Planned
+// The width of so many bits. No `TryFrom`: there is no error to name, `plan` answers for all limits at once.
+#[tactic(auto, unfolding(crate::specs::Steps::width_of))]
+pub(crate) fn width_of(bits: usize) -> Option<Width>
     ensures { result ≡ width_of bits }
 {
-    if bits == 8 {
-        return Planned::Of(Width::Eight);
-    }
-    if bits == 16 {
-        return Planned::Of(Width::Sixteen);
-    }
-    if bits == 32 {
-        Planned::Of(Width::ThirtyTwo)
-    } else {
-        Planned::None
+    match bits {
+        8 => Some(Width::Eight),
+        16 => Some(Width::Sixteen),
+        32 => Some(Width::ThirtyTwo),
+        _ => None,
     }
 }
 
 impl Width {
-    pub const FS_BITS_8: usize = 3;
-
-    pub const FS_BITS_16: usize = 4;
-
-    pub const FS_BITS_32: usize = 5;
-
-    pub const FS_TOP_8: u64 = 6;
-
-    pub const FS_TOP_16: u64 = 14;
-
-    pub const FS_TOP_32: u64 = 25;
-
-    pub const START_BYTES_8: usize = 1;
-
-    pub const START_BYTES_16: usize = 2;
-
-    pub const START_BYTES_32: usize = 4;
-
     // The bits of a pixel.
     pub(crate) fn bits(self) -> usize
         ensures { result ≡ bits_of self }
@@ -90,9 +70,9 @@ impl Width {
         ensures { result ≡ fs_bits self }
     {
         match self {
-            Width::Eight => Width::FS_BITS_8,
-            Width::Sixteen => Width::FS_BITS_16,
-            Width::ThirtyTwo => Width::FS_BITS_32,
+            Width::Eight => 3,
+            Width::Sixteen => 4,
+            Width::ThirtyTwo => 5,
         }
     }
 
@@ -101,9 +81,9 @@ impl Width {
         ensures { result ≡ fs_top self }
     {
         match self {
-            Width::Eight => Width::FS_TOP_8,
-            Width::Sixteen => Width::FS_TOP_16,
-            Width::ThirtyTwo => Width::FS_TOP_32,
+            Width::Eight => 6,
+            Width::Sixteen => 14,
+            Width::ThirtyTwo => 25,
         }
     }
 
@@ -112,9 +92,9 @@ impl Width {
         ensures { result ≡ start_bytes self }
     {
         match self {
-            Width::Eight => Width::START_BYTES_8,
-            Width::Sixteen => Width::START_BYTES_16,
-            Width::ThirtyTwo => Width::START_BYTES_32,
+            Width::Eight => 1,
+            Width::Sixteen => 2,
+            Width::ThirtyTwo => 4,
         }
     }
 
@@ -140,22 +120,23 @@ impl Width {
         }
     }
 
-    // The code that an FS field says.
-    pub(crate) fn code(self, field: u64) -> Coded
+    // The code that an FS field says; none above the top.
+    #[tactic(auto, unfolding(crate::specs::Blocks::code_of))]
+    pub(crate) fn code(self, field: u64) -> Option<Code>
         ensures { result ≡ code_of self field }
     {
         if field == 0 {
-            return Coded::Known(Code::Same);
+            return Some(Code::Same);
         }
         let top = self.fs_top();
         if field <= top {
             let fs = field - 1;
-            return Coded::Known(Code::Split(fs as usize));
+            return Some(Code::Split(fs as usize));
         }
         if field == top + 1 {
-            Coded::Known(Code::Raw(self.bits()))
+            Some(Code::Raw(self.bits()))
         } else {
-            Coded::Above
+            None
         }
     }
 
@@ -172,37 +153,63 @@ impl Width {
         }
     }
 
+    // The width with its numbers at hand.
+    pub(crate) fn scale(self) -> Scale
+        ensures { result.width ≡ self }
+    {
+        Scale {
+            width: self,
+            mask: self.mask(),
+            below: self.negatives(),
+        }
+    }
+
     // The pixel whose bits are v: they are turned so that they count from the lowest pixel.
     pub(crate) fn pixel(self, v: u64) -> i32
         requires { v < 2 ^ bits_of self }
         ensures { result ≡ pixel_of self v }
     {
-        let below = self.negatives();
-        self.pixel_by(below, (v + below) & self.mask())
+        let scale = self.scale();
+        scale.pixel((v + scale.below) & scale.mask)
+    }
+}
+
+impl Scale {
+    // The pixel that stands so many above the lowest one.
+    pub(crate) fn pixel(self, level: u64) -> i32
+        requires { level < 2 ^ bits_of self.width }
+        ensures { result ≡ raised self.width level }
+    {
+        (level as i64 - self.below as i64) as i32
     }
 
-    // The pixel that stands so many above the lowest one, with the width's numbers at hand.
-    pub(crate) fn pixel_by(self, below: u64, level: u64) -> i32
-        requires { (below + positives self ≡ 2 ^ bits_of self) × (level < 2 ^ bits_of self) }
-        ensures { result ≡ raised self level }
+    // The cursor at a place with so many pixels done, the last of them counted from the lowest one.
+    pub(crate) fn cursor(self, bit: usize, done: usize, level: u64) -> Cursor
+        requires { level < 2 ^ bits_of self.width }
+        ensures { result ≡ counted self.width bit done level }
     {
-        (level as i64 - below as i64) as i32
+        Cursor {
+            bit,
+            done,
+            last: self.pixel(level),
+        }
     }
 
     // How many pixels a pixel stands above the lowest one.
     pub(crate) fn level_of(self, z: i32) -> u64
-        requires { in_width self z ≡ true }
-        ensures { (result < 2 ^ bits_of self) × (raised self result ≡ z) }
+        requires { in_width self.width z ≡ true }
+        ensures { (result < 2 ^ bits_of self.width) × (raised self.width result ≡ z) }
     {
-        (z as i64 + self.negatives() as i64) as u64
+        (z as i64 + self.below as i64) as u64
     }
 
     // The pixel that follows one, both counted from the lowest.
-    pub(crate) fn next_by(self, mask: u64, level: u64, u: u64) -> u64
-        requires { (mask + 1 ≡ 2 ^ bits_of self) × (level < 2 ^ bits_of self) × (u < 2 ^ 32) }
-        ensures { (result < 2 ^ bits_of self) × (raised self result ≡ following self (raised self level) u) }
+    pub(crate) fn next(self, level: u64, u: u64) -> u64
+        requires { (level < 2 ^ bits_of self.width) × (u < 2 ^ 32) }
+        ensures { (result < 2 ^ bits_of self.width)
+            × (raised self.width result ≡ following self.width (raised self.width level) u) }
     {
-        (level + unmap(u)) & mask
+        (level + unmap(u)) & self.mask
     }
 }
 

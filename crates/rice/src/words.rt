@@ -24,25 +24,14 @@ pub struct Word {
     pub rest: u64,
 }
 
-// The number that stands for the difference of a block of one pixel, and the place after it; or it is not had so.
+// Four numbers that stand for differences, and the place after the last of them.
 #[derive(Clone, Copy)]
-pub enum One {
-    Of(u64, usize),
-    None,
-}
-
-// Two such numbers.
-#[derive(Clone, Copy)]
-pub enum Two {
-    Of(u64, u64, usize),
-    None,
-}
-
-// Four of them.
-#[derive(Clone, Copy)]
-pub enum Four {
-    Of(u64, u64, u64, u64, usize),
-    None,
+pub struct Four {
+    pub a: u64,
+    pub b: u64,
+    pub c: u64,
+    pub d: u64,
+    pub end: usize,
 }
 
 // The code word at the top of w. n ^ 63 is the number of the highest bit that is set, or 127 where none is: one subtraction from it gives
@@ -62,13 +51,13 @@ fn top_word(w: u64, fs: usize, most: usize, scale: u64) -> Word
     }
 }
 
-// Two numbers out of one window.
-fn next_two(bit: usize, tile: &[u8], fs: usize) -> Two
+// Two numbers out of one window, and the place after them; none where they are not had so.
+fn next_two(bit: usize, tile: &[u8], fs: usize) -> Option<(u64, u64, usize)>
     requires { (length tile.now ≤ most_bytes) × (fs ≤ 24) }
     ensures { TwoOf tile.now bit fs result }
 {
     if tile.len() < bit / 8 + 8 {
-        return Two::None;
+        return None;
     }
     let scale = 1 << fs;
     let most = 192 + fs;
@@ -77,35 +66,31 @@ fn next_two(bit: usize, tile: &[u8], fs: usize) -> Two
     let b = top_word(after, fs, most, scale);
     let used = a.used + b.used;
     if HELD + 2 * MORE < used {
-        return Two::None;
+        return None;
     }
     if after < 1 {
-        return Two::None;
+        return None;
     }
-    Two::Of(a.value, b.value, bit + used - 2 * MORE)
+    Some((a.value, b.value, bit + used - 2 * MORE))
 }
 
 // Four numbers out of two windows.
-fn next_pairs(bit: usize, tile: &[u8], fs: usize) -> Four
+fn next_pairs(bit: usize, tile: &[u8], fs: usize) -> Option<Four>
     requires { (length tile.now ≤ most_bytes) × (fs ≤ 24) }
     ensures { FourOf tile.now bit fs result }
 {
-    let Two::Of(a, b, middle) = next_two(bit, tile, fs) else {
-        return Four::None;
-    };
-    let Two::Of(c, d, end) = next_two(middle, tile, fs) else {
-        return Four::None;
-    };
-    Four::Of(a, b, c, d, end)
+    let (a, b, middle) = next_two(bit, tile, fs)?;
+    let (c, d, end) = next_two(middle, tile, fs)?;
+    Some(Four { a, b, c, d, end })
 }
 
-// Four numbers out of one window.
-fn next_four(bit: usize, tile: &[u8], fs: usize) -> Four
+// Four numbers out of one window. A loop over two or four of them would test in each turn what is tested here once, at the end.
+fn next_four(bit: usize, tile: &[u8], fs: usize) -> Option<Four>
     requires { (length tile.now ≤ most_bytes) × (fs ≤ 24) }
     ensures { FourOf tile.now bit fs result }
 {
     if tile.len() < bit / 8 + 8 {
-        return Four::None;
+        return None;
     }
     let scale = 1 << fs;
     let most = 192 + fs;
@@ -116,16 +101,22 @@ fn next_four(bit: usize, tile: &[u8], fs: usize) -> Four
     let d = top_word(after, fs, most, scale);
     let used = a.used + b.used + c.used + d.used;
     if HELD + 4 * MORE < used {
-        return Four::None;
+        return None;
     }
     if after < 1 {
-        return Four::None;
+        return None;
     }
-    Four::Of(a.value, b.value, c.value, d.value, bit + used - 4 * MORE)
+    Some(Four {
+        a: a.value,
+        b: b.value,
+        c: c.value,
+        d: d.value,
+        end: bit + used - 4 * MORE,
+    })
 }
 
 // Four numbers.
-pub(crate) fn next_words(bit: usize, tile: &[u8], fs: usize) -> Four
+pub(crate) fn next_words(bit: usize, tile: &[u8], fs: usize) -> Option<Four>
     requires { (length tile.now ≤ most_bytes) × (fs ≤ 24) }
     ensures { FourOf tile.now bit fs result }
 {
@@ -137,32 +128,39 @@ pub(crate) fn next_words(bit: usize, tile: &[u8], fs: usize) -> Four
 }
 
 impl Width {
-    // The number in a block of one pixel, out of one window with its FS field, with the width's numbers at hand. Raw ones are not had so.
-    pub(crate) fn next_one(self, size: usize, top: u64, bit: usize, tile: &[u8]) -> One
+    // The number that stands for the difference in a block of one pixel, and the place after it, out of one window with its FS field, with
+    // the width's numbers at hand. Raw ones are not had so.
+    pub(crate) fn next_one(
+        self,
+        size: usize,
+        top: u64,
+        bit: usize,
+        tile: &[u8],
+    ) -> Option<(u64, usize)>
         requires { (length tile.now ≤ most_bytes) × (size ≡ fs_bits self) × (top ≡ fs_top self) }
         ensures { OneOf self tile.now bit result }
     {
         if tile.len() < bit / 8 + 8 {
-            return One::None;
+            return None;
         }
         let w = bits::window(tile, bit);
         let field = w >> (64 - size);
         if field == 0 {
-            return One::Of(0, bit + size);
+            return Some((0, bit + size));
         }
         if top < field {
-            return One::None;
+            return None;
         }
         let fs = (field - 1) as usize;
         let after = w << size;
         if after < 1 {
-            return One::None;
+            return None;
         }
         let a = top_word(after, fs, 192 + fs, 1 << fs);
         let used = size + a.used;
         if HELD + MORE < used {
-            return One::None;
+            return None;
         }
-        One::Of(a.value, bit + used - MORE)
+        Some((a.value, bit + used - MORE))
     }
 }

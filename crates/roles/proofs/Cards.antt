@@ -1,4 +1,5 @@
 -- A header's cards, by number.
+use Rattle.std.proofs.lemmas.List.{drop-map}
 use Prim.Native.Nat.{ℕ, zero, suc, ◌+◌, ◌*◌, ◌/◌, ◌<◌, ◌≤◌}
 use native.Mathlib.Omega.{arith}
 use mathlib.Core.Path.{◌≡◌, refl, sym, ap, ap₂, ◌∙◌}
@@ -7,13 +8,6 @@ use lib.ListN.{length, take, drop, get_or, drop_of_length-le, length-map}
 use lib.Seq.{drop-drop, get_or-drop}
 use Rattle.roles.specs.Roles.{Role, neutral, role_of}
 use Rattle.roles.specs.Cards.{cards_in, cards_of, card_no, role_no, roles_of}
-
--- a part of a list that is mapped
-pub drop-map : {A B : Type 0} (f : A → B) (l : List A) (i : ℕ) → drop i (map f l) ≡ map f (drop i l)
-drop-map f [] zero = refl
-drop-map f [] (suc i) = refl
-drop-map f (x ∷ l) zero = refl
-drop-map f (x ∷ l) (suc i) = drop-map f l i
 
 -- the cards from number i on are those of what stands from byte 80 i on
 cards_at : (n i : ℕ) (h : List ℕ) → i < n → drop i (cards_in n h) ≡ take 80 (drop (i * 80) h) ∷ drop (i + 1) (cards_in n h)
@@ -59,9 +53,9 @@ module _ (h : List ℕ) where
   -- the roles from number i on, by the first of them
   pub roles_from : (i : ℕ) → i < length h / 80 → drop i (roles_of h) ≡ role_no h i ∷ drop (i + 1) (roles_of h)
   roles_from i within =
-      drop-map role_of (cards_of h) i
+      drop-map role_of i (cards_of h)
       ∙ ap (map role_of) (cards_from h i within)
-      ∙ ap (λ (l : List Role). role_no h i ∷ l) (sym (drop-map role_of (cards_of h) (i + 1)))
+      ∙ ap (λ (l : List Role). role_no h i ∷ l) (sym (drop-map role_of (i + 1) (cards_of h)))
 
   -- the role of card i
   pub role_is : (i : ℕ) → i < length h / 80 → get_or (roles_of h) i neutral ≡ role_no h i
@@ -69,4 +63,4 @@ module _ (h : List ℕ) where
 
   -- behind the last there is none
   pub roles_past : (i : ℕ) → length h / 80 ≤ i → drop i (roles_of h) ≡ []
-  roles_past i p = drop-map role_of (cards_of h) i ∙ ap (map role_of) (cards_past h i p)
+  roles_past i p = drop-map role_of i (cards_of h) ∙ ap (map role_of) (cards_past h i p)

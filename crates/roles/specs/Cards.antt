@@ -1,7 +1,8 @@
 -- A header's bytes as its cards (SPECIFICATION 1).
 use Rattle.std.specs.Prelude.{ℕ, zero, suc, ◌*◌, ◌/◌, ◌%◌, Bool, cond, ◌||◌, not}
-use Rattle.std.specs.Prelude.{List, [], ◌∷◌, map, eqb, ltb, length, take, drop, replicate}
+use Rattle.std.specs.Prelude.{List, [], ◌∷◌, map, eqb, ltb, length, take, drop, replicate, Result}
 use Prim.Native.Char.{code}
+use Rattle.refusal.specs.declared.Fault.{Fault}
 use Rattle.card.specs.declared.CardRead.{CardRead}
 use Rattle.card.specs.Cards.{card_of}
 use Rattle.roles.specs.Roles.{Role, role_of}
@@ -35,5 +36,5 @@ unfoldable pub card_count : ℕ → ℕ
 card_count n = cond (is_bad_length n) 0 (n / 80)
 
 -- the card with number i; one that the header lacks is blank
-unfoldable pub card_at : List ℕ → ℕ → CardRead
+unfoldable pub card_at : List ℕ → ℕ → Result CardRead Fault
 card_at h i = cond (ltb i (length h / 80)) (card_of (card_no h i)) (card_of (replicate 80 (code " ")))

@@ -1,17 +1,16 @@
 -- What a card is to its header (SPECIFICATION 3 and 9).
-use Rattle.std.specs.Prelude.{ℕ, Bool, true, false, cond, List, []}
-use Rattle.std.proofs.Math.Option.{Option, none, some}
+use Rattle.std.specs.Prelude.{ℕ, Bool, true, false, cond, List, [], Err, Ok, Result, Option, None, Some}
 use Rattle.refusal.specs.declared.Fault.{Fault}
+use Rattle.text.specs.declared.Text.{Text}
 use Rattle.text.specs.Text.{bytes_of}
 use Rattle.numbers.specs.declared.Value.{Value}
 use Rattle.numbers.specs.declared.Value.TheVariants.{Integer, Float, Logical, String, Undefined, Invalid}
 use Rattle.card.specs.declared.Card.TheVariants as C
-use Rattle.card.specs.declared.CardAnswer.{CardAnswer}
-use Rattle.card.specs.declared.CardAnswer.TheVariants as A
 use Rattle.card.specs.declared.CardRead.{CardRead}
 use Rattle.card.specs.Cards.{card_of}
 use Rattle.roles.specs.declared.Role.{Role as Told}
-use Rattle.roles.specs.declared.Role.TheVariants.{Entry, More, Neutral, Last, Refused}
+use Rattle.roles.specs.declared.Role.TheVariants.{Entry, More, Neutral, Last}
+use Rattle.card.specs.declared.Card.{Card}
 
 -- a comment, or none: a comment may be present and empty
 abbrev pub Comment : Type 0
@@ -53,17 +52,21 @@ is_string Undefined = false
 is_string Invalid = false
 
 -- the stored XTENSION text is a string that is never open
-abbrev pub role_by : CardAnswer → Told
-role_by (A.Read (C.Value v)) = Entry v (is_string v)
-role_by (A.Read (C.Hierarch v)) = Entry v (is_string v)
-role_by (A.Read C.Xtension) = Entry String false
-role_by (A.Read C.Continuation) = More
-role_by (A.Read C.Comment) = Neutral
-role_by (A.Read C.History) = Neutral
-role_by (A.Read C.Space) = Neutral
-role_by (A.Read C.Undefined) = Neutral
-role_by (A.Read C.End) = Last
-role_by (A.Refused f) = Refused f
+abbrev pub role_by : Card → Told
+role_by (C.Value v) = Entry v (is_string v)
+role_by (C.Hierarch v) = Entry v (is_string v)
+role_by C.Xtension = Entry String false
+role_by C.Continuation = More
+role_by C.Comment = Neutral
+role_by C.History = Neutral
+role_by C.Space = Neutral
+role_by C.Undefined = Neutral
+role_by C.End = Last
+
+-- by what the card was read as
+abbrev pub told_of : Result Card Fault → Result Told Fault
+told_of (Ok card) = Ok (role_by card)
+told_of (Err fault) = Err fault
 
 -- ---- the same over lists
 
@@ -86,13 +89,18 @@ has_digits Undefined = false
 has_digits Invalid = false
 
 abbrev pub comment_of : Bool → List ℕ → Comment
-comment_of true c = some c
-comment_of false c = none
+comment_of true c = Some c
+comment_of false c = None
+
+-- the comment of a card
+abbrev pub comment_read : Option Text → Comment
+comment_read (Some c) = Some (bytes_of c)
+comment_read None = None
 
 -- the words of an entry by its own card
 abbrev pub words_in : Value → Bool → CardRead → Words
 words_in v joins r =
-    record { text = cond (has_text v) (bytes_of r.text) []; comment = comment_of r.commented (bytes_of r.comment); joins = joins }
+    record { text = cond (has_text v) (bytes_of r.text) []; comment = comment_read r.comment; joins = joins }
 
 -- a value and its words, as its card has them
 abbrev pub held_of : Value → Bool → CardRead → Held
@@ -100,14 +108,14 @@ held_of v joins r = record { value = v; digits = cond (has_digits v) (bytes_of r
 
 abbrev pub role_in : Told → CardRead → Role
 role_in (Entry v joins) r = entry (bytes_of r.name) (held_of v joins r)
-role_in More r = more (bytes_of r.text) (comment_of r.commented (bytes_of r.comment))
+role_in More r = more (bytes_of r.text) (comment_read r.comment)
 role_in Neutral r = neutral
 role_in Last r = last
-role_in (Refused f) r = refused f
 
 -- the role of a card as it is read
-abbrev pub role_read : CardRead → Role
-role_read r = role_in (role_by r.answer) r
+abbrev pub role_read : Result CardRead Fault → Role
+role_read (Ok r) = role_in (role_by r.card) r
+role_read (Err f) = refused f
 
 -- the role of a card by its bytes
 abbrev pub role_of : List ℕ → Role

@@ -3,10 +3,10 @@
 
 ghost use Rattle.std.specs.Prelude.{◌≡◌, ◌*◌, ◌/◌, ◌<◌, length, take, drop};
 ghost use Rattle.card.specs.Cards.{card_of};
-ghost use Rattle.roles.specs.Roles.{is_string, role_by};
+ghost use Rattle.roles.specs.Roles.{is_string, role_by, told_of};
 ghost use Rattle.roles.specs.Cards.{is_bad_length, card_count, card_at};
 
-use card::{CARD, Card, CardAnswer, CardRead};
+use card::{CARD, Card, CardRead};
 use numbers::Value;
 use refusal::Fault;
 
@@ -21,12 +21,13 @@ pub enum Role {
     Neutral,
     // END.
     Last,
-    // A card that is refused.
-    Refused(Fault),
 }
 
 // The most cards of a header.
 pub const MOST_CARDS: usize = 720;
+
+// The bytes of a blank card.
+const BLANK: [u8; 80] = [b' '; 80];
 
 // The bytes of the longest header.
 const LONGEST: usize = MOST_CARDS * CARD;
@@ -55,40 +56,16 @@ pub fn card_count(header: &[u8]) -> usize
 }
 
 // The card with a number; a blank one where the header has no such card.
-pub fn card_at(header: &[u8], i: usize) -> CardRead
+pub fn card_at(header: &[u8], i: usize) -> Result<CardRead, Fault>
     ensures { result ≡ card_at header.now i }
 {
-    if i < header.len() / CARD {
-        return card_within(header, i);
-    }
-    let blank = [b' '; 80];
-    card::read_card(&blank)
-}
-
-// What a card is to its header, by what it is read as.
-pub fn role_of(answer: CardAnswer) -> Role
-    ensures { result ≡ role_by answer }
-{
-    match answer {
-        CardAnswer::Read(card) => role_in(card),
-        CardAnswer::Refused(fault) => Role::Refused(fault),
-    }
-}
-
-// The card with a number that the header has.
-fn card_within(header: &[u8], i: usize) -> CardRead
-    requires { i < length header.now / 80 }
-    ensures { result ≡ card_of (take 80 (drop (i * 80) header.now)) }
-{
-    let at = i * CARD;
-    let mut bytes = [0u8; 80];
-    text::put_at(&header[at..], &mut bytes, 0);
-    card::read_card(&bytes)
+    let (cards, _) = header.as_chunks::<80>();
+    card::read_card(cards.get(i).unwrap_or(&BLANK))
 }
 
 // What a card is to its header by its class.
-fn role_in(card: Card) -> Role
-    ensures { result ≡ role_by (CardAnswer.Read card) }
+pub fn role_of(card: Card) -> Role
+    ensures { result ≡ role_by card }
 {
     match card {
         Card::Value(v) => Role::Entry {
@@ -110,6 +87,13 @@ fn role_in(card: Card) -> Role
         Card::Undefined => Role::Neutral,
         Card::End => Role::Last,
     }
+}
+
+// The same by what a card was read as: a refusal is handed on.
+pub fn role_told(answer: Result<Card, Fault>) -> Result<Role, Fault>
+    ensures { result ≡ told_of answer }
+{
+    answer.map(role_of)
 }
 
 fn is_string(value: Value) -> bool

@@ -1,28 +1,23 @@
 -- The refusals of a text, and where each is met.
+use Rattle.std.specs.Prelude.{Some, Err}
 use Prim.Native.Nat.{ℕ}
 use Prim.Native.Char.{code}
-use mathlib.Core.Path.{◌≡◌, refl, ap}
+use mathlib.Core.Path.{◌≡◌, refl}
 use mathlib.Core.Bool.{Bool, true, false, cond}
 use mathlib.Core.List.{List, [], ◌∷◌}
-use Rattle.refusal.specs.declared.Column.{Column}
-use Rattle.refusal.specs.declared.Column.TheVariants.{At}
 use Rattle.refusal.specs.declared.Fault.{Fault}
-use Rattle.refusal.specs.declared.Refusal.{Refusal}
 use Rattle.refusal.specs.declared.Refusal.TheVariants as R
-use Rattle.refusal.specs.Numbers.{fault_of, placed}
+use Rattle.refusal.specs.Numbers.{fault_of}
+use Rattle.refusal.proofs.Placing.{RefusedBy}
 use Rattle.text.specs.Bytes.{is_blank}
 use Rattle.text.specs.Ends.{ends_with, stem}
 use Rattle.text.specs.Trim.{trim}
-use Rattle.splitting.specs.declared.Quoted.{Quoted}
-use Rattle.splitting.specs.declared.Quoted.TheVariants as Q
 use Rattle.splitting.specs.declared.Quoting.TheVariants.{Outside}
 use Rattle.splitting.specs.declared.Slash.{Slash}
 use Rattle.splitting.specs.declared.Slash.TheVariants as S
-use Rattle.splitting.specs.declared.SplitAnswer.{SplitAnswer}
-use Rattle.splitting.specs.declared.SplitAnswer.TheVariants.{Bare, Commented, Refused}
 use Rattle.splitting.specs.Scan.{scan_from}
 use Rattle.splitting.specs.Split.{parts_at, split_of}
-use Rattle.splitting.specs.Strings.{is_quote, reads, string_refused, opened, unopened, string_of}
+use Rattle.splitting.specs.Strings.{is_quote, reads, opened, unopened, string_of}
 use Rattle.splitting.specs.Columns.{first_byte, text_column}
 
 -- the refusals that are met at the first byte of a text
@@ -38,48 +33,34 @@ pub data InText : Fault → Type 0 where
   led : {x : Fault} → Led x → InText x
 
 -- where those are met
-pub led_first : (from : ℕ) (t : List ℕ) (x : Fault) → Led x → At (first_byte from t) ≡ text_column from t x.why
+pub led_first : (from : ℕ) (t : List ℕ) (x : Fault) → Led x → Some (first_byte from t) ≡ text_column from t x.why
 led_first from t _ not-closed = refl
 led_first from t _ not_opened = refl
 led_first from t _ complex = refl
 led_first from t _ not-quoted = refl
 
--- two columns that agree on a refusal place it alike
-pub placed_alike : (f g : Refusal → Column) (x : Fault) → f x.why ≡ g x.why → placed f x ≡ placed g x
-placed_alike f g x e = ap (λ (y : Column). record { why = x.why; column = y }) e
-
 -- ---- of a split
 
--- a refusal, if it is one, is one of those
-abbrev pub SplitBy : (Fault → Type 0) → SplitAnswer → Type 0
-SplitBy P Bare = Unit {0}
-SplitBy P Commented = Unit {0}
-SplitBy P (Refused x) = P x
-
-pub split_in_text : (t : List ℕ) → SplitBy InText (split_of t).answer
+pub split_in_text : (t : List ℕ) → RefusedBy InText (split_of t)
 unfolding split_of
 split_in_text t = let s = trim is_blank t in let r = scan_from Outside s 0 in go r.place s r.value
   where
-    go : (p : Slash) (s v : List ℕ) → SplitBy InText (parts_at p s v).answer
+    go : (p : Slash) (s v : List ℕ) → RefusedBy InText (parts_at p s v)
     go (S.At i) s v = tt
     go S.Nowhere s v = tt
     go (S.Bad i) s v = odd
 
 -- ---- of a string
 
-abbrev pub QuotedBy : (Fault → Type 0) → Quoted → Type 0
-QuotedBy P Q.Str = Unit {0}
-QuotedBy P (Q.Refused x) = P x
-
-pub string_led : (s : List ℕ) → QuotedBy Led (string_of s).answer
+pub string_led : (s : List ℕ) → RefusedBy Led (string_of s)
 unfolding string_of opened unopened
 string_led [] = tt
 string_led (b ∷ s) = go (is_quote b) (ends_with (code "'") s) (ends_with (code "'") (b ∷ s))
   where
     go : (q d e : Bool)
-        → QuotedBy Led
-        (cond q (cond d (reads (stem s)) (string_refused (fault_of R.StringNotClosed)))
-        (cond e (string_refused (fault_of R.StringNotOpened)) (reads (b ∷ s)))).answer
+        → RefusedBy Led
+        (cond q (cond d (reads (stem s)) (Err (fault_of R.StringNotClosed)))
+        (cond e (Err (fault_of R.StringNotOpened)) (reads (b ∷ s))))
     go true true e = tt
     go true false e = not-closed
     go false d true = not_opened
@@ -89,7 +70,7 @@ string_led (b ∷ s) = go (is_quote b) (ends_with (code "'") s) (ends_with (code
 
 pub record OfText (P : Fault → Type 0) (t : List ℕ) : Type 0 where
   pub first : (x : Fault) → Led x → P x
-  pub split : SplitBy P (split_of t).answer
+  pub split : RefusedBy P (split_of t)
 
 pub of_text : (t : List ℕ) → OfText InText t
 of_text t = record { first = λ (x : Fault) (h : Led x). led h; split = split_in_text t }

@@ -1,4 +1,5 @@
 -- What a scan finds lies within the text, and splitting by what was found.
+use Rattle.std.specs.Prelude.{Option, Result, Ok, Err}
 use Prim.Native.Nat.{ℕ, suc, ◌+◌, ◌-◌, ◌<◌, ◌≤◌}
 use native.Mathlib.Nat.{zero-add}
 use native.Mathlib.Omega.{arith}
@@ -6,7 +7,6 @@ use mathlib.Core.Path.{◌≡◌, refl, sym, ap, ◌∙◌}
 use mathlib.Core.List.{List, [], ◌∷◌}
 use borrow.Author.Tests.{ne_eqb}
 use lib.ListN.{length, length-append}
-use Rattle.refusal.specs.declared.Column.{Column}
 use Rattle.refusal.specs.declared.Refusal.{Refusal}
 use Rattle.refusal.specs.declared.Refusal.TheVariants as R
 use Rattle.splitting.specs.declared.Quoting.{Quoting}
@@ -21,7 +21,9 @@ use Rattle.text.specs.Text.{size, bytes_of}
 use Rattle.splitting.specs.Scan.{Move, ends, rejects, puts, passes, move, byte_class, Scan, after, scan_from}
 use Rattle.splitting.specs.Scanned.{scanned_of, first_of, halves_at}
 use Rattle.splitting.specs.Split.{parts_at, split_of}
-use Rattle.splitting.specs.Columns.{first_by, first_byte, odd_by, text_column, halves_placed}
+use Rattle.splitting.specs.Columns.{first_by, first_byte, odd_by, text_column}
+use Rattle.refusal.specs.declared.Fault.{Fault}
+use Rattle.refusal.specs.Numbers.{answer_placed}
 use Rattle.text.proofs.Trimming.{shorter, end_shorter, leading-and-rest}
 use Rattle.text.proofs.Texts.{bytes-text}
 
@@ -61,8 +63,8 @@ unfolding scanned_of
 scanned_within s f e = rw e ((scan_within Outside s 0).0, place-within s)
 
 -- the parts of a text that begins at byte `first`, by where the slash stands
-abbrev pub parts_from : ℕ → Slash → List ℕ → List ℕ → Halves
-parts_from first p s v = halves_placed (λ (why : Refusal). odd_by p first) (parts_at p s v)
+abbrev pub parts_from : ℕ → Slash → List ℕ → List ℕ → Result Halves Fault
+parts_from first p s v = answer_placed (λ (why : Refusal). odd_by p first) (parts_at p s v)
 
 -- the parts by what a scan of the text found
 pub parts_found : (first : ℕ) (s : List ℕ) (f : Scanned) → f ≡ scanned_of s
@@ -77,16 +79,16 @@ unfolding halves_at
 parts_plain first s v p e = sym (ap (λ (r : Scan). parts_from first r.place s r.value) e)
 
 -- 2 is the only refusal of the parts, so they ask for its column alone
-parts_placed : (p : Slash) (first : ℕ) (s v : List ℕ) (f : Refusal → Column) → f R.OddByte ≡ odd_by p first
-    → parts_from first p s v ≡ halves_placed f (parts_at p s v)
+parts_placed : (p : Slash) (first : ℕ) (s v : List ℕ) (f : Refusal → Option ℕ) → f R.OddByte ≡ odd_by p first
+    → parts_from first p s v ≡ answer_placed f (parts_at p s v)
 parts_placed (At i) first s v f e = refl
 parts_placed Nowhere first s v f e = refl
 parts_placed (Bad i) first s v f e =
-    ap (λ (x : Column). halves_placed (λ (why : Refusal). x) (parts_at (Bad i) s v)) (sym e)
+    ap (λ (x : Option ℕ). answer_placed (λ (why : Refusal). x) (parts_at (Bad i) s v)) (sym e)
 
 -- the halves of the trimmed text are those of the text on its card
 pub halves_placed_lem : (from : ℕ) (t : List ℕ)
-    → halves_at (first_byte from t) (trim is_blank t) ≡ halves_placed (text_column from t) (split_of t)
+    → halves_at (first_byte from t) (trim is_blank t) ≡ answer_placed (text_column from t) (split_of t)
 unfolding halves_at split_of
 halves_placed_lem from t =
     let s = trim is_blank t in
@@ -133,8 +135,17 @@ module _ (from : ℕ) (t : List ℕ) (few : length t ≤ size - from) where
       go [] h e = absurd (omega arith)
       go (b ∷ s) h e = omega arith
 
+-- the value text, if there is one, fits
+abbrev pub ValueFits : Result Halves Fault → Type 0
+ValueFits (Ok h) = h.value.len ≤ size
+ValueFits (Err x) = Unit {0}
+
+pub placed_fits : (f : Refusal → Option ℕ) (a : Result Halves Fault) → ValueFits a → ValueFits (answer_placed f a)
+placed_fits f (Ok h) e = e
+placed_fits f (Err x) e = tt
+
 -- the value text fits where the text does
-pub value_fits_lem : (t : List ℕ) → length t ≤ size → (split_of t).value.len ≤ size
+pub value_fits_lem : (t : List ℕ) → length t ≤ size → ValueFits (split_of t)
 unfolding split_of
 value_fits_lem t h = go r.place
   where
@@ -144,7 +155,7 @@ value_fits_lem t h = go r.place
     r : Scan
     r = scan_from Outside s 0
 
-    go : (p : Slash) → (parts_at p s r.value).value.len ≤ size
+    go : (p : Slash) → ValueFits (parts_at p s r.value)
     go (At i) = omega (arith, shorter is_space r.value, (scan_within Outside s 0).0, shorter is_blank t)
     go Nowhere = omega (arith, shorter is_space r.value, (scan_within Outside s 0).0, shorter is_blank t)
-    go (Bad i) = omega arith
+    go (Bad i) = tt

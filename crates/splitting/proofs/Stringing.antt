@@ -1,4 +1,5 @@
 -- Strings, by the tests of the code.
+use Rattle.std.specs.Prelude.{Err}
 use Prim.Native.Nat.{ℕ, suc, ◌-◌}
 use Prim.Native.Char.{code}
 use native.Mathlib.Omega.{arith}
@@ -11,7 +12,7 @@ use Rattle.text.specs.Trim.{trim_end}
 use Rattle.text.specs.Ends.{stem, ends_with}
 use Rattle.refusal.specs.declared.Refusal.TheVariants as R
 use Rattle.refusal.specs.Numbers.{fault_of}
-use Rattle.splitting.specs.Strings.{or_space, settled_of, reads, string_refused, opened, unopened, string_of}
+use Rattle.splitting.specs.Strings.{or_space, settled_of, reads, opened, unopened, string_of}
 
 pub empty : (s : List ℕ) → length s ≡ 0 → s ≡ []
 empty [] h = refl
@@ -36,7 +37,7 @@ Opens s = get_or s 0 0 ≡ code "'"
 abbrev pub Closes : List ℕ → Type 0
 Closes s = get_or s (length s - 1) 0 ≡ code "'"
 
-pub lone : (s : List ℕ) → length s ≡ 1 → Opens s → string_of s ≡ string_refused (fault_of R.StringNotClosed)
+pub lone : (s : List ℕ) → length s ≡ 1 → Opens s → string_of s ≡ Err (fault_of R.StringNotClosed)
 unfolding string_of opened ends_with
 lone [] h e = absurd (omega arith)
 lone (b ∷ []) h e = rw (eq-eqb b (code "'") e)
@@ -59,7 +60,7 @@ quoted (b ∷ c ∷ s) some more e d =
     rw (eq-eqb b (code "'") e, eq-eqb _ (code "'") (sym (last b c s) ∙ d), x)
 
 pub unclosed : (s : List ℕ) → (length s ≡ 0 → ⊥) → (length s ≡ 1 → ⊥) → Opens s → (Closes s → ⊥)
-    → string_of s ≡ string_refused (fault_of R.StringNotClosed)
+    → string_of s ≡ Err (fault_of R.StringNotClosed)
 unfolding string_of opened ends_with
 unclosed [] some more e d = absurd (some refl)
 unclosed (b ∷ []) some more e d = absurd (more refl)
@@ -74,7 +75,7 @@ module _ (s : List ℕ) (some : length s ≡ 0 → ⊥) (bare : Opens s → ⊥)
       go [] h e = absurd (h refl)
       go (b ∷ s) h e = rw (ne_eqb b (code "'") e)
 
-  pub unopened_quote : Closes s → string_of s ≡ string_refused (fault_of R.StringNotOpened)
+  pub unopened_quote : Closes s → string_of s ≡ Err (fault_of R.StringNotOpened)
   unfolding unopened ends_with
   unopened_quote e = without ∙ rw (eq-eqb _ (code "'") e)
 

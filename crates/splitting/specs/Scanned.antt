@@ -1,5 +1,5 @@
 -- What a scan finds, as the code hands it over: the value text in an array. And what the parts of a text are made from.
-use Rattle.std.specs.Prelude.{ℕ, ◌+◌, ◌-◌, ◌<◌, ◌≤◌, ◌≡◌, cond, List, eqb, length, take, drop}
+use Rattle.std.specs.Prelude.{ℕ, ◌+◌, ◌-◌, ◌<◌, ◌≤◌, ◌≡◌, cond, List, eqb, length, take, drop, Result}
 use Rattle.splitting.specs.declared.Quoting.{Quoting}
 use Rattle.splitting.specs.declared.Quoting.TheVariants.{Outside, Closed}
 use Rattle.splitting.specs.declared.Halves.{Halves}
@@ -11,7 +11,9 @@ use Rattle.text.specs.Text.{text_of}
 use Rattle.refusal.specs.declared.Refusal.{Refusal}
 use Rattle.splitting.specs.Scan.{Scan, put_before, scan_from}
 use Rattle.splitting.specs.Split.{parts_at}
-use Rattle.splitting.specs.Columns.{odd_by, halves_placed}
+use Rattle.splitting.specs.Columns.{odd_by}
+use Rattle.refusal.specs.declared.Fault.{Fault}
+use Rattle.refusal.specs.Numbers.{answer_placed}
 
 abbrev pub answered : Scan → Scanned
 answered r = record { slash = r.place; value = text_of r.value }
@@ -42,7 +44,7 @@ abbrev pub first_of : ℕ → ℕ → ℕ → ℕ
 first_of from all left = cond (eqb left 0) from (from + (all - left))
 
 -- the halves of a text without its blanks, which begins at byte `first`
-unfoldable pub halves_at : ℕ → List ℕ → Halves
+unfoldable pub halves_at : ℕ → List ℕ → Result Halves Fault
 halves_at first s =
     let r = scan_from Outside s 0 in
-    halves_placed (λ (why : Refusal). odd_by r.place first) (parts_at r.place s r.value)
+    answer_placed (λ (why : Refusal). odd_by r.place first) (parts_at r.place s r.value)

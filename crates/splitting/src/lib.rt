@@ -5,51 +5,25 @@ ghost use Rattle.std.specs.Prelude.{◌≡◌, true, ◌+◌, ◌-◌, ◌≤◌
 ghost use Rattle.text.specs.Bytes.{is_space, shown, are_printable};
 ghost use Rattle.text.specs.Trim.{trim, trim_end};
 ghost use Rattle.text.specs.Text.{size, text_of, bytes_of};
-ghost use Rattle.splitting.specs.Strings.{settled_of, string_refused};
+ghost use Rattle.splitting.specs.Strings.{settled_of};
 ghost use Rattle.splitting.specs.Columns.{split_from, string_from};
 ghost use Rattle.splitting.specs.Scanned.{scanned_of, first_of, halves_at, Stretches, Passed, PassedString};
 
 use refusal::{Fault, Refusal};
-use text::{Change, Cut, Text};
+use text::{Blanks, Replace, Spaces, Text};
 
-// What splitting answers.
-#[derive(Clone, Copy)]
-pub enum SplitAnswer {
-    // A value text alone.
-    Bare,
-    // A value text and a comment, which may be empty.
-    Commented,
-    // A byte before the slash is refused.
-    Refused(Fault),
-}
-
-// The texts stand beside the answer; one that is missing is empty.
+// A value text, and the comment behind its slash, which may be empty, if there is one.
 #[derive(Clone, Copy)]
 pub struct Halves {
-    pub answer: SplitAnswer,
     pub value: Text,
-    pub comment: Text,
+    pub comment: Option<Text>,
 }
 
-// The halves of a text, and the byte of the card at which it begins, its blanks aside.
+// The halves of a text, unless a byte before the slash is refused, and the byte of the card at which it begins, its blanks aside.
 #[derive(Clone, Copy)]
 pub struct SplitRead {
     pub first: usize,
-    pub halves: Halves,
-}
-
-// What reading a string answers.
-#[derive(Clone, Copy)]
-pub enum Quoted {
-    Str,
-    Refused(Fault),
-}
-
-// The string's text stands beside the answer.
-#[derive(Clone, Copy)]
-pub struct StringRead {
-    pub answer: Quoted,
-    pub text: Text,
+    pub halves: Result<Halves, Fault>,
 }
 
 // Where the scan of a text stands: outside a string, inside one, or after a quote that may close it.
@@ -60,7 +34,7 @@ pub enum Quoting {
     Closed,
 }
 
-// The slash's place, or none, or the place of a byte that is refused.
+// The slash's place, or none, or the place of a byte that is refused. Three ways, so it is no Option and no Result.
 #[derive(Clone, Copy)]
 pub enum Slash {
     At(usize),
@@ -68,7 +42,7 @@ pub enum Slash {
     Bad(usize),
 }
 
-// How far a text is its own value text: up to the slash at a place, or all of it; or it is not known.
+// How far a text is its own value text: up to the slash at a place, or all of it; or it is not known. Three ways here too.
 #[derive(Clone, Copy)]
 pub enum Stretch {
     UpTo(usize),
@@ -92,24 +66,17 @@ pub fn split(card: &[u8; 80], from: usize) -> SplitRead
     ensures { result ≡ split_from from (drop from card.now) }
 {
     let raw = text::rest_of(&card[..], from);
-    let rest = text::trim_start(raw, Cut::Blanks);
+    let rest = text::trim_start(raw, Blanks);
     let first = first_byte(from, raw.len(), rest.len());
-    let halves = halves_of(
-        text::trim_end(text::trim_end(rest, Cut::Spaces), Cut::Blanks),
-        first,
-    );
-    SplitRead {
-        first: first,
-        halves: halves,
-    }
+    let halves = halves_of(text::trim_end(text::trim_end(rest, Spaces), Blanks), first);
+    SplitRead { first, halves }
 }
 
 // A value text as a string, with or without quotes. The text that it was split from begins at a byte of the card.
-pub fn parse_string(t: Text, first: usize) -> StringRead
-    ensures { result ≡ string_from first (bytes_of t) }
+pub fn parse_string(t: &Text, first: usize) -> Result<Text, Fault>
+    ensures { result ≡ string_from first (bytes_of t.now) }
 {
-    let bytes = t.bytes;
-    unquoted(text::first_of(&bytes, t.len), first)
+    unquoted(t.as_slice(), first)
 }
 
 // The byte of the card at which a text begins, by the byte that it stands from and by its lengths with and without the blanks at its front.
@@ -125,21 +92,19 @@ fn first_byte(from: usize, all: usize, left: usize) -> usize
 
 // A text without its blanks taken apart, which begins at a byte of the card. Most texts are their own value texts, which are not
 // stored byte by byte.
-fn halves_of(s: &[u8], first: usize) -> Halves
+fn halves_of(s: &[u8], first: usize) -> Result<Halves, Fault>
     requires { (length s.now ≤ size) × (0 < length s.now → first ≤ size) }
     ensures { result ≡ halves_at first s.now }
 {
     match stretch_of(s) {
-        Stretch::UpTo(i) => Halves {
-            answer: SplitAnswer::Commented,
-            value: text::text_of(text::trimmed(&s[..i], Cut::Spaces)),
-            comment: comment_of(&s[i + 1..]),
-        },
-        Stretch::All => Halves {
-            answer: SplitAnswer::Bare,
-            value: text::text_of(text::trimmed(s, Cut::Spaces)),
-            comment: text::empty_text(),
-        },
+        Stretch::UpTo(i) => Ok(Halves {
+            value: text::text_of(text::trimmed(&s[..i], Spaces)),
+            comment: Some(comment_of(&s[i + 1..])),
+        }),
+        Stretch::All => Ok(Halves {
+            value: text::text_of(text::trimmed(s, Spaces)),
+            comment: None,
+        }),
         Stretch::Unknown => halves_scanned(s, first),
     }
 }
@@ -152,8 +117,9 @@ fn stretch_of(s: &[u8]) -> Stretch
     if !text::are_printable(s) {
         return Stretch::Unknown;
     }
-    let mut i: usize = 0;
-    'bytes: while i < s.len() {
+    let mut i = 0;
+    // A string is passed over at once, so the place moves by its length.
+    while i < s.len() {
         let b = s[i];
         if b == SLASH {
             return Stretch::UpTo(i);
@@ -171,7 +137,7 @@ fn stretch_of(s: &[u8]) -> Stretch
                 return Stretch::UpTo(end);
             }
             i = end + 1;
-            continue 'bytes;
+            continue;
         }
         i += 1;
     }
@@ -183,42 +149,29 @@ fn behind_string(s: &[u8], from: usize) -> usize
     requires { Passed s.now Quoting.Inside from × (are_printable s.now ≡ true) × (length s.now ≤ size) }
     ensures { PassedString s.now from result }
 {
-    let mut i = from;
-    while i < s.len() {
-        if s[i] == QUOTE {
-            return i + 1;
-        }
-        i += 1;
-    }
-    i
+    let Some(k) = text::find_byte(text::rest_of(s, from), QUOTE) else {
+        return s.len();
+    };
+    from + k + 1
 }
 
 // The same of any text, by its scan.
-fn halves_scanned(s: &[u8], first: usize) -> Halves
+fn halves_scanned(s: &[u8], first: usize) -> Result<Halves, Fault>
     requires { (length s.now ≤ size) × (0 < length s.now → first ≤ size) }
     ensures { result ≡ halves_at first s.now }
 {
     let found = scan(s);
-    let v = found.value;
-    let place = found.slash;
-    let value = spaces_off(v);
-    let none = text::empty_text();
-    match place {
-        Slash::At(i) => Halves {
-            answer: SplitAnswer::Commented,
-            value: value,
-            comment: comment_of(&s[i + 1..]),
-        },
-        Slash::Nowhere => Halves {
-            answer: SplitAnswer::Bare,
-            value: value,
-            comment: none,
-        },
-        Slash::Bad(i) => Halves {
-            answer: SplitAnswer::Refused(refusal::fault_at(Refusal::OddByte, first + i)),
-            value: none,
-            comment: none,
-        },
+    let value = spaces_off(found.value);
+    match found.slash {
+        Slash::At(i) => Ok(Halves {
+            value,
+            comment: Some(comment_of(&s[i + 1..])),
+        }),
+        Slash::Nowhere => Ok(Halves {
+            value,
+            comment: None,
+        }),
+        Slash::Bad(i) => Err(refusal::fault_at(Refusal::OddByte, first + i)),
     }
 }
 
@@ -230,9 +183,10 @@ fn scan(s: &[u8]) -> Scanned
     let mut slash = Slash::Nowhere;
     let mut state = Quoting::Outside;
     let mut bytes = [0u8; 80];
-    let mut n: usize = 0;
-    let mut i: usize = 0;
-    'scan: while i < s.len() {
+    let mut n = 0;
+    let mut i = 0;
+    // A doubled quote takes two bytes of the text and gives one.
+    while i < s.len() {
         let b = s[i];
         match state {
             Quoting::Outside => {
@@ -240,10 +194,10 @@ fn scan(s: &[u8]) -> Scanned
                     state = Quoting::Inside;
                 } else if b == SLASH {
                     slash = Slash::At(i);
-                    break 'scan;
+                    break;
                 } else if !text::is_printable(b) {
                     slash = Slash::Bad(i);
-                    break 'scan;
+                    break;
                 }
             }
             Quoting::Inside => {
@@ -255,11 +209,11 @@ fn scan(s: &[u8]) -> Scanned
                 if b == QUOTE {
                     state = Quoting::Inside;
                     i += 1;
-                    continue 'scan;
+                    continue;
                 }
                 if b == SLASH {
                     slash = Slash::At(i);
-                    break 'scan;
+                    break;
                 }
                 if text::is_printable(b) {
                     state = Quoting::Outside;
@@ -270,13 +224,9 @@ fn scan(s: &[u8]) -> Scanned
         n += 1;
         i += 1;
     }
-    let value = Text {
-        bytes: bytes,
-        len: n,
-    };
     Scanned {
-        slash: slash,
-        value: value,
+        slash,
+        value: Text { bytes, len: n },
     }
 }
 
@@ -284,8 +234,7 @@ fn scan(s: &[u8]) -> Scanned
 fn spaces_off(t: Text) -> Text
     ensures { result ≡ text_of (trim is_space (bytes_of t)) }
 {
-    let bytes = t.bytes;
-    text::text_of(text::trimmed(text::first_of(&bytes, t.len), Cut::Spaces))
+    text::text_of(text::trimmed(t.as_slice(), Spaces))
 }
 
 // What follows the slash.
@@ -293,7 +242,7 @@ fn comment_of(s: &[u8]) -> Text
     requires { length s.now ≤ size }
     ensures { result ≡ text_of (trim_end is_space (map shown s.now)) }
 {
-    text::changed_text(text::trim_end(s, Cut::Spaces), Change::Replace)
+    text::changed_text(text::trim_end(s, Spaces), Replace)
 }
 
 // The text within the quotes: empty stays empty; otherwise spaces at the end go, and what was only spaces is one space.
@@ -304,51 +253,33 @@ fn settled(s: &[u8]) -> Text
     if s.len() == 0 {
         return text::empty_text();
     }
-    let t = text::trim_end(s, Cut::Spaces);
+    let t = text::trim_end(s, Spaces);
     if t.len() == 0 {
         return text::text_of(b" ");
     }
     text::text_of(t)
 }
 
-fn refused(fault: Fault) -> StringRead
-    ensures { result ≡ string_refused fault }
-{
-    StringRead {
-        answer: Quoted::Refused(fault),
-        text: text::empty_text(),
-    }
-}
-
 // The string that a value text's bytes give, where the text that it was split from begins at a byte of the card.
-fn unquoted(s: &[u8], first: usize) -> StringRead
+fn unquoted(s: &[u8], first: usize) -> Result<Text, Fault>
     requires { length s.now ≤ size }
     ensures { result ≡ string_from first s.now }
 {
     let n = s.len();
     if n == 0 {
-        return StringRead {
-            answer: Quoted::Str,
-            text: text::empty_text(),
-        };
+        return Ok(text::empty_text());
     }
     if s[0] == QUOTE {
         if n == 1 {
-            return refused(refusal::fault_at(Refusal::StringNotClosed, first));
+            return Err(refusal::fault_at(Refusal::StringNotClosed, first));
         }
         if s[n - 1] == QUOTE {
-            return StringRead {
-                answer: Quoted::Str,
-                text: settled(&s[1..n - 1]),
-            };
+            return Ok(settled(&s[1..n - 1]));
         }
-        return refused(refusal::fault_at(Refusal::StringNotClosed, first));
+        return Err(refusal::fault_at(Refusal::StringNotClosed, first));
     }
     if s[n - 1] == QUOTE {
-        return refused(refusal::fault_at(Refusal::StringNotOpened, first));
+        return Err(refusal::fault_at(Refusal::StringNotOpened, first));
     }
-    StringRead {
-        answer: Quoted::Str,
-        text: settled(s),
-    }
+    Ok(settled(s))
 }

@@ -1,12 +1,12 @@
 -- A list stored over another, element by element from a place on.
-use Prim.Native.Nat.{ℕ, zero, suc, ◌+◌, ◌≤◌, ◌<◌}
+use Prim.Native.Nat.{ℕ, zero, suc, ◌+◌, ◌-◌, ◌≤◌}
 use native.Mathlib.Nat.{add-zero, zero-add, le_of_eq}
 use native.Mathlib.Omega.{arith}
 use mathlib.Core.Path.{◌≡◌, refl, sym, ap, ap₂, ◌∙◌}
-use mathlib.Core.List.{List, [], ◌∷◌, ◌++◌, append-nil}
-use lib.ListN.{length, take, drop, get_or, set, length-set, length-append, drop_of_length-le}
-use lib.Seq.{sets, sets-eq, set_out, take_at, length-take-le}
-use Rattle.text.proofs.Trimming.{at_next}
+use mathlib.Core.List.{List, [], ◌∷◌, ◌++◌, append-nil, append_assoc}
+use lib.ListN.{length, take, drop, set, length-set, length-append, drop_of_length-le}
+use borrow.Rule.Slice.PartMut.{put_mid}
+use lib.Seq.{drop-drop, sets, sets-eq, set_out, take_at, length-take-le}
 
 -- past the end nothing is stored
 pub sets_past : (s d : List ℕ) (at : ℕ) → length d ≤ at → sets d at s ≡ d
@@ -32,12 +32,11 @@ pub sets_behind : (d a s : List ℕ) {d₁ d₂ : List ℕ} {at : ℕ} → d₁ 
 sets_behind d a s e h f =
     f ∙ ap₂ (λ (l : List ℕ) (k : ℕ). sets l k s) e (h ∙ sym (zero-add (length a))) ∙ sym (sets-append a s d 0)
 
--- the element at i is stored, and the rest is left
-pub sets_step : (s d : List ℕ) (at i : ℕ) → i < length s
-    → sets (set d (at + i) (get_or s i 0)) (at + (i + 1)) (drop (i + 1) s) ≡ sets d (at + i) (drop i s)
-sets_step s d at i h =
-    let next : at + (i + 1) ≡ suc (at + i) = omega arith in
-    ap (λ (k : ℕ). sets (set d (at + i) (get_or s i 0)) k (drop (i + 1) s)) next ∙ sym (ap (sets d (at + i)) (at_next s i h))
+-- a part that is overwritten
+pub stored_part : (s d : List ℕ) (at : ℕ) → at + length s ≤ length d → put_mid at (at + length s - at) d s ≡ sets d at s
+stored_part s d at h =
+    let long : at + length s - at ≡ length s = omega arith in
+    rw (long, drop-drop, ← append_assoc) (sym (sets-eq s d at h))
 
 -- stored at the front
 pub sets-front : (s d : List ℕ) → length s ≤ length d → sets d 0 s ≡ s ++ drop (length s) d

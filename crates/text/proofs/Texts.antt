@@ -1,12 +1,13 @@
 -- Texts in arrays, a byte at a time, over the array's size.
-use Prim.Native.Nat.{ℕ, zero, suc, ◌+◌, ◌-◌, ◌<◌, ◌≤◌, min}
-use native.Mathlib.Nat.{le_of_suc-le-suc, not-suc-le-zero, sub-zero}
+use Prim.Native.Nat.{ℕ, zero, suc, ◌+◌, ◌-◌, ◌<◌, ◌≤◌}
+use native.Mathlib.Nat.{sub-zero}
 use native.Mathlib.Numerals.{add-one}
 use native.Mathlib.Omega.{arith}
 use mathlib.Core.Path.{◌≡◌, refl, sym, ap, ◌∙◌}
 use mathlib.Core.List.{List, [], ◌∷◌, ◌++◌, append_assoc, append-nil, map}
 use lib.ListN.{length, set, take, get_or, replicate, length-append, length-map, length-take}
-use lib.Seq.{sets, set-append_seam, length-take-le, take-suc, take-nil, take_all, take-append_seam, get_or-take}
+use Rattle.std.proofs.lemmas.List.{map-append}
+use lib.Seq.{sets, set-append_seam, length-take-le, take-suc, take_all, take-append_seam}
 use Rattle.text.specs.declared.Text.{Text}
 use Rattle.text.specs.Text.{size, filled, padded, text_of, bytes_of}
 
@@ -38,64 +39,19 @@ filled_put mark n v b h =
 pub padded-put : (n : ℕ) (v : List ℕ) (b : ℕ) → length v < n → set (padded n v) (length v) b ≡ padded n (v ++ b ∷ [])
 padded-put n v b h = filled_put 0 n v b h
 
--- a list copied into an array, a byte at a time
-pub copy_step : (n : ℕ) (w : List ℕ) (i : ℕ) → i < length w → length w ≤ n
-    → set (padded n (take i w)) i (get_or w i 0) ≡ padded n (take (i + 1) w)
-copy_step n w i h small =
-    let long : length (take i w) ≡ i = length-take-le i w (omega arith) in
-    ap (λ (k : ℕ). set (padded n (take i w)) k (get_or w i 0)) (sym long)
-    ∙ padded-put n (take i w) (get_or w i 0) (omega arith)
-    ∙ ap (padded n) (sym (take-suc w i 0 h))
-    ∙ ap (λ (k : ℕ). padded n (take k w)) (sym (add-one i))
-
-pub copy_done : (w bytes : List ℕ) (i : ℕ) → i ≤ length w → length w ≤ i → bytes ≡ padded size (take i w)
-    → ◌≡◌ {A = Text} (record { bytes = bytes; len = i }) (text_of w)
-copy_done w bytes i below above held =
-    let all : i ≡ length w = omega arith in
-    λ j. record { bytes = (held ∙ ap (padded size) (take_all i w above)) j; len = all j }
-
--- a byte of a list that is mapped
-pub get_d_mapped : (f : ℕ → ℕ) (s : List ℕ) (i : ℕ) → i < length s → get_or (map f s) i 0 ≡ f (get_or s i 0)
-get_d_mapped f [] i h = absurd (not-suc-le-zero h)
-get_d_mapped f (x ∷ s) zero h = refl
-get_d_mapped f (x ∷ s) (suc i) h = get_d_mapped f s i (le_of_suc-le-suc h)
-
--- the first bytes of a slice copied, each changed by f
-module _ (f : ℕ → ℕ) (s : List ℕ) where
-  abbrev pub changed_of : List ℕ
-  changed_of = map f (take size s)
-
-  changed_length : length changed_of ≡ min size (length s)
-  changed_length = length-map (take size s) f ∙ length-take size s
-
-  pub changed_step : (i : ℕ) → i < length s → i < size
-      → set (padded size (take i changed_of)) i (f (get_or s i 0)) ≡ padded size (take (i + 1) changed_of)
-  changed_step i h small =
-      let long : length changed_of ≡ min size (length s) = changed_length in
-      let part : length (take size s) ≡ min size (length s) = length-take size s in
-      let inside : i < length (take size s) = omega arith in
-      let byte : get_or changed_of i 0 ≡ f (get_or s i 0) = get_d_mapped f (take size s) i inside ∙ ap f (get_or-take size s i 0 small) in
-      ap (set (padded size (take i changed_of)) i) (sym byte) ∙ copy_step size changed_of i (omega arith) (omega arith)
-
-  pub changed_done : (bytes : List ℕ) (i : ℕ) → i ≡ min size (length s) → bytes ≡ padded size (take i changed_of)
-      → ◌≡◌ {A = Text} (record { bytes = bytes; len = i }) (text_of changed_of)
-  changed_done bytes i all held =
-      let long : length changed_of ≡ min size (length s) = changed_length in
-      copy_done changed_of bytes i (omega arith) (omega arith) held
+-- a list copied into an array, a byte at a time, each changed by f
+pub changed_step : (f : ℕ → ℕ) (s : List ℕ) (n i : ℕ) → i < length s → length s ≤ n
+    → set (padded n (map f (take i s))) i (f (get_or s i 0)) ≡ padded n (map f (take (i + 1) s))
+changed_step f s n i h small =
+    let long : length (map f (take i s)) ≡ i = length-map (take i s) f ∙ length-take-le i s (omega arith) in
+    ap (λ (k : ℕ). set (padded n (map f (take i s))) k (f (get_or s i 0))) (sym long)
+    ∙ padded-put n (map f (take i s)) (f (get_or s i 0)) (omega arith)
+    ∙ ap (padded n) (rw (add-one, take-suc s i 0 h, map-append))
 
 -- a text in an array holds its bytes
 pub bytes-text : (v : List ℕ) → bytes_of (text_of v) ≡ v
 unfolding filled
 bytes-text v = take-append_seam v _
-
--- a length beyond the end takes all
-pub take_min : (n m : ℕ) (s : List ℕ) → length s ≡ m → take (min n m) s ≡ take n s
-take_min n m [] e = take-nil (min n m) ∙ sym (take-nil n)
-take_min zero m (b ∷ s) e = ap (λ (k : ℕ). take k (b ∷ s)) (let z : min 0 m ≡ 0 = omega arith in z)
-take_min (suc n) m (b ∷ s) e =
-    let rest : length s ≡ m - 1 = omega arith in
-    let both : min (suc n) m ≡ suc (min n (m - 1)) = omega arith in
-    ap (λ (k : ℕ). take k (b ∷ s)) both ∙ ap (λ (t : List ℕ). b ∷ t) (take_min n (m - 1) s rest)
 
 -- a list that fits is copied whole
 pub whole-text : (w : List ℕ) → length w ≤ size → text_of (take size w) ≡ text_of w
@@ -134,13 +90,6 @@ take_both (suc n) (x ∷ a) b =
     let same : n - length (take n a) ≡ suc n - suc (length (take n a)) = omega arith in
     ap (λ (l : List ℕ). x ∷ l) (take_both n a b ∙ ap (λ (k : ℕ). take n a ++ take k b) same)
 
--- a text that was made of v, read again: its bytes, its length, and that the length lies within the array
-module _ {t : Text} (v : List ℕ) (e : t ≡ text_of v) where
-  pub text-bytes : bytes_of t ≡ v
-  text-bytes = ap bytes_of e ∙ bytes-text v
-
-  pub text-length : t.len ≡ length (bytes_of t)
-  text-length = ap (λ (u : Text). u.len) e ∙ sym (ap length text-bytes)
-
-  pub text-within : t.len ≤ length t.bytes
-  text-within = omega (arith, text-length, length-take t.len t.bytes)
+-- a text that was made of v holds v
+pub text-bytes : {t : Text} (v : List ℕ) → t ≡ text_of v → bytes_of t ≡ v
+text-bytes v e = ap bytes_of e ∙ bytes-text v

@@ -7,7 +7,7 @@ use native.Mathlib.Omega.{arith}
 use mathlib.Core.Path.{◌≡◌, refl, sym, ap, ap₂, ◌∙◌}
 use mathlib.Core.Bool.{Bool, true, false, cond, true≢false}
 use mathlib.Core.List.{List, [], ◌∷◌, ◌++◌, map}
-use lib.ListN.{drop_of_length-le, length-append, length-drop, length, take, drop, get_or}
+use lib.ListN.{length-append, length-drop, length, take, drop, get_or}
 use lib.Seq.{drop-cons, take-suc, take-length, take_at}
 use Rattle.text.specs.Trim.{leading, trim_start, trim_end, trim, cons_trimmed}
 use Rattle.text.specs.Bytes.{is_space, is_blank, is_printable, shown, delete}
@@ -32,18 +32,19 @@ module _ (p : ℕ → Bool) where
   unfolding trim_start
   start_done b s e = rw e
 
-  -- so the byte at i goes, and the rest is trimmed
-  pub start_step : (s : List ℕ) (i : ℕ) → i < length s → p (get_or s i 0) ≡ true
-      → trim_start p (drop (i + 1) s) ≡ trim_start p (drop i s)
-  start_step s i h e = sym (ap (trim_start p) (at_next s i h) ∙ start-more _ _ e)
+  -- so where the first byte passes, the others are trimmed
+  pub start_step : (s : List ℕ) → 0 < length s → p (get_or s 0 0) ≡ true
+      → trim_start p (take (length s - 1) (drop 1 s)) ≡ trim_start p s
+  start_step s h e = sym (ap (trim_start p) (at_next s 0 h) ∙ start-more _ _ e ∙ ap (trim_start p) (sym (take_rest s 1)))
 
-  -- or it stays, and all from it on
-  pub start_stop : (s : List ℕ) (i : ℕ) → i < length s → p (get_or s i 0) ≡ false → drop i s ≡ trim_start p (drop i s)
-  start_stop s i h e = at_next s i h ∙ sym (ap (trim_start p) (at_next s i h) ∙ start_done _ _ e)
+  -- or it stays, and all behind it
+  pub start_stop : (s : List ℕ) → 0 < length s → p (get_or s 0 0) ≡ false → s ≡ trim_start p s
+  start_stop s h e = at_next s 0 h ∙ sym (ap (trim_start p) (at_next s 0 h) ∙ start_done _ _ e)
 
-  pub start_none : (s : List ℕ) (i : ℕ) → length s ≤ i → drop i s ≡ trim_start p (drop i s)
+  pub start_none : (s : List ℕ) → length s < 1 → s ≡ trim_start p s
   unfolding trim_start
-  start_none s i h = rw (drop_of_length-le s h)
+  start_none [] h = refl
+  start_none (b ∷ s) h = absurd (omega arith)
 
   -- a byte at the end that passes the test goes
   end_more : (s : List ℕ) (b : ℕ) → p b ≡ true → trim_end p (s ++ b ∷ []) ≡ trim_end p s
@@ -120,8 +121,8 @@ module _ (p : ℕ → Bool) where
   pub leading_length : (s : List ℕ) → length (leading p s) + length (trim_start p s) ≡ length s
   leading_length s = sym (length-append (leading p s) (trim_start p s)) ∙ ap length (leading-and-rest s)
 
-  pub leading-taken : (s : List ℕ) → take (length s - length (trim_start p s)) s ≡ leading p s
-  leading-taken s =
+  pub leading_taken : (s : List ℕ) → take (length s - length (trim_start p s)) s ≡ leading p s
+  leading_taken s =
       let n : length s - length (trim_start p s) ≡ length (leading p s) = omega (arith, leading_length s) in
       ap₂ take n (sym (leading-and-rest s)) ∙ take_at (leading p s) (trim_start p s) _ refl
 

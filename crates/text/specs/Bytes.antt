@@ -36,6 +36,11 @@ is_blank b = eqb b (code " ") || (eqb b tab || (eqb b line_feed || (eqb b form_f
 unfoldable pub is_printable : ℕ → Bool
 is_printable b = leb (code " ") b && leb b (code "~")
 
+-- whether each byte passes a test
+unfoldable pub every : (ℕ → Bool) → List ℕ → Bool
+every p [] = true
+every p (b ∷ s) = p b && every p s
+
 -- whether each byte is such a character
 unfoldable pub are_printable : List ℕ → Bool
 are_printable [] = true

@@ -1,9 +1,6 @@
 -- A text in an array: its bytes, then zeros. So a text has one array, and `text_of` of two texts are equal only where the texts are.
 use Rattle.std.specs.Prelude.{ℕ, ◌-◌, List, ◌++◌, length, replicate, take}
 use Rattle.text.specs.declared.Text.{Text}
-use Rattle.text.specs.declared.Change.{Change}
-use Rattle.text.specs.declared.Change.TheVariants.{Keep, Replace, DToE}
-use Rattle.text.specs.Bytes.{shown, d_to_e}
 
 -- the size of the arrays: a card's
 abbrev pub size : ℕ
@@ -23,9 +20,3 @@ text_of v = record { bytes = padded size v; len = length v }
 -- the bytes that a text holds: a length beyond the array takes all of it
 abbrev pub bytes_of : Text → List ℕ
 bytes_of t = take t.len t.bytes
-
--- what becomes of a byte that is copied
-abbrev pub change_of : Change → ℕ → ℕ
-change_of Keep b = b
-change_of Replace b = shown b
-change_of DToE b = d_to_e b

@@ -1,9 +1,10 @@
 -- What a first byte tells, by the tests of the code, and a value text by its first byte.
+use Rattle.std.specs.Prelude.{Option}
 use Prim.Native.Nat.{ℕ, zero, suc, ◌≤◌}
 use Prim.Native.Char.{code}
 use native.Mathlib.Omega.{arith}
 use mathlib.Core.Path.{◌≡◌, refl}
-use mathlib.Core.Bool.{Bool, true, false}
+use mathlib.Core.Bool.{true, false}
 use mathlib.Core.List.{List, [], ◌∷◌}
 use borrow.Author.Tests.{eq-eqb, ne_eqb}
 use lib.ListN.{length, take, get_or}
@@ -60,18 +61,18 @@ module _ {b : ℕ} where
           start_else e = rw (ne_eqb b (code "'") q, ne_eqb b (code "T") t, ne_eqb b (code "F") f, ne_eqb b (code "(") c, e)
 
 -- the bytes of a text, none or by the first
-module _ (v : Text) (raw : List ℕ) (commented : Bool) (comment : Text) where
-  pub with_none : v.len ≡ 0 → by_bytes [] v raw commented comment ≡ value_with v raw commented comment
+module _ (v : Text) (raw : List ℕ) (comment : Option Text) where
+  pub with_none : v.len ≡ 0 → by_bytes [] v raw comment ≡ value_with v raw comment
   unfolding value_with
   with_none e = rw e
 
   pub with_some : (v.len ≡ 0 → ⊥) → v.len ≤ length v.bytes
-      → by_start (start_of (get_or v.bytes 0 0)) v raw commented comment ≡ value_with v raw commented comment
+      → by_start (start_of (get_or v.bytes 0 0)) v raw comment ≡ value_with v raw comment
   unfolding value_with
   with_some some fits = go v.len v.bytes some fits
     where
       go : (n : ℕ) (l : List ℕ) → (n ≡ 0 → ⊥) → n ≤ length l
-          → by_start (start_of (get_or l 0 0)) v raw commented comment ≡ by_bytes (take n l) v raw commented comment
+          → by_start (start_of (get_or l 0 0)) v raw comment ≡ by_bytes (take n l) v raw comment
       go zero l s f = absurd (s refl)
       go (suc n) [] s f = absurd (omega arith)
       go (suc n) (b ∷ l) s f = refl

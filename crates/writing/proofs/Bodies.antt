@@ -1,7 +1,7 @@
 -- The cards of a string from byte 10 of the first one on, stored one behind another.
 use Prim.Native.Nat.{ℕ, zero, suc, ◌+◌, ◌-◌, ◌*◌, ◌<◌, ◌≤◌}
 use native.Mathlib.Omega.{arith}
-use mathlib.Core.Path.{◌≡◌, refl, sym, ap, ap₂, subst, ◌∙◌}
+use mathlib.Core.Path.{◌≡◌, refl, sym, ap, ap₂, ◌∙◌}
 use mathlib.Core.Bool.{Bool, true, false, cond}
 use mathlib.Core.List.{List, [], ◌∷◌, ◌++◌, map, append_assoc, append-nil}
 use borrow.Author.Tests.{leb-true}
@@ -110,50 +110,42 @@ string-length name s c h short = go (pieces_of s c) (pieces_fit c short (length 
 
 -- ---- one body after another
 
--- the cards before place i are put, and those from it on are to come
-pub record Going (s : List ℕ) (c : Comment) (block₀ block : List ℕ) (i at left : ℕ) : Type 0 where
-  pub within : i ≤ length s
-  pub count : left ≡ length (pieces_of (drop i s) c)
+-- the cards before the rest are put, and those from it on are to come
+pub record Going (s : List ℕ) (c : Comment) (block₀ block rest : List ℕ) (at left : ℕ) : Type 0 where
+  pub count : left ≡ length (pieces_of rest c)
   pub room : at + 80 * left ≤ length block₀ + 10
   pub long : length block ≡ length block₀
-  pub stored : sets block at (bodies_of (pieces_of (drop i s) c)) ≡ sets block₀ 10 (bodies_of (pieces_of s c))
+  pub stored : sets block at (bodies_of (pieces_of rest c)) ≡ sets block₀ 10 (bodies_of (pieces_of s c))
 
-pub goes : (s : List ℕ) (c : Comment) (block : List ℕ) {n : ℕ} → n ≡ length (pieces_of s c) → 80 * n ≤ length block
-    → Going s c block block 0 10 n
-goes s c block e h = record { within = omega arith; count = e; room = omega arith; long = refl; stored = refl }
-
-module _ {s : List ℕ} {c : Comment} {block₀ block : List ℕ} {i at left : ℕ} (g : Going s c block₀ block i at left) where
-  pub goes_on : {next : List ℕ} {k : ℕ} → k ≡ length (fitting open_room (drop i s)) → 1 < left → (o : Opened c s i)
-      → length next ≡ length block
-      → next ≡ sets block at (body_of (piece_text (open_piece (drop i s))) ++ continue_front)
-      → Going s c block₀ next (i + k) (at + 80) (left - 1)
-  goes_on {next} {k} taken more o same put =
-      let p = open_piece (drop i s) in
-      let front = body_of (piece_text p) ++ continue_front in
-      let later = pieces_of (drop (i + length (fitting open_room (drop i s))) s) c in
+module _ {s : List ℕ} {c : Comment} {block₀ block rest : List ℕ} {at left : ℕ} (g : Going s c block₀ block rest at left) where
+  pub goes_on : {next : List ℕ} {less : ℕ} → 1 < left → less ≡ left - 1 → (o : Opened c rest) → length next ≡ length block
+      → next ≡ sets block at (body_of (piece_text (open_piece rest)) ++ continue_front)
+      → Going s c block₀ next (drop (length (fitting open_room rest)) rest) (at + 80) less
+  goes_on {next} more step o same put =
+      let front = body_of (piece_text (open_piece rest)) ++ continue_front in
+      let later = pieces_of (drop (length (fitting open_room rest)) rest) c in
       let count : left ≡ suc (length later) = g.count ∙ ap length o.pieces in
       let eighty : length front ≡ 80 =
-      omega (arith, length-append (body_of (piece_text p)) continue_front, body_length (piece_text p) (open_fits (drop i s))) in
-      subst
-      (λ (n : ℕ). Going s c block₀ next (i + n) (at + 80) (left - 1))
-      (sym taken)
-      (record {
-        within = o.within;
+      omega (
+        arith,
+        length-append (body_of (piece_text (open_piece rest))) continue_front,
+        body_length (piece_text (open_piece rest)) (open_fits rest),
+      ) in
+      record {
         count = omega arith;
         room = omega (arith, g.room);
         long = same ∙ g.long;
         stored = ap₂ (λ (d : List ℕ) (n : ℕ). sets d (at + n) (bodies_of later)) put (sym eighty)
             ∙ sym (sets-append front (bodies_of later) block at)
-            ∙ sym (ap (sets block at) (ap bodies_of o.pieces ∙ bodies_next p later (omega arith)))
+            ∙ sym (ap (sets block at) (ap bodies_of o.pieces ∙ bodies_next (open_piece rest) later (omega arith)))
             ∙ g.stored;
-      })
+      }
 
   pub went : length (tail_of c) ≤ 67 → {end : List ℕ} → left ≤ 1
-      → end ≡ sets block at (body_of (piece_text (last_piece (drop i s) c)))
+      → end ≡ sets block at (body_of (piece_text (last_piece rest c)))
       → end ≡ sets block₀ 10 (bodies_of (pieces_of s c))
   unfolding flat
   went short few put =
-      let rest = drop i s in
       let body = body_of (piece_text (last_piece rest c)) in
       let one = pieces_last c short rest (one-fits c short rest (omega (arith, g.count))) in
       put ∙ ap (sets block at) (sym (append-nil body) ∙ sym (ap bodies_of one)) ∙ g.stored

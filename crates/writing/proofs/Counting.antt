@@ -1,19 +1,21 @@
 -- The pieces of a string, one after another: each but the last is open, and each fits a card.
+use Rattle.std.specs.Prelude.{None}
 use Prim.Native.Char.{code}
 use Prim.Native.Nat.{ℕ, zero, suc, ◌+◌, ◌-◌, ◌<◌, ◌≤◌}
 use native.Mathlib.Omega.{arith}
 use mathlib.Core.Path.{◌≡◌, refl, sym, ap, ◌∙◌}
 use mathlib.Core.Bool.{Bool, true, false, cond, true≢false}
 use mathlib.Core.List.{List, [], ◌∷◌, ◌++◌, append_assoc}
-use mathlib.Core.Option.{none}
-use borrow.Author.Tests.{le-leb, lt-leb}
-use lib.ListN.{length, drop, length-append, length-drop}
+use borrow.Author.Tests.{le-leb, lt-leb, ltb-true, ltb-false}
+use lib.Dec.{ltb}
+use lib.ListN.{length, take, drop, length-append, length-drop}
+use Rattle.std.proofs.lemmas.List.{take_rest}
 use Rattle.text.specs.Bytes.{ascii}
 use Rattle.roles.specs.Roles.{Comment}
 use Rattle.writing.specs.Pieces.{doubled, tail_of, fitting, leftover, Piece, piece_text, open_room}
 use Rattle.writing.specs.Pieces.{fits, last_piece, open_piece, pieces_from, pieces_of}
 use Rattle.writing.specs.Passes.{in_quotes, closed_by}
-use Rattle.writing.proofs.Cutting.{doubled_next, fitting-bytes, fitting-within, fitting-some, drop_next, leftover_less}
+use Rattle.writing.proofs.Cutting.{doubled_next, fitting-bytes, fitting_within, fitting-some, drop-fitting, leftover_less}
 
 -- ---- a piece as it is put
 
@@ -36,10 +38,10 @@ doubled_open (b ∷ s) =
     ∙ sym (ap (λ (l : List ℕ). l ++ ascii "&") (doubled_next b s))
 
 -- an open piece
-pub open_text : (s : List ℕ) → piece_text (open_piece s) ≡ closed_by (ascii "&'") (fitting open_room s) none
+pub open_text : (s : List ℕ) → piece_text (open_piece s) ≡ closed_by (ascii "&'") (fitting open_room s) None
 open_text s =
     let t = fitting open_room s in
-    last-text (t ++ ascii "&") none
+    last-text (t ++ ascii "&") None
     ∙ ap (λ (l : List ℕ). code "'" ∷ (l ++ ascii "'")) (doubled_open t)
     ∙ ap (λ (l : List ℕ). code "'" ∷ l) (append_assoc (doubled t) (ascii "&") (ascii "'"))
 
@@ -50,17 +52,16 @@ open_fits s =
 
 -- ---- the pieces
 
--- the open piece from place i on: it takes a character, and the others stand behind it
-pub record Opened (c : Comment) (s : List ℕ) (i : ℕ) : Type 0 where
-  pub some : 1 ≤ length (fitting open_room (drop i s))
-  pub within : i + length (fitting open_room (drop i s)) ≤ length s
-  pub pieces : pieces_of (drop i s) c ≡ open_piece (drop i s) ∷ pieces_of (drop (i + length (fitting open_room (drop i s))) s) c
+-- the open piece of a text: it takes a character, and the others stand behind it
+pub record Opened (c : Comment) (s : List ℕ) : Type 0 where
+  pub some : 1 ≤ length (fitting open_room s)
+  pub within : length (fitting open_room s) ≤ length s
+  pub pieces : pieces_of s c ≡ open_piece s ∷ pieces_of (drop (length (fitting open_room s)) s) c
 
--- n cards up to the one that begins at place i
-pub record Counted (c : Comment) (s : List ℕ) (i n : ℕ) : Type 0 where
-  pub within : i ≤ length s
-  pub few : n ≤ i + 1
-  pub count : n + length (pieces_of (drop i s) c) ≡ 1 + length (pieces_of s c)
+-- n cards up to the one that begins with the rest of a text
+pub record Counted (c : Comment) (s rest : List ℕ) (n : ℕ) : Type 0 where
+  pub few : n + length rest ≤ 1 + length s
+  pub count : n + length (pieces_of rest c) ≡ 1 + length (pieces_of s c)
 
 module _ (c : Comment) (short : length (tail_of c) ≤ 67) where
   -- the rest fits where it has room
@@ -132,23 +133,39 @@ module _ (c : Comment) (short : length (tail_of c) ≤ 67) where
       go true e = absurd (omega (arith, ap length (pieces_last s e)))
       go false e = refl
 
-  pub opened : (s : List ℕ) (i : ℕ) → i ≤ length s → fits (last_piece (drop i s) c) ≡ false → Opened c s i
-  opened s i h e =
-      let rest = drop i s in
-      let empty : length rest ≡ 0 → ⊥ = λ n. true≢false (sym (none-fits rest (omega (arith, n))) ∙ e) in
+  pub opened : (s : List ℕ) → fits (last_piece s c) ≡ false → Opened c s
+  opened s e =
+      let empty : length s ≡ 0 → ⊥ = λ n. true≢false (sym (none-fits s (omega (arith, n))) ∙ e) in
       record {
-        some = fitting-some open_room rest (omega arith) empty;
-        within = omega (arith, fitting-within open_room rest, length-drop i s);
-        pieces = pieces_open rest e
-            ∙ sym (ap (λ (l : List ℕ). open_piece rest ∷ pieces_of l c) (drop_next open_room s i));
+        some = fitting-some open_room s (omega arith) empty;
+        within = fitting_within open_room s;
+        pieces = pieces_open s e ∙ sym (ap (λ (l : List ℕ). open_piece s ∷ pieces_of l c) (drop-fitting open_room s));
       }
 
-  pub counts : (s : List ℕ) → Counted c s 0 1
-  counts s = record { within = omega arith; few = omega arith; count = refl }
+  pub counts_on : {s rest : List ℕ} {n : ℕ} → Counted c s rest n → Opened c rest
+      → Counted c s (drop (length (fitting open_room rest)) rest) (n + 1)
+  counts_on {s} {rest} k o =
+      record {
+        few = omega (arith, length-drop (length (fitting open_room rest)) rest, o.some, o.within, k.few);
+        count = omega (arith, ap length o.pieces, k.count);
+      }
 
-  pub counts_on : {s : List ℕ} {i n : ℕ} → Counted c s i n → Opened c s i
-      → Counted c s (i + length (fitting open_room (drop i s))) (n + 1)
-  counts_on k o = record { within = o.within; few = omega arith; count = omega (arith, ap length o.pieces, k.count) }
+  pub counted : {s rest : List ℕ} {n : ℕ} → Counted c s rest n → fits (last_piece rest c) ≡ true → n ≡ length (pieces_of s c)
+  counted {s} {rest} k e = omega (arith, ap length (pieces_last rest e), k.count)
 
-  pub counted : {s : List ℕ} {i n : ℕ} → Counted c s i n → fits (last_piece (drop i s) c) ≡ true → n ≡ length (pieces_of s c)
-  counted {s} {i} k e = omega (arith, ap length (pieces_last (drop i s) e), k.count)
+  -- as it is asked whether the rest takes more than the room
+  module _ (s : List ℕ) {n : ℕ} {r : Bool} (room : n ≡ length (tail_of c)) (asked : r ≡ ltb (68 - n) (length (doubled s))) where
+    pub opened_over : r ≡ true → Opened c s
+    opened_over e =
+        let over = ltb-true (68 - n) (length (doubled s)) (sym asked ∙ e) in
+        opened s (rest_over s (omega (arith, over, room)))
+
+    pub fits_under : r ≡ false → fits (last_piece s c) ≡ true
+    fits_under e =
+        let under = ltb-false (68 - n) (length (doubled s)) (sym asked ∙ e) in
+        rest-fits s (omega (arith, under, room))
+
+-- what is left behind the characters of an open piece
+pub rest_is : (s : List ℕ) {k : ℕ} → k ≡ length (fitting open_room s)
+    → take (length s - k) (drop k s) ≡ drop (length (fitting open_room s)) s
+rest_is s {k} e = take_rest s k ∙ ap (λ (n : ℕ). drop n s) e

@@ -3,18 +3,18 @@ use Prim.Native.Char.{code}
 use Prim.Native.Nat.{ℕ, zero, suc, ◌+◌, ◌-◌, ◌<◌, ◌≤◌}
 use native.Mathlib.Omega.{arith}
 use mathlib.Core.Path.{◌≡◌, refl, sym, ap, ap₂, ◌∙◌}
-use mathlib.Core.Bool.{Bool, true, false, not, cond, true≢false}
+use mathlib.Core.Bool.{Bool, true, false, cond, true≢false}
 use mathlib.Core.List.{List, [], ◌∷◌, ◌++◌}
 use borrow.Author.Tests.{le-leb, lt-leb, leb-true, lt-ltb, le-ltb, ltb-true, ltb-false, eq-eqb, ne_eqb}
 use lib.Dec.{eqb, leb, ltb}
+use Rattle.std.specs.List.{list_any}
 use lib.ListN.{length, take, drop, get_or, drop_of_length-le, length-append, length-drop}
-use lib.Seq.{sets, drop-drop, take-nil}
-use Rattle.laws.proofs.Truths.{and_both}
+use lib.Seq.{sets, take-nil}
+use Rattle.laws.proofs.Truths.{or_false}
 use Rattle.text.proofs.Trimming.{at_next}
 use Rattle.text.proofs.Laying.{sets-append}
 use Rattle.writing.specs.Pieces.{doubled, bytes_for, fitting, leftover}
-use Rattle.writing.specs.Rules.{every}
-use Rattle.writing.specs.Passes.{is_bare, in_quotes}
+use Rattle.writing.specs.Passes.{in_quotes}
 
 -- ---- one character
 
@@ -82,64 +82,66 @@ module _ (s : List ℕ) (n i : ℕ) where
   unfolding fitting
   fit_end h = rw (drop_of_length-le s h)
 
--- the characters before i are put, those that fit behind them are to come
-pub record Filling (s block₀ : List ℕ) (room at end : ℕ) (block : List ℕ) (j i : ℕ) : Type 0 where
+-- the characters before i take their bytes, and those that fit behind them are to come
+pub record Fitted (s : List ℕ) (room left i : ℕ) : Type 0 where
   pub within : i ≤ length s
-  pub below : j ≤ end
+  pub taken : i + length (fitting left (drop i s)) ≡ length (fitting room s)
+
+module _ {s : List ℕ} {room left i : ℕ} (f : Fitted s room left i) where
+  pub fitted_on : i < length s → bytes_for (get_or s i 0) ≤ left → Fitted s room (left - bytes_for (get_or s i 0)) (i + 1)
+  fitted_on h k = record { within = omega arith; taken = omega (arith, ap length (fit_step s left i h k), f.taken) }
+
+  pub fitted_stop : i < length s → left < bytes_for (get_or s i 0) → i ≡ length (fitting room s)
+  fitted_stop h k = omega (arith, ap length (fit_stop s left i h k), f.taken)
+
+  pub fitted_end : length s ≤ i → i ≡ length (fitting room s)
+  fitted_end h = omega (arith, ap length (fit_end s left i h), f.taken)
+
+-- the characters before i are put, and those from i on are to come
+pub record Filling (s block₀ : List ℕ) (at : ℕ) (block : List ℕ) (end i : ℕ) : Type 0 where
+  pub within : i ≤ length s
   pub long : length block ≡ length block₀
-  pub taken : i + length (fitting (end - j) (drop i s)) ≡ length (fitting room s)
-  pub put : j + length (doubled (fitting (end - j) (drop i s))) ≡ at + length (doubled (fitting room s))
-  pub stored : sets block j (doubled (fitting (end - j) (drop i s))) ≡ sets block₀ at (doubled (fitting room s))
+  pub put : end + length (doubled (drop i s)) ≡ at + length (doubled s)
+  pub stored : sets block end (doubled (drop i s)) ≡ sets block₀ at (doubled s)
 
-pub fills : (s block : List ℕ) (room at : ℕ) → Filling s block room at (at + room) block at 0
-fills s block room at =
-    let all : at + room - at ≡ room = omega arith in
-    let part : fitting (at + room - at) s ≡ fitting room s = ap (λ (n : ℕ). fitting n s) all in
-    record {
-      within = omega arith;
-      below = omega arith;
-      long = refl;
-      taken = omega (arith, ap length part);
-      put = ap (λ (l : List ℕ). at + length (doubled l)) part;
-      stored = ap (λ (l : List ℕ). sets block at (doubled l)) part;
-    }
+pub fills : (s block : List ℕ) (at : ℕ) → Filling s block at block at 0
+fills s block at = record { within = omega arith; long = refl; put = refl; stored = refl }
 
-module _ {s block₀ : List ℕ} {room at end : ℕ} {block : List ℕ} {j i : ℕ} (f : Filling s block₀ room at end block j i) where
-  pub fills_on : {next : List ℕ} {k : ℕ} → i < length s → bytes_for (get_or s i 0) ≤ end - j → k ≡ j + bytes_for (get_or s i 0)
-      → length next ≡ length block → next ≡ sets block j (in_quotes (get_or s i 0)) → Filling s block₀ room at end next k (i + 1)
-  fills_on {next} {k} h fit e same put =
+module _ {s block₀ : List ℕ} {at : ℕ} {block : List ℕ} {end i : ℕ} (f : Filling s block₀ at block end i) where
+  pub fills_room : i < length s → at + length (doubled s) ≤ length block₀ → end + bytes_for (get_or s i 0) ≤ length block
+  fills_room h room =
+      let bytes = ap (λ (l : List ℕ). length (doubled l)) (at_next s i h) ∙ doubled-bytes (get_or s i 0) (drop (i + 1) s) in
+      omega (arith, bytes, f.put, f.long)
+
+  pub fills_on : {next : List ℕ} {k : ℕ} → i < length s → k ≡ end + bytes_for (get_or s i 0)
+      → length next ≡ length block → next ≡ sets block end (in_quotes (get_or s i 0)) → Filling s block₀ at next k (i + 1)
+  fills_on {next} {k} h e same put =
       let b = get_or s i 0 in
-      let left : end - j - bytes_for b ≡ end - k = omega arith in
-      let rest = fitting (end - k) (drop (i + 1) s) in
-      let part : fitting (end - j) (drop i s) ≡ b ∷ rest =
-      fit_step s (end - j) i h fit ∙ ap (λ (n : ℕ). b ∷ fitting n (drop (i + 1) s)) left in
-      let count = ap length part in
-      let bytes = ap (λ (l : List ℕ). length (doubled l)) part ∙ doubled-bytes b rest in
-      let there : k ≡ j + length (in_quotes b) = e ∙ sym (ap (λ (n : ℕ). j + n) (bytes-quoted b)) in
+      let rest = drop (i + 1) s in
+      let bytes = ap (λ (l : List ℕ). length (doubled l)) (at_next s i h) ∙ doubled-bytes b rest in
+      let there : k ≡ end + length (in_quotes b) = e ∙ sym (ap (λ (n : ℕ). end + n) (bytes-quoted b)) in
       record {
         within = omega arith;
-        below = omega arith;
         long = same ∙ f.long;
-        taken = omega (arith, count, f.taken);
         put = omega (arith, bytes, f.put);
         stored = ap₂ (λ (d : List ℕ) (n : ℕ). sets d n (doubled rest)) put there
-            ∙ sym (sets-append (in_quotes b) (doubled rest) block j)
-            ∙ sym (ap (sets block j) (ap doubled part ∙ doubled_next b rest))
+            ∙ sym (sets-append (in_quotes b) (doubled rest) block end)
+            ∙ sym (ap (sets block end) (ap doubled (at_next s i h) ∙ doubled_next b rest))
             ∙ f.stored;
       }
 
   -- nothing is to come
-  module _ (none : fitting (end - j) (drop i s) ≡ []) where
-    pub filled-count : i ≡ length (fitting room s)
-    filled-count = omega (arith, ap length none, f.taken)
+  module _ (all : length s ≤ i) where
+    none : drop i s ≡ []
+    none = drop_of_length-le s all
 
-    pub filled-place : j ≡ at + length (doubled (fitting room s))
+    pub filled-place : end ≡ at + length (doubled s)
     unfolding doubled
     filled-place = omega (arith, ap (λ (l : List ℕ). length (doubled l)) none, f.put)
 
-    pub filled-bytes : block ≡ sets block₀ at (doubled (fitting room s))
+    pub filled-bytes : block ≡ sets block₀ at (doubled s)
     unfolding doubled
-    filled-bytes = sym (ap (λ (l : List ℕ). sets block j (doubled l)) none) ∙ f.stored
+    filled-bytes = sym (ap (λ (l : List ℕ). sets block end (doubled l)) none) ∙ f.stored
 
 -- ---- what fits, and what is left
 
@@ -199,14 +201,10 @@ drop-fitting n (b ∷ s) = go (leb (bytes_for b) n) (drop-fitting (n - bytes_for
     go true later = later
     go false later = refl
 
--- from place i on
-pub drop_next : (n : ℕ) (s : List ℕ) (i : ℕ) → drop (i + length (fitting n (drop i s))) s ≡ leftover n (drop i s)
-drop_next n s i = sym (drop-drop (length (fitting n (drop i s))) i s) ∙ drop-fitting n (drop i s)
-
-pub fitting-within : (n : ℕ) (s : List ℕ) → length (fitting n s) ≤ length s
+pub fitting_within : (n : ℕ) (s : List ℕ) → length (fitting n s) ≤ length s
 unfolding fitting
-fitting-within n [] = omega arith
-fitting-within n (b ∷ s) = go (leb (bytes_for b) n) (fitting-within (n - bytes_for b) s)
+fitting_within n [] = omega arith
+fitting_within n (b ∷ s) = go (leb (bytes_for b) n) (fitting_within (n - bytes_for b) s)
   where
     go : (u : Bool) → length (fitting (n - bytes_for b) s) ≤ length s
         → length (cond u (b ∷ fitting (n - bytes_for b) s) []) ≤ suc (length s)
@@ -223,30 +221,41 @@ pub leftover_less : (n : ℕ) (s : List ℕ) → 2 ≤ n → (length s ≡ 0 →
 leftover_less n s h some =
     let left : length (leftover n s) ≡ length s - length (fitting n s) =
     sym (ap length (drop-fitting n s)) ∙ length-drop (length (fitting n s)) s in
-    omega (arith, left, fitting-some n s h some, fitting-within n s)
+    omega (arith, left, fitting-some n s h some, fitting_within n s)
 
 -- ---- texts without a quote
 
-bare_bytes : (b : ℕ) → is_bare b ≡ true → (b ≡ code "'" → ⊥)
-unfolding is_bare
-bare_bytes b e h = true≢false (sym e ∙ ap not (eq-eqb b (code "'") h))
+-- whether a text holds a quote
+abbrev pub has_quote : List ℕ → Bool
+has_quote s = list_any (λ (b : ℕ). eqb b (code "'")) s
 
 -- each character takes a byte
-pub bare_fitting : (n : ℕ) (s : List ℕ) → every is_bare (take n s) ≡ true → fitting n s ≡ take n s
-unfolding fitting every
+pub bare_fitting : (n : ℕ) (s : List ℕ) → has_quote (take n s) ≡ false → fitting n s ≡ take n s
+unfolding fitting
 bare_fitting n [] e = sym (take-nil n)
 bare_fitting zero (b ∷ s) e = rw (lt-leb (bytes_for b) 0 (bytes-some b).0)
 bare_fitting (suc n) (b ∷ s) e =
-    let both = and_both (is_bare b) (every is_bare (take n s)) e in
-    let one = other-bytes b (bare_bytes b both.0) in
+    let both = or_false (eqb b (code "'")) (has_quote (take n s)) e in
+    let one = other-bytes b (λ h. true≢false (sym (eq-eqb b (code "'") h) ∙ both.0)) in
     let rest : suc n - bytes_for b ≡ n = omega (arith, one) in
     rw (le-leb (bytes_for b) (suc n) (omega (arith, one)))
     (ap (λ (l : List ℕ). b ∷ l) (ap (λ (k : ℕ). fitting k s) rest ∙ bare_fitting n s both.1))
 
 -- and stands as it is
-pub bare_doubled : (s : List ℕ) → every is_bare s ≡ true → doubled s ≡ s
-unfolding every doubled
+pub bare_doubled : (s : List ℕ) → has_quote s ≡ false → doubled s ≡ s
+unfolding doubled
 bare_doubled [] e = refl
 bare_doubled (b ∷ s) e =
-    let both = and_both (is_bare b) (every is_bare s) e in
-    rw (ne_eqb b (code "'") (bare_bytes b both.0)) (ap (λ (l : List ℕ). b ∷ l) (bare_doubled s both.1))
+    let both = or_false (eqb b (code "'")) (has_quote s) e in
+    rw both.0 (ap (λ (l : List ℕ). b ∷ l) (bare_doubled s both.1))
+
+-- as many characters as fit are the first of a text
+pub take-fitting : (n : ℕ) (s : List ℕ) → take (length (fitting n s)) s ≡ fitting n s
+unfolding fitting
+take-fitting n [] = refl
+take-fitting n (b ∷ s) = go (leb (bytes_for b) n) (take-fitting (n - bytes_for b) s)
+  where
+    go : (u : Bool) → take (length (fitting (n - bytes_for b) s)) s ≡ fitting (n - bytes_for b) s
+        → take (length (cond u (b ∷ fitting (n - bytes_for b) s) [])) (b ∷ s) ≡ cond u (b ∷ fitting (n - bytes_for b) s) []
+    go true later = ap (λ (l : List ℕ). b ∷ l) later
+    go false later = refl

@@ -1,4 +1,5 @@
 -- What writing answers and leaves, case by case.
+use Rattle.std.specs.Prelude.{Err, Ok, Result}
 use Prim.Native.Nat.{ℕ, ◌<◌, ◌≤◌}
 use mathlib.Core.Path.{◌≡◌, refl, sym, ap, ◌∙◌}
 use mathlib.Core.Bool.{Bool, true, false, true≢false, ◌&&◌}
@@ -11,33 +12,38 @@ use Rattle.refusal.specs.declared.Refusal.TheVariants.{UnwritableName, Unwritabl
 use Rattle.refusal.specs.Numbers.{fault_of}
 use Rattle.numbers.specs.declared.Value.{Value}
 use Rattle.roles.specs.Roles.{Comment}
-use Rattle.writing.specs.declared.WriteAnswer.{WriteAnswer}
-use Rattle.writing.specs.declared.WriteAnswer.TheVariants.{Cards, Refused}
 use Rattle.writing.specs.Pieces.{text_room}
 use Rattle.writing.specs.Written.{written_cards}
 use Rattle.writing.specs.Rules.{is_name, is_short, is_comment, is_value, is_writable}
 use Rattle.writing.specs.Block.{flat, put_cards, not_written, write_of}
 use Rattle.writing.specs.Passes.{write_outcome, put_where}
 use Rattle.writing.proofs.Plain.{comment_over}
+use Rattle.refusal.specs.declared.Fault.{Fault}
 
-module _ (w : Bool) (cards : List (List ℕ)) (block : List ℕ) {r : WriteAnswer} where
+module _ {w : Bool} (cards : List (List ℕ)) {block : List ℕ} {r : Result ℕ Fault} where
   -- the value may not be written
-  pub put_refused : w ≡ false → r ≡ Refused (fault_of UnwritableValue) → write_outcome r block ≡ put_where w cards block
+  pub put_refused : w ≡ false → r ≡ Err (fault_of UnwritableValue) → write_outcome r block ≡ put_where w cards block
   unfolding put_where
-  put_refused e f = rw e (ap (λ (a : WriteAnswer). write_outcome a block) f)
+  put_refused e f = rw e (ap (λ (a : Result ℕ Fault). write_outcome a block) f)
 
   -- the block is shorter than the cards
-  pub put-short : w ≡ true → length block < length (flat cards) → r ≡ Refused (fault_of BlockShort)
+  pub put-short : w ≡ true → length block < length (flat cards) → r ≡ Err (fault_of BlockShort)
       → write_outcome r block ≡ put_where w cards block
   unfolding put_where put_cards
-  put-short e h f = rw (e, lt-leb (length (flat cards)) (length block) h) (ap (λ (a : WriteAnswer). write_outcome a block) f)
+  put-short e h f = rw (e, lt-leb (length (flat cards)) (length block) h) (ap (λ (a : Result ℕ Fault). write_outcome a block) f)
+
+-- a kind that is never written
+pub kind_refused : {v : Value} (name text : List ℕ) (c : Comment) {block : List ℕ} {kind : Value} {r : Result ℕ Fault} → v ≡ kind
+    → is_value kind text c ≡ false → r ≡ Err (fault_of UnwritableValue)
+    → write_outcome r block ≡ put_where (is_value v text c) (written_cards v name text c) block
+kind_refused name text c e never f = put_refused _ (ap (λ (k : Value). is_value k text c) e ∙ never) f
 
 -- the cards are put
-pub put_written : (w : Bool) (cards : List (List ℕ)) (block : List ℕ) {n : ℕ} {left : List ℕ} → w ≡ true
+pub put_written : {w : Bool} (cards : List (List ℕ)) (block : List ℕ) {n : ℕ} {left : List ℕ} → w ≡ true
     → length (flat cards) ≤ length block → n ≡ length cards → left ≡ sets block 0 (flat cards)
-    → write_outcome (Cards n) left ≡ put_where w cards block
+    → write_outcome (Ok n) left ≡ put_where w cards block
 unfolding put_where put_cards
-put_written w cards block e h n b = rw (e, le-leb (length (flat cards)) (length block) h) (λ j. write_outcome (Cards (n j)) (b j))
+put_written cards block e h n b = rw (e, le-leb (length (flat cards)) (length block) h) (λ j. write_outcome (Ok (n j)) (b j))
 
 -- ---- the name, then the comment, then the value
 

@@ -1,25 +1,24 @@
 -- Logicals and numbers on their card.
+use Rattle.std.specs.Prelude.{None, Some}
 use Prim.Native.Char.{code}
 use Prim.Native.Nat.{ℕ, suc, ◌+◌, ◌-◌, ◌^◌, ◌<◌, ◌≤◌}
 use native.Mathlib.Omega.{arith}
 use mathlib.Core.Path.{◌≡◌, refl, sym, ap, ◌∙◌}
 use mathlib.Core.Bool.{Bool, true, false, true≢false, ◌&&◌}
 use mathlib.Core.List.{List, [], ◌∷◌, ◌++◌, append_assoc, append-nil}
-use mathlib.Core.Option.{none, some}
 use borrow.Author.Tests.{leb-true, leb-false, le-leb, lt-leb, lt-ltb, ltb-true, ltb-false}
-use lib.Dec.{ltb}
+use lib.Dec.{ltb, leb}
 use lib.IntN.{ℤ, pos, negsuc}
 use lib.ListN.{length, take, length-append, length-replicate, length-take}
 use lib.Seq.{sets, take_all}
 use Rattle.laws.proofs.Truths.{and_false}
 use mir.Syntax.{w64}
 use mir.Val.{SFits}
-use Rattle.text.specs.Bytes.{ascii}
 use Rattle.text.specs.Text.{size, filled}
 use Rattle.numbers.specs.declared.Size.TheVariants.{Finite, Infinite, Nan}
 use Rattle.numbers.specs.declared.Value.{Value}
 use Rattle.numbers.specs.declared.Value.TheVariants.{Integer, Float, Logical, String, Undefined, Invalid}
-use Rattle.numerals.specs.Numerals.{minus_of, signed_digits, power_text}
+use Rattle.numerals.specs.Numerals.{minus_of, signed_digits}
 use Rattle.roles.specs.Roles.{Comment}
 use Rattle.writing.specs.Pieces.{tail_of}
 use Rattle.writing.specs.Written.{name_front, justified, plain_text, plain_cards, truth_text, decimal_text}
@@ -32,6 +31,12 @@ use Rattle.writing.proofs.Bodies.{name-card, front_length, body_length}
 pub plain_length : (t : List ℕ) (c : Comment) → length (plain_text t c) ≡ 20 - length t + length t + length (tail_of c)
 unfolding justified
 plain_length t c = simp (length-append, length-replicate)
+
+-- whether a number fits its card, as it is asked for
+pub room_told : (t : List ℕ) (c : Comment) {own : List ℕ} {r : Bool} → own ≡ t
+    → r ≡ leb (20 - length own + length own + length (tail_of c)) 70 → fits_card t c ≡ r
+room_told t c e f =
+    ap (λ (n : ℕ). leb n 70) (plain_length t c) ∙ sym (f ∙ ap (λ (l : List ℕ). leb (20 - length l + length l + length (tail_of c)) 70) e)
 
 -- spaces, a number, a comment and spaces
 pub number_put : (d t : List ℕ) (c : Comment) {d₁ d₂ d₃ : List ℕ} {start : ℕ} → start ≡ 10 + (20 - length t)
@@ -107,21 +112,29 @@ decimal_over minus d power c h =
     let long = ap length (decimal-is minus d power) in
     long_over (decimal_text minus d power) c (omega (arith, long, length-append front (scale_of d power), length-append (minus_of minus) d))
 
+-- a decimal that may be written on no card
+pub decimal_bad : (minus : Bool) (d : List ℕ) (power : ℤ) (c : Comment)
+    → (leb (length d) 70 && (is_significant d && is_power d power)) ≡ false → is_value (Float minus (Finite power)) d c ≡ false
+decimal_bad minus d power c e = go (leb (length d) 70) refl
+  where
+    go : (u : Bool) → leb (length d) 70 ≡ u → is_value (Float minus (Finite power)) d c ≡ false
+    go true p =
+        let odd : (is_significant d && is_power d power) ≡ false =
+        sym (ap (λ (u : Bool). u && (is_significant d && is_power d power)) p) ∙ e in
+        rw odd
+    go false p =
+        and_false
+        (is_significant d && is_power d power)
+        (fits_card (decimal_text minus d power) c)
+        (decimal_over minus d power c (leb-false (length d) 70 p))
+
 -- ---- the bytes of a comment
 
 pub short_tail : (n : ℕ) (c : Comment) → is_short n c ≡ true → length (tail_of c) ≤ n + 2
-short_tail n none e = omega arith
-short_tail n (some c) e = omega (arith, leb-true (length c) n e)
+short_tail n None e = omega arith
+short_tail n (Some c) e = omega (arith, leb-true (length c) n e)
 
 -- ---- by the kind of value
-
-pub scale_none : (d : List ℕ) (power : ℤ) → length d ≡ 0 → ascii "0E0" ≡ scale_of d power
-scale_none [] power e = refl
-scale_none (b ∷ d) power e = absurd (omega arith)
-
-pub scale_some : (d : List ℕ) (power : ℤ) → (length d ≡ 0 → ⊥) → power_text (code "E") power ≡ scale_of d power
-scale_some [] power e = absurd (e refl)
-scale_some (b ∷ d) power e = refl
 
 -- an integer of the code has 64 bits
 pub is_long_lem : (z : ℤ) → SFits w64 z → is_long z ≡ true
@@ -130,26 +143,26 @@ is_long_lem (negsuc n) f = le-leb (suc n) (2 ^ 63) f.sfits
 
 -- a comment that is longer than a card stands beside no value
 pub comment_over : (v : Value) (text : List ℕ) (c : Comment) → is_short 70 c ≡ false → is_value v text c ≡ false
-comment_over v text none e = absurd (true≢false e)
-comment_over v text (some r) e = by v
+comment_over v text None e = absurd (true≢false e)
+comment_over v text (Some r) e = by v
   where
     long : 70 < length r
     long = leb-false (length r) 70 e
 
-    over : (t : List ℕ) → fits_card t (some r) ≡ false
-    over t = lt-leb (length (plain_text t (some r))) 70 (omega (arith, plain_length t (some r), long))
+    over : (t : List ℕ) → fits_card t (Some r) ≡ false
+    over t = lt-leb (length (plain_text t (Some r))) 70 (omega (arith, plain_length t (Some r), long))
 
-    by : (v : Value) → is_value v text (some r) ≡ false
-    by (Integer z) = and_false (is_long z) (fits_card (signed_digits z) (some r)) (over (signed_digits z))
+    by : (v : Value) → is_value v text (Some r) ≡ false
+    by (Integer z) = and_false (is_long z) (fits_card (signed_digits z) (Some r)) (over (signed_digits z))
     by (Float minus (Finite power)) =
         and_false
         (is_significant text && is_power text power)
-        (fits_card (decimal_text minus text power) (some r))
+        (fits_card (decimal_text minus text power) (Some r))
         (over (decimal_text minus text power))
     by (Float minus Infinite) = refl
     by (Float minus Nan) = refl
     by (Logical t) = over (truth_text t)
-    by String = and_false (is_text text) (is_short 65 (some r)) (lt-leb (length r) 65 (omega (arith, long)))
+    by String = and_false (is_text text) (is_short 65 (Some r)) (lt-leb (length r) 65 (omega (arith, long)))
     by Undefined = refl
     by Invalid = refl
 

@@ -1,43 +1,27 @@
 -- What may be written, test by test.
 use Prim.Native.Char.{code}
-use Prim.Native.Nat.{ℕ, suc, ◌+◌, ◌-◌, ◌<◌, ◌≤◌}
+use Prim.Native.Nat.{ℕ, ◌+◌, ◌-◌, ◌<◌, ◌≤◌}
 use native.Mathlib.Omega.{arith}
 use mathlib.Core.Path.{◌≡◌, refl, sym, ap, ◌∙◌}
-use mathlib.Core.Bool.{Bool, true, false, not, ◌&&◌, ◌||◌, true≢false}
+use mathlib.Core.Bool.{Bool, true, false, not, ◌&&◌, ◌||◌}
 use mathlib.Core.List.{List, [], ◌∷◌}
 use lib.Dec.{eqb, leb}
-use lib.IntN.{ℤ, pos, negsuc}
-use lib.ListN.{length, drop, get_or, drop_of_length-le}
-use lib.Signed.{lt_z, le_z}
-use borrow.Author.Tests.{eq-eqb, ne_eqb, le-leb, lt-leb, leb-true, ltb-true, ltb-false}
+use lib.ListN.{length, get_or, drop_of_length-le}
+use borrow.Author.Tests.{le-leb, lt-leb, leb-true}
 use Rattle.laws.proofs.Truths.{and_both, and_false}
-use Rattle.text.specs.Bytes.{ascii, is_printable, is_digit, is_zero}
+use Rattle.std.specs.List.{ends_with as ends_in}
+use Rattle.std.proofs.lemmas.Bool.Decides.{nat_tests}
+use Rattle.text.specs.Bytes.{ascii, is_printable, are_printable, is_digit, is_zero, every}
 use Rattle.text.specs.Ends.{ends_with}
 use Rattle.text.specs.Same.{same}
 use Rattle.text.specs.Trim.{trim}
+use Rattle.text.proofs.Printing.{every_printable}
 use Rattle.text.proofs.Trimming.{at_next}
+use Rattle.card.specs.declared.Class.{Class}
+use Rattle.card.specs.declared.Class.TheVariants.{Empty, Comment, History, Continue, Xtension, Hierarch, End, Other}
 use Rattle.card.specs.Keywords.{class_of}
-use mir.Syntax.{w64}
-use mir.Val.{of_z, SFits}
-use Rattle.roles.specs.Roles.{comment_of}
-use Rattle.writing.specs.Pieces.{text_room}
-use Rattle.writing.specs.Rules.{every, is_name_byte, is_other, is_name, is_remark, is_comment}
-use Rattle.writing.specs.Rules.{is_short, ends_well, is_text, is_significant, is_power}
-
--- ---- every byte
-
-module _ (p : ℕ → Bool) (s : List ℕ) (i : ℕ) where
-  pub every_step : i < length s → p (get_or s i 0) ≡ true → every p (drop (i + 1) s) ≡ every p (drop i s)
-  unfolding every
-  every_step h e = rw (at_next s i h, e)
-
-  pub every_stop : i < length s → p (get_or s i 0) ≡ false → every p (drop i s) ≡ false
-  unfolding every
-  every_stop h e = rw (at_next s i h, e)
-
-  pub every-end : length s ≤ i → every p (drop i s) ≡ true
-  unfolding every
-  every-end h = rw (drop_of_length-le s h)
+use Rattle.writing.specs.Rules.{is_name_byte, is_other, is_name, is_remark}
+use Rattle.writing.specs.Rules.{ends_well, is_text, is_significant}
 
 -- ---- names
 
@@ -58,56 +42,71 @@ pub name-length : (n : List ℕ) → is_name n ≡ true → length n ≤ 8
 unfolding is_name
 name-length n e = leb-true (length n) 8 (and_both (leb (length n) 8) (every is_name_byte n && is_other (class_of n)) e).0
 
+pub not-other : (c : Class) → (c ≡ Other → ⊥) → is_other c ≡ false
+not-other Empty h = refl
+not-other Comment h = refl
+not-other History h = refl
+not-other Continue h = refl
+not-other Xtension h = refl
+not-other Hierarch h = refl
+not-other End h = refl
+not-other Other h = absurd (h refl)
+
 -- ---- comments and strings
 
-pub remark_odd : (c : List ℕ) → every is_printable c ≡ false → is_remark c ≡ false
+pub remark_odd : (c : List ℕ) → are_printable c ≡ false → is_remark c ≡ false
 unfolding is_remark
-remark_odd c e = rw e
+remark_odd c e = rw (every_printable c, e)
 
-pub remark_end : (c : List ℕ) → every is_printable c ≡ true → is_remark c ≡ not (ends_with (code " ") c)
+pub remark_end : (c : List ℕ) → are_printable c ≡ true → is_remark c ≡ not (ends_with (code " ") c)
 unfolding is_remark
-remark_end c e = rw e
+remark_end c e = rw (every_printable c, e)
 
--- a comment that is there
-pub comment-some : (t : Bool) (c : List ℕ) → is_short text_room (comment_of t c) ≡ true → t ≡ true
-    → is_remark c ≡ (is_short text_room (comment_of t c) && is_comment (comment_of t c))
-comment-some true c e y = sym (ap (λ (u : Bool). u && is_remark c) e)
-comment-some false c e y = absurd (true≢false (sym y))
+-- the byte at the end, as a slice tells it
+pub ends-byte : (b : ℕ) → eqb 0 b ≡ false → (s : List ℕ) → ends_in eqb s (b ∷ []) ≡ ends_with b s
+unfolding ends_with
+ends-byte b e [] = sym e
+ends-byte b e (x ∷ s) =
+    let t : List ℕ = x ∷ s in
+    let i = length t - 1 in
+    let there : i < length t = omega arith in
+    let end : length t ≤ i + 1 = omega arith in
+    rw (at_next t i there, drop_of_length-le t end) (alike (get_or t i 0))
+  where
+    alike : (x : ℕ) → (eqb b x && true) ≡ eqb x b
+    alike x = grind (arith, nat_tests)
 
 pub text-long : (s : List ℕ) → 2000 < length s → is_text s ≡ false
 unfolding is_text
 text-long s h = and_false (every is_printable s) (leb (length s) 2000 && ends_well s) (rw (lt-leb (length s) 2000 h))
 
-pub text_odd : (s : List ℕ) → every is_printable s ≡ false → is_text s ≡ false
+pub text_odd : (s : List ℕ) → are_printable s ≡ false → is_text s ≡ false
 unfolding is_text
-text_odd s e = rw e
+text_odd s e = rw (every_printable s, e)
 
-pub text-end : (s : List ℕ) → length s ≤ 2000 → every is_printable s ≡ true → is_text s ≡ ends_well s
+pub text-end : (s : List ℕ) → length s ≤ 2000 → are_printable s ≡ true → is_text s ≡ ends_well s
 unfolding is_text
-text-end s h e = rw (e, le-leb (length s) 2000 h)
+text-end s h e = rw (every_printable s, e, le-leb (length s) 2000 h)
 
--- the last byte of a text, as it is asked for
-module _ (s : List ℕ) {b : ℕ} (last : b ≡ get_or s (length s - 1) 0) where
-  pub ends_open : b ≡ code "&" → ends_well s ≡ false
-  unfolding ends_well ends_with
+-- the end of a text, as it is asked for
+module _ (s : List ℕ) where
+  pub ends_open : ends_in eqb s (code "&" ∷ []) ≡ true → ends_well s ≡ false
+  unfolding ends_well
   ends_open e =
-      let byte = get_or s (length s - 1) 0 in
       and_false
-      (not (eqb byte (code " ")) || same s (ascii " "))
-      (not (eqb byte (code "&")))
-      (ap not (eq-eqb byte (code "&") (sym last ∙ e)))
+      (not (ends_with (code " ") s) || same s (ascii " "))
+      (not (ends_with (code "&") s))
+      (ap not (sym (ends-byte (code "&") refl s) ∙ e))
 
-  pub ends_spaced : b ≡ code " " → ends_well s ≡ same s (ascii " ")
-  unfolding ends_well ends_with
-  ends_spaced e = rw (sym last ∙ e) (both (same s (ascii " ")))
+  pub ends-closed : ends_in eqb s (code "&" ∷ []) ≡ false → ends_well s ≡ (not (ends_in eqb s (code " " ∷ [])) || same s (ascii " "))
+  unfolding ends_well
+  ends-closed e =
+      rw (sym (ends-byte (code "&") refl s) ∙ e, sym (ends-byte (code " ") refl s))
+      (both (not (ends_in eqb s (code " " ∷ [])) || same s (ascii " ")))
     where
       both : (t : Bool) → (t && true) ≡ t
       both true = refl
       both false = refl
-
-  pub ends_so : (b ≡ code "&" → ⊥) → (b ≡ code " " → ⊥) → ends_well s ≡ true
-  unfolding ends_well ends_with
-  ends_so e f = rw (sym last, ne_eqb b _ e, ne_eqb b _ f)
 
 -- ---- numbers
 
@@ -118,29 +117,3 @@ digits_odd d e = rw e
 pub digits_ends : (d : List ℕ) → every is_digit d ≡ true → is_significant d ≡ same (trim is_zero d) d
 unfolding is_significant
 digits_ends d e = rw e
-
--- zero has the power 0
-pub power_none : (d : List ℕ) (z : ℤ) → length d ≡ 0 → SFits w64 z → eqb (of_z w64 z) 0 ≡ is_power d z
-power_none [] (pos n) e f = refl
-power_none [] (negsuc n) e f = ne_eqb (of_z w64 (negsuc n)) 0 (λ h. omega (arith, h, f.sfits))
-power_none (b ∷ d) z e f = absurd (omega arith)
-
-module _ (d : List ℕ) (some : length d ≡ 0 → ⊥) where
-  -- a power below -99,999
-  pub power_below : (z : ℤ) → lt_z z (negsuc 99998) ≡ true → false ≡ is_power d z
-  power_below = go d some
-    where
-      go : (d : List ℕ) → (length d ≡ 0 → ⊥) → (z : ℤ) → lt_z z (negsuc 99998) ≡ true → false ≡ is_power d z
-      go [] h z e = absurd (h refl)
-      go (b ∷ d) h (pos n) e = absurd (true≢false (sym e))
-      go (b ∷ d) h (negsuc n) e = sym (lt-leb (suc n) 99999 (omega (arith, ltb-true 99998 n e)))
-
-  -- and any other
-  pub power_from : (z : ℤ) → lt_z z (negsuc 99998) ≡ false → le_z z (pos 99999) ≡ is_power d z
-  power_from = go d some
-    where
-      go : (d : List ℕ) → (length d ≡ 0 → ⊥) → (z : ℤ) → lt_z z (negsuc 99998) ≡ false
-          → le_z z (pos 99999) ≡ is_power d z
-      go [] h z e = absurd (h refl)
-      go (b ∷ d) h (pos n) e = refl
-      go (b ∷ d) h (negsuc n) e = sym (le-leb (suc n) 99999 (omega (arith, ltb-false 99998 n e)))

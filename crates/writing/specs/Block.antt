@@ -1,15 +1,14 @@
 -- Writing into a lent block: what is answered, and what the block then holds (SPECIFICATION 16.4).
-use Rattle.std.specs.Prelude.{ℕ, cond, List, [], ◌∷◌, ◌++◌, leb, length}
+use Rattle.std.specs.Prelude.{ℕ, cond, List, [], ◌∷◌, ◌++◌, leb, length, Err, Ok, Result}
 use Rattle.std.proofs.lemmas.List.Edits.{sets}
 use Rattle.refusal.specs.declared.Refusal.{Refusal}
 use Rattle.refusal.specs.declared.Refusal.TheVariants as R
 use Rattle.refusal.specs.Numbers.{fault_of}
 use Rattle.numbers.specs.declared.Value.{Value}
 use Rattle.roles.specs.Roles.{Comment}
-use Rattle.writing.specs.declared.WriteAnswer.{WriteAnswer}
-use Rattle.writing.specs.declared.WriteAnswer.TheVariants.{Cards, Refused}
 use Rattle.writing.specs.Written.{written_cards}
 use Rattle.writing.specs.Rules.{is_name, is_writable}
+use Rattle.refusal.specs.declared.Fault.{Fault}
 
 -- the bytes of cards, one after another
 unfoldable pub flat : List (List ℕ) → List ℕ
@@ -18,16 +17,16 @@ flat (c ∷ cs) = c ++ flat cs
 
 -- an answer, and the lent block after it
 pub record WriteOutcome : Type 0 where
-  pub answer : WriteAnswer
+  pub answer : Result ℕ Fault
   pub block : List ℕ
 
 -- the cards at the front of the block; what follows them stays
 abbrev pub wrote_cards : List (List ℕ) → List ℕ → WriteOutcome
-wrote_cards cs block = record { answer = Cards (length cs); block = sets block 0 (flat cs) }
+wrote_cards cs block = record { answer = Ok (length cs); block = sets block 0 (flat cs) }
 
 -- a refusal leaves the block untouched
 abbrev pub not_written : Refusal → List ℕ → WriteOutcome
-not_written why block = record { answer = Refused (fault_of why); block = block }
+not_written why block = record { answer = Err (fault_of why); block = block }
 
 -- cards in a block: 21 where it is shorter than they are
 unfoldable pub put_cards : List (List ℕ) → List ℕ → WriteOutcome

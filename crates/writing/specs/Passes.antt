@@ -1,33 +1,15 @@
 -- The passes over a text, and the parts of the cards, as they are written one behind another.
-use Rattle.std.specs.Prelude.{ℕ, Bool, not, cond, ◌&&◌, List, [], ◌∷◌, ◌++◌, map, eqb, leb, ℤ, replicate}
+use Rattle.std.specs.Prelude.{ℕ, Bool, cond, List, [], ◌∷◌, ◌++◌, map, eqb, ℤ, replicate, Result}
 use Prim.Native.Char.{code}
-use Rattle.text.specs.Bytes.{ascii, is_printable, is_digit}
+use Rattle.text.specs.Bytes.{ascii}
 use Rattle.text.specs.Text.{filled}
 use Rattle.numerals.specs.Numerals.{power_text}
 use Rattle.roles.specs.Roles.{Comment}
 use Rattle.refusal.specs.declared.Refusal.TheVariants.{UnwritableValue}
-use Rattle.writing.specs.declared.Allowed.{Allowed}
-use Rattle.writing.specs.declared.Allowed.TheVariants.{InNames, Printable, Digits, Bare}
-use Rattle.writing.specs.declared.WriteAnswer.{WriteAnswer}
 use Rattle.writing.specs.Pieces.{doubled, tail_of, Piece, piece_text, text_room}
 use Rattle.writing.specs.Written.{card_from, continue_front}
-use Rattle.writing.specs.Rules.{is_name_byte}
 use Rattle.writing.specs.Block.{flat, WriteOutcome, put_cards, not_written}
-
--- any byte but a quote
-unfoldable pub is_bare : ℕ → Bool
-is_bare b = not (eqb b (code "'"))
-
--- which bytes are allowed
-abbrev pub allowed_of : Allowed → ℕ → Bool
-allowed_of InNames = is_name_byte
-allowed_of Printable = is_printable
-allowed_of Digits = is_digit
-allowed_of Bare = is_bare
-
--- A to Z
-unfoldable pub is_capital : ℕ → Bool
-is_capital b = leb (code "A") b && leb b (code "Z")
+use Rattle.refusal.specs.declared.Fault.{Fault}
 
 -- n spaces
 abbrev pub spaces : ℕ → List ℕ
@@ -60,7 +42,7 @@ scale_of [] power = ascii "0E0"
 scale_of (b ∷ d) power = power_text (code "E") power
 
 -- an answer with the block that it leaves
-abbrev pub write_outcome : WriteAnswer → List ℕ → WriteOutcome
+abbrev pub write_outcome : Result ℕ Fault → List ℕ → WriteOutcome
 write_outcome r block = record { answer = r; block = block }
 
 -- cards put into a block where their value may be written

@@ -1,7 +1,7 @@
 -- A string as it is written: within quotes, in pieces that fit a card (SPECIFICATION 16.2; the standard, 4.2.1.1 and 4.2.1.2).
-use Rattle.std.specs.Prelude.{ℕ, zero, suc, ◌-◌, Bool, cond, List, [], ◌∷◌, ◌++◌, eqb, leb, length}
+use Rattle.std.specs.Prelude.{ℕ, zero, suc, ◌-◌, Bool, cond, List, [], ◌∷◌, ◌++◌, eqb, leb, length, Option, None, Some}
+use Rattle.std.specs.Borrow.{Bor}
 use Prim.Native.Char.{code}
-use Rattle.std.proofs.Math.Option.{none, some}
 use Rattle.text.specs.Bytes.{ascii}
 use Rattle.roles.specs.Roles.{Comment}
 
@@ -16,8 +16,13 @@ quoted s = code "'" ∷ (doubled s ++ ascii "'")
 
 -- a comment as it follows a value: a space, a slash, and the comment directly behind it
 abbrev pub tail_of : Comment → List ℕ
-tail_of none = []
-tail_of (some c) = code " " ∷ code "/" ∷ c
+tail_of None = []
+tail_of (Some c) = code " " ∷ code "/" ∷ c
+
+-- a comment as it is lent
+abbrev pub comment_lent : Option (Bor (List ℕ)) → Comment
+comment_lent None = None
+comment_lent (Some c) = Some c.now
 
 -- the bytes that a character takes within quotes
 unfoldable pub bytes_for : ℕ → ℕ
@@ -60,7 +65,7 @@ last_piece s c = record { text = s; comment = c }
 
 -- as many characters as fit, then &
 abbrev pub open_piece : List ℕ → Piece
-open_piece s = record { text = fitting open_room s ++ ascii "&"; comment = none }
+open_piece s = record { text = fitting open_room s ++ ascii "&"; comment = None }
 
 -- the pieces of a string, at most n of them before the last
 unfoldable pub pieces_from : ℕ → List ℕ → Comment → List Piece

@@ -1,8 +1,7 @@
 -- What may be written (SPECIFICATION 16.3: refusals 19 and 20).
-use Rattle.std.specs.Prelude.{ℕ, suc, Bool, true, false, not, ◌&&◌, ◌||◌, List, [], ◌∷◌, eqb, leb, ℤ, pos, negsuc, length}
+use Rattle.std.specs.Prelude.{ℕ, suc, Bool, true, false, not, ◌&&◌, ◌||◌, List, [], ◌∷◌, eqb, leb, ℤ, pos, negsuc, length, None, Some}
 use Prim.Native.Char.{code}
-use Rattle.std.proofs.Math.Option.{none, some}
-use Rattle.text.specs.Bytes.{ascii, is_printable, is_digit, is_zero}
+use Rattle.text.specs.Bytes.{ascii, is_printable, every, is_digit, is_zero}
 use Rattle.text.specs.Ends.{ends_with}
 use Rattle.text.specs.Same.{same}
 use Rattle.text.specs.Trim.{trim}
@@ -18,11 +17,6 @@ use Rattle.card.specs.Keywords.{class_of}
 use Rattle.roles.specs.Roles as R
 use Rattle.writing.specs.Pieces.{text_room}
 use Rattle.writing.specs.Written.{truth_text, decimal_text, plain_text}
-
--- every byte passes a test
-unfoldable pub every : (ℕ → Bool) → List ℕ → Bool
-every p [] = true
-every p (b ∷ s) = p b && every p s
 
 -- ---- names
 
@@ -53,13 +47,13 @@ is_remark c = every is_printable c && not (ends_with (code " ") c)
 
 -- such a comment, or none
 abbrev pub is_comment : R.Comment → Bool
-is_comment none = true
-is_comment (some c) = is_remark c
+is_comment None = true
+is_comment (Some c) = is_remark c
 
 -- of at most n bytes
 abbrev pub is_short : ℕ → R.Comment → Bool
-is_short n none = true
-is_short n (some c) = leb (length c) n
+is_short n None = true
+is_short n (Some c) = leb (length c) n
 
 -- ---- strings
 

@@ -1,52 +1,36 @@
 // Cards that hold a name and its value, written into a lent block.
 #![tactic(auto)]
 
-ghost use Rattle.std.specs.Prelude.{◌≡◌, true, ◌&&◌, ◌∷◌, ◌++◌, ◌+◌, ◌-◌, ◌*◌, ◌≤◌, leb, ltb, length, get_or, take};
+ghost use Rattle.std.specs.Prelude.{◌≡◌, Err, true, ◌&&◌, ◌∷◌, ◌++◌, ◌+◌, ◌-◌, ◌*◌, ◌≤◌, leb, ltb, length, take};
 ghost use Rattle.std.proofs.lemmas.List.Edits.{sets};
 ghost use Rattle.text.specs.Text.{size, text_of, bytes_of};
 ghost use Rattle.refusal.specs.Numbers.{fault_of};
 ghost use Rattle.numbers.specs.declared.Size.TheVariants.{Finite};
 ghost use Rattle.numbers.specs.declared.Value.TheVariants.{Float};
 ghost use Rattle.numerals.specs.Numerals.{minus_of};
-ghost use Rattle.roles.specs.Roles.{comment_of};
-ghost use Rattle.writing.specs.declared.WriteAnswer.TheVariants.{Refused};
-ghost use Rattle.writing.specs.Pieces.{doubled, tail_of, bytes_for, fitting, piece_text, text_room};
+ghost use Rattle.writing.specs.Pieces.{doubled, tail_of, bytes_for, fitting, piece_text, text_room, comment_lent};
 ghost use Rattle.writing.specs.Pieces.{open_room, fits, last_piece, open_piece, pieces_of};
 ghost use Rattle.writing.specs.Written.{name_front, continue_front, truth_text, decimal_text, number_room};
 ghost use Rattle.writing.specs.Written.{plain_text, plain_cards, string_cards, written_cards};
-ghost use Rattle.writing.specs.Rules.{every, is_name_byte, is_other, is_name, is_remark, is_comment, is_short, ends_well, is_text};
+ghost use Rattle.writing.specs.Rules.{is_name_byte, is_name, is_remark, is_comment, is_short, ends_well, is_text};
 ghost use Rattle.writing.specs.Rules.{is_significant, is_power, fits_card, is_value, remark_limit};
 ghost use Rattle.writing.specs.Block.{write_of};
-ghost use Rattle.writing.specs.Passes.{allowed_of, is_capital, spaces, spaced, in_quotes, closed_by};
+ghost use Rattle.writing.specs.Passes.{spaces, spaced, in_quotes, closed_by};
 ghost use Rattle.writing.specs.Passes.{body_of, bodies_of, scale_of, write_outcome, put_where};
 
-use card::Class;
+use card::{CARD, Class};
 use numbers::{Size, Value};
 use numerals::integer_text;
 use refusal::{Fault, Refusal};
-use text::{Cut, Text};
+use text::{ByteClass, Digits, Text, Zeros};
 
-// What writing answers: the number of cards that were written, or why there are none.
+// What stands beside a value: a name that may be written, and a comment that is no longer than a card, or none.
 #[derive(Clone, Copy)]
-pub enum WriteAnswer {
-    Cards(usize),
-    Refused(Fault),
-}
-
-// The bytes that a text may hold: those of names, printable ones, digits, all but the quote.
-#[derive(Clone, Copy)]
-enum Allowed {
-    InNames,
-    Printable,
-    Digits,
-    Bare,
-}
-
-// What was put of a text within quotes: the bytes taken of it, and the place behind those that they became.
-#[derive(Clone, Copy)]
-struct Put {
-    taken: usize,
-    end: usize,
+struct Label<'a> {
+    name: &'a [u8],
+    comment: Option<&'a [u8]>,
+    ghost name_short: { length name.now ≤ 8 },
+    ghost comment_short: { length (tail_of (comment_lent comment)) ≤ 72 },
 }
 
 const SPACE: u8 = b' ';
@@ -59,8 +43,6 @@ const NAME_ROOM: usize = 8;
 const FRONT: usize = 10;
 
 const TEXT_ROOM: usize = 70;
-
-const CARD: usize = 80;
 
 // A logical or number ends at byte 29 if it has at most 20 bytes.
 const NUMBER_ROOM: usize = 20;
@@ -77,102 +59,40 @@ const REMARK_LIMIT: usize = 65;
 
 const MAX_POWER: i64 = 99_999;
 
-// Writes the cards of a name and its value at the front of a lent block, with a comment where `commented` says so. A decimal's digits
-// or a string's text stands in `text`. What follows the cards in the block stays; a refusal leaves all of it.
+// Writes the cards of a name and its value at the front of a lent block, with a comment where there is one. A decimal's digits or a
+// string's text stands in `text`. What follows the cards in the block stays; a refusal leaves all of it.
 pub fn write(
     name: &[u8],
     value: Value,
     text: &[u8],
-    commented: bool,
-    comment: &[u8],
+    comment: Option<&[u8]>,
     block: &mut [u8],
-) -> WriteAnswer
-    ensures value { result ≡ (write_of name.now value text.now
-        (comment_of commented comment.now) block.old).answer }
-    ensures block_after { block.new ≡ (write_of name.now value text.now
-        (comment_of commented comment.now) block.old).block }
+) -> Result<usize, Fault>
+    ensures value { result ≡ (write_of name.now value text.now (comment_lent comment.entry) block.old).answer }
+    ensures block_after { block.new ≡ (write_of name.now value text.now (comment_lent comment.entry) block.old).block }
 {
     if !is_name(name) {
         return refused(Refusal::UnwritableName);
     }
-    if !is_comment(commented, comment) {
+    if !is_comment(comment) {
         return refused(Refusal::UnwritableValue);
     }
-    write_value(name, value, text, commented, comment, block)
+    let label = Label { name, comment };
+    label.write_value(value, text, block)
 }
 
 // ---- what may be written
 
-// A capital letter.
-fn is_capital(b: u8) -> bool
-    ensures { result ≡ is_capital b }
-{
-    b'A' <= b && b <= b'Z'
-}
-
 // A to Z, 0 to 9, hyphen and underscore.
-fn is_name_byte(b: u8) -> bool
-    ensures { result ≡ is_name_byte b }
-{
-    if is_capital(b) {
-        return true;
-    }
-    if text::is_digit(b) {
-        return true;
-    }
-    if b == b'-' {
-        return true;
-    }
-    b == b'_'
-}
+#[derive(Clone, Copy)]
+struct NameBytes;
 
-fn is_allowed(allowed: Allowed, b: u8) -> bool
-    ensures { result ≡ allowed_of allowed b }
-{
-    match allowed {
-        Allowed::InNames => is_name_byte(b),
-        Allowed::Printable => text::is_printable(b),
-        Allowed::Digits => text::is_digit(b),
-        Allowed::Bare => b != QUOTE,
-    }
-}
+impl ByteClass for NameBytes {
+    ghost test = { is_name_byte };
 
-// Whether every byte is allowed.
-fn every_byte(s: &[u8], allowed: Allowed) -> bool
-    ensures { result ≡ every (allowed_of allowed) s.now }
-{
-    let mut i = 0;
-    while i < s.len() {
-        if !is_allowed(allowed, s[i]) {
-            return false;
-        }
-        i += 1;
-    }
-    true
-}
-
-// The last byte, or 0 where there is none.
-fn last_of(s: &[u8]) -> u8
-    ensures { result ≡ get_or s.now (length s.now - 1) 0 }
-{
-    if s.len() == 0 {
-        return 0;
-    }
-    s[s.len() - 1]
-}
-
-fn is_other(class: Class) -> bool
-    ensures { result ≡ is_other class }
-{
-    match class {
-        Class::Empty => false,
-        Class::Comment => false,
-        Class::History => false,
-        Class::Continue => false,
-        Class::Xtension => false,
-        Class::Hierarch => false,
-        Class::End => false,
-        Class::Other => true,
+    #[tactic(auto, unfolding(crate::specs::Rules::is_name_byte, text::specs::Bytes::is_digit))]
+    fn has(self, b: u8) -> bool {
+        matches!(b, b'A'..=b'Z' | b'0'..=b'9' | b'-' | b'_')
     }
 }
 
@@ -180,114 +100,86 @@ fn is_other(class: Class) -> bool
 fn is_name(name: &[u8]) -> bool
     ensures { result ≡ is_name name.now }
 {
-    if NAME_ROOM < name.len() {
-        return false;
-    }
-    if !every_byte(name, Allowed::InNames) {
-        return false;
-    }
-    is_other(card::class_of(name))
+    name.len() <= NAME_ROOM
+        && text::every(name, NameBytes)
+        && matches!(card::class_of(name), Class::Other)
 }
 
 // A comment that is printable, with no space at its end.
 fn is_remark(comment: &[u8]) -> bool
     ensures { result ≡ is_remark comment.now }
 {
-    if !every_byte(comment, Allowed::Printable) {
-        return false;
-    }
-    last_of(comment) != SPACE
+    text::are_printable(comment) && !comment.ends_with(b" ")
 }
 
 // Whether a comment has at most n bytes, or there is none.
-fn is_short(n: usize, commented: bool, comment: &[u8]) -> bool
-    ensures { result ≡ is_short n (comment_of commented comment.now) }
+fn is_short(n: usize, comment: Option<&[u8]>) -> bool
+    ensures { result ≡ is_short n (comment_lent comment.entry) }
 {
-    if commented {
-        return comment.len() <= n;
-    }
-    true
+    comment.is_none_or(|c| c.len() <= n)
 }
 
 // Whether a comment may be written on some card, or there is none. One that is longer than a card is not looked at.
-fn is_comment(commented: bool, comment: &[u8]) -> bool
-    ensures { result ≡ (is_short text_room (comment_of commented comment.now)
-        && is_comment (comment_of commented comment.now)) }
+fn is_comment(comment: Option<&[u8]>) -> bool
+    ensures { result ≡ (is_short text_room (comment_lent comment.entry) && is_comment (comment_lent comment.entry)) }
 {
-    if !is_short(TEXT_ROOM, commented, comment) {
-        return false;
-    }
-    if commented {
-        return is_remark(comment);
-    }
-    true
+    comment.is_none_or(|c| c.len() <= TEXT_ROOM && is_remark(c))
 }
 
 // No space at the end unless it is one space, and no & there.
 fn ends_well(s: &[u8]) -> bool
     ensures { result ≡ ends_well s.now }
 {
-    let last = last_of(s);
-    if last == b'&' {
-        return false;
-    }
-    if last == SPACE {
-        return text::same_bytes(s, b" ");
-    }
-    true
+    !s.ends_with(b"&") && (!s.ends_with(b" ") || text::same_bytes(s, b" "))
 }
 
 // A string that may be written.
 fn is_text(s: &[u8]) -> bool
     ensures { result ≡ is_text s.now }
 {
-    if TEXT_LIMIT < s.len() {
-        return false;
-    }
-    if !every_byte(s, Allowed::Printable) {
-        return false;
-    }
-    ends_well(s)
+    s.len() <= TEXT_LIMIT && text::are_printable(s) && ends_well(s)
 }
 
 // Digits without a zero at either end.
 fn is_significant(digits: &[u8]) -> bool
     ensures { result ≡ is_significant digits.now }
 {
-    if !every_byte(digits, Allowed::Digits) {
-        return false;
-    }
-    text::same_bytes(text::trimmed(digits, Cut::Zeros), digits)
+    text::every(digits, Digits) && text::same_bytes(text::trimmed(digits, Zeros), digits)
 }
 
 // A power of at most 99,999 in size, and 0 where there are no digits.
 fn is_power(digits: &[u8], power: i64) -> bool
     ensures { result ≡ is_power digits.now power }
 {
-    if digits.len() == 0 {
+    if digits.is_empty() {
         return power == 0;
     }
-    if power < -MAX_POWER {
-        return false;
-    }
-    power <= MAX_POWER
+    -MAX_POWER <= power && power <= MAX_POWER
 }
 
-// ---- parts of a card, put into a lent block from a place on
+// Whether a finite decimal may be written on some card. Digits that are longer than a card are not looked at.
+fn is_decimal(digits: &[u8], power: i64) -> bool
+    ensures { result ≡ (leb (length digits.now) text_room && (is_significant digits.now && is_power digits.now power)) }
+{
+    digits.len() <= TEXT_ROOM && is_significant(digits) && is_power(digits, power)
+}
 
-// Spaces up to an end.
+// ---- parts of a card, put into a lent block from a place on. Block and place stand side by side, as `text::put_at` takes them: a pen
+// that held both would hide at each call where the part goes.
+
+// Spaces up to an end; none where that is passed.
 fn put_spaces(block: &mut [u8], from: usize, end: usize)
     requires { end ≤ length block.old }
     ensures { block.new ≡ sets block.old from (spaces (end - from)) }
 {
-    let mut i = from;
-    while i < end {
-        block[i] = SPACE;
-        i += 1;
+    if end <= from {
+        return;
     }
+    block[from..end].fill(SPACE);
 }
 
 // The bytes that a character takes within quotes.
+#[tactic(auto, unfolding(crate::specs::Pieces::bytes_for))]
 fn bytes_for(b: u8) -> usize
     ensures { result ≡ bytes_for b }
 {
@@ -308,56 +200,35 @@ fn put_byte(b: u8, block: &mut [u8], at: usize) -> usize
     at + 1
 }
 
-// As many characters as fit in a room, one by one, a doubled quote uncut.
-fn put_each(s: &[u8], room: usize, block: &mut [u8], at: usize) -> Put
-    requires { at + room ≤ length block.old }
-    ensures taken_value { result.taken ≡ length (fitting room s.now) }
-    ensures end_value { result.end ≡ at + length (doubled (fitting room s.now)) }
-    ensures block_after { block.new ≡ sets block.old at (doubled (fitting room s.now)) }
+// A text as it stands within quotes: all at once where there is no quote in it. Answers the place behind it.
+fn put_doubled(s: &[u8], block: &mut [u8], at: usize) -> usize
+    requires { at + length (doubled s.now) ≤ length block.old }
+    ensures value { result ≡ at + length (doubled s.now) }
+    ensures block_after { block.new ≡ sets block.old at (doubled s.now) }
 {
-    let end = at + room;
-    let mut j = at;
-    let mut i = 0;
-    while i < s.len() && bytes_for(s[i]) <= end - j {
-        j = put_byte(s[i], block, j);
-        i += 1;
+    if !s.contains(&QUOTE) {
+        text::put_at(s, block, at);
+        return at + s.len();
     }
-    Put { taken: i, end: j }
-}
-
-// As many characters as fit in a room, all at once where there is no quote among them.
-fn put_fitting(s: &[u8], room: usize, block: &mut [u8], at: usize) -> Put
-    requires { at + room ≤ length block.old }
-    ensures taken_value { result.taken ≡ length (fitting room s.now) }
-    ensures end_value { result.end ≡ at + length (doubled (fitting room s.now)) }
-    ensures block_after { block.new ≡ sets block.old at (doubled (fitting room s.now)) }
-{
-    let part = text::first_of(s, room);
-    if !every_byte(part, Allowed::Bare) {
-        return put_each(s, room, block, at);
+    let mut end = at;
+    for &b in s {
+        end = put_byte(b, block, end);
     }
-    text::put_at(part, block, at);
-    let end = at + part.len();
-    Put {
-        taken: part.len(),
-        end: end,
-    }
+    end
 }
 
 // The comment, if there is one, then spaces up to an end.
-fn put_tail(commented: bool, comment: &[u8], block: &mut [u8], from: usize, end: usize)
-    requires { (from + length (tail_of (comment_of commented comment.now)) ≤ end) × (end ≤ length block.old) }
-    ensures { block.new
-        ≡ sets block.old from (spaced (end - from) (tail_of (comment_of commented comment.now))) }
+fn put_tail(comment: Option<&[u8]>, block: &mut [u8], from: usize, end: usize)
+    requires { (from + length (tail_of (comment_lent comment)) ≤ end) × (end ≤ length block.old) }
+    ensures { block.new ≡ sets block.old from (spaced (end - from) (tail_of (comment_lent comment.entry))) }
 {
-    if commented {
-        block[from] = SPACE;
-        block[from + 1] = b'/';
-        text::put_at(comment, block, from + 2);
-        put_spaces(block, from + 2 + comment.len(), end);
+    let Some(c) = comment else {
+        put_spaces(block, from, end);
         return;
-    }
-    put_spaces(block, from, end);
+    };
+    text::put_at(b" /", block, from);
+    text::put_at(c, block, from + 2);
+    put_spaces(block, from + 2 + c.len(), end);
 }
 
 // The name, spaces to byte 7, and "= ".
@@ -367,34 +238,17 @@ fn put_name(name: &[u8], block: &mut [u8])
 {
     text::put_at(name, block, 0);
     put_spaces(block, name.len(), NAME_ROOM);
-    block[NAME_ROOM] = b'=';
-    block[NAME_ROOM + 1] = SPACE;
+    text::put_at(b"= ", block, NAME_ROOM);
 }
 
 // ---- the cards of a string
 
 // How many bytes a comment takes behind a value.
-fn tail_length(commented: bool, comment: &[u8]) -> usize
-    requires { length (tail_of (comment_of commented comment.now)) ≤ 72 }
-    ensures { result ≡ length (tail_of (comment_of commented comment.now)) }
+fn tail_length(comment: Option<&[u8]>) -> usize
+    requires { length (tail_of (comment_lent comment)) ≤ 72 }
+    ensures { result ≡ length (tail_of (comment_lent comment.entry)) }
 {
-    if commented {
-        return comment.len() + 2;
-    }
-    0
-}
-
-// How many characters fit in a room, one by one.
-fn fitting_each(s: &[u8], room: usize) -> usize
-    ensures { result ≡ length (fitting room s.now) }
-{
-    let mut left = room;
-    let mut i = 0;
-    while i < s.len() && bytes_for(s[i]) <= left {
-        left -= bytes_for(s[i]);
-        i += 1;
-    }
-    i
+    comment.map_or(0, |c| c.len() + 2)
 }
 
 // How many characters fit in a room: one a byte where there is no quote among them.
@@ -402,32 +256,38 @@ fn fitting_length(s: &[u8], room: usize) -> usize
     ensures { result ≡ length (fitting room s.now) }
 {
     let part = text::first_of(s, room);
-    if !every_byte(part, Allowed::Bare) {
-        return fitting_each(s, room);
+    if !part.contains(&QUOTE) {
+        return part.len();
     }
-    part.len()
+    let mut left = room;
+    for (i, &b) in s.iter().enumerate() {
+        if left < bytes_for(b) {
+            return i;
+        }
+        left -= bytes_for(b);
+    }
+    s.len()
 }
 
 // Whether a text within quotes takes more bytes than a room has.
 fn exceeds(s: &[u8], room: usize) -> bool
     ensures { result ≡ ltb room (length (doubled s.now)) }
 {
-    if room < s.len() {
-        return true;
-    }
-    fitting_length(s, room) < s.len()
+    room < s.len() || fitting_length(s, room) < s.len()
 }
 
 // How many cards a string takes.
-fn count_pieces(s: &[u8], commented: bool, comment: &[u8]) -> usize
-    requires { length (tail_of (comment_of commented comment.now)) ≤ 67 }
-    ensures { result ≡ length (pieces_of s.now (comment_of commented comment.now)) }
+#[tactic(auto, using(crate::proofs::Cutting::fitting_within))]
+fn count_pieces(s: &[u8], comment: Option<&[u8]>) -> usize
+    requires { length (tail_of (comment_lent comment)) ≤ 67 }
+    ensures { result ≡ length (pieces_of s.now (comment_lent comment.entry)) }
 {
-    let room = QUOTED_ROOM - tail_length(commented, comment);
-    let mut i = 0;
+    let room = QUOTED_ROOM - tail_length(comment);
+    let mut rest = s;
     let mut n = 1;
-    while exceeds(text::rest_of(s, i), room) {
-        i += fitting_length(text::rest_of(s, i), OPEN_ROOM);
+    // Where a piece ends is known only once it is measured, so no chunks and no range go over them.
+    while exceeds(rest, room) {
+        rest = &rest[fitting_length(rest, OPEN_ROOM)..];
         n += 1;
     }
     n
@@ -439,23 +299,21 @@ fn put_piece(
     s: &[u8],
     room: usize,
     close: &[u8],
-    commented: bool,
-    comment: &[u8],
+    comment: Option<&[u8]>,
     block: &mut [u8],
     at: usize,
 ) -> usize
-    requires { (room + length close.now + length (tail_of (comment_of commented comment.now)) ≤ 69)
-        × (at + 70 ≤ length block.old) }
+    requires { (room + length close.now + length (tail_of (comment_lent comment)) ≤ 69) × (at + 70 ≤ length block.old) }
     ensures value { result ≡ length (fitting room s.now) }
-    ensures block_after { block.new ≡ sets block.old at
-        (body_of (closed_by close.now (fitting room s.now) (comment_of commented comment.now))) }
+    ensures block_after { block.new
+        ≡ sets block.old at (body_of (closed_by close.now (fitting room s.now) (comment_lent comment.entry))) }
 {
-    block[at] = QUOTE;
-    let put = put_fitting(s, room, block, at + 1);
-    let end = put.end;
+    let taken = fitting_length(s, room);
+    text::put_at(b"'", block, at);
+    let end = put_doubled(text::first_of(s, taken), block, at + 1);
     text::put_at(close, block, end);
-    put_tail(commented, comment, block, end + close.len(), at + TEXT_ROOM);
-    put.taken
+    put_tail(comment, block, end + close.len(), at + TEXT_ROOM);
+    taken
 }
 
 // The open card of a string from byte 10 on, and the front of the card behind it. Answers how many characters it took.
@@ -465,38 +323,35 @@ fn put_open(s: &[u8], block: &mut [u8], at: usize) -> usize
     ensures block_after { block.new
         ≡ sets block.old at (body_of (piece_text (open_piece s.now)) ++ continue_front) }
 {
-    let taken = put_piece(s, OPEN_ROOM, b"&'", false, b"", block, at);
+    let taken = put_piece(s, OPEN_ROOM, b"&'", None, block, at);
     text::put_at(b"CONTINUE  ", block, at + TEXT_ROOM);
     taken
 }
 
 // The last card of a string from byte 10 on.
-fn put_last(s: &[u8], commented: bool, comment: &[u8], block: &mut [u8], at: usize)
-    requires { (fits (last_piece s.now (comment_of commented comment.now)) ≡ true) × (at + 70 ≤ length block.old) }
-    ensures { block.new
-        ≡ sets block.old at
-        (body_of (piece_text (last_piece s.now (comment_of commented comment.now)))) }
+fn put_last(s: &[u8], comment: Option<&[u8]>, block: &mut [u8], at: usize)
+    requires { (fits (last_piece s.now (comment_lent comment)) ≡ true) × (at + 70 ≤ length block.old) }
+    ensures { block.new ≡ sets block.old at (body_of (piece_text (last_piece s.now (comment_lent comment.entry)))) }
 {
-    let room = QUOTED_ROOM - tail_length(commented, comment);
-    put_piece(s, room, b"'", commented, comment, block, at);
+    let room = QUOTED_ROOM - tail_length(comment);
+    put_piece(s, room, b"'", comment, block, at);
 }
 
 // The n cards of a string from byte 10 of the first one on.
-fn put_pieces(s: &[u8], n: usize, commented: bool, comment: &[u8], block: &mut [u8])
-    requires { (length (tail_of (comment_of commented comment.now)) ≤ 67)
-        × (n ≡ length (pieces_of s.now (comment_of commented comment.now))) × (80 * n ≤ length block.old) }
-    ensures { block.new
-        ≡ sets block.old 10 (bodies_of (pieces_of s.now (comment_of commented comment.now))) }
+#[tactic(auto, using(crate::proofs::Cutting::fitting_within))]
+fn put_pieces(s: &[u8], n: usize, comment: Option<&[u8]>, block: &mut [u8])
+    requires { (length (tail_of (comment_lent comment)) ≤ 67)
+        × (n ≡ length (pieces_of s.now (comment_lent comment))) × (80 * n ≤ length block.old) }
+    ensures { block.new ≡ sets block.old 10 (bodies_of (pieces_of s.now (comment_lent comment.entry))) }
 {
-    let mut i = 0;
+    let mut rest = s;
     let mut at = FRONT;
-    let mut left = n;
-    while 1 < left {
-        i += put_open(text::rest_of(s, i), block, at);
+    for _ in 1..n {
+        let taken = put_open(rest, block, at);
+        rest = &rest[taken..];
         at += CARD;
-        left -= 1;
     }
-    put_last(text::rest_of(s, i), commented, comment, block, at);
+    put_last(rest, comment, block, at);
 }
 
 // ---- logicals and numbers
@@ -505,10 +360,7 @@ fn put_pieces(s: &[u8], n: usize, commented: bool, comment: &[u8], block: &mut [
 fn truth_text(t: bool) -> Text
     ensures { result ≡ text_of (truth_text t) }
 {
-    if t {
-        return text::text_of(b"T");
-    }
-    text::text_of(b"F")
+    text::text_of(if t { b"T" } else { b"F" })
 }
 
 // The sign and the digits of a decimal.
@@ -525,7 +377,7 @@ fn signed_text(minus: bool, digits: &[u8]) -> Text
 fn scale_text(digits: &[u8], power: i64) -> Text
     ensures { result ≡ text_of (scale_of digits.now power) }
 {
-    if digits.len() == 0 {
+    if digits.is_empty() {
         return text::text_of(b"0E0");
     }
     numerals::power_text(b'E', power)
@@ -537,166 +389,120 @@ fn decimal_text(minus: bool, digits: &[u8], power: i64) -> Text
     ensures { result ≡ text_of (take size (decimal_text minus digits.now power)) }
 {
     let front = signed_text(minus, digits);
-    let own = front.bytes;
     let behind = scale_text(digits, power);
-    let bytes = behind.bytes;
-    text::joined_text(
-        text::first_of(&own, front.len),
-        text::first_of(&bytes, behind.len),
-    )
+    text::joined_text(front.as_slice(), behind.as_slice())
 }
 
 // How many spaces stand before a logical or number of n bytes.
 fn margin(n: usize) -> usize
     ensures { result ≡ number_room - n }
 {
-    if n < NUMBER_ROOM { NUMBER_ROOM - n } else { 0 }
+    NUMBER_ROOM.saturating_sub(n)
 }
 
 // A logical or number and its comment from byte 10 on.
-fn put_number(t: &[u8], commented: bool, comment: &[u8], block: &mut [u8])
-    requires { (fits_card t.now (comment_of commented comment.now) ≡ true) × (80 ≤ length block.old) }
-    ensures { block.new
-        ≡ sets block.old 10 (body_of (plain_text t.now (comment_of commented comment.now))) }
+fn put_number(t: &[u8], comment: Option<&[u8]>, block: &mut [u8])
+    requires { (fits_card t.now (comment_lent comment) ≡ true) × (80 ≤ length block.old) }
+    ensures { block.new ≡ sets block.old 10 (body_of (plain_text t.now (comment_lent comment.entry))) }
 {
     let start = FRONT + margin(t.len());
     put_spaces(block, FRONT, start);
     text::put_at(t, block, start);
-    put_tail(commented, comment, block, start + t.len(), CARD);
+    put_tail(comment, block, start + t.len(), CARD);
 }
 
 // ---- cards in a lent block
 
-fn refused(why: Refusal) -> WriteAnswer
-    ensures { result ≡ Refused (fault_of why) }
+fn refused(why: Refusal) -> Result<usize, Fault>
+    ensures { result ≡ Err (fault_of why) }
 {
-    WriteAnswer::Refused(refusal::fault_of(why))
+    Err(refusal::fault_of(why))
 }
 
-// Whether a logical or number of n bytes and its comment fit a card.
-fn fits_card(n: usize, commented: bool, comment: &[u8]) -> bool
-    requires { (n ≤ 80) × (length (tail_of (comment_of commented comment.now)) ≤ 72) }
-    ensures { result ≡ leb (number_room - n + n + length (tail_of (comment_of commented comment.now))) text_room }
-{
-    margin(n) + n + tail_length(commented, comment) <= TEXT_ROOM
-}
+impl Label<'_> {
+    // Whether a logical or number of n bytes fits a card beside the comment.
+    fn has_room(self, n: usize) -> bool
+        requires { n ≤ 80 }
+        ensures { result ≡ leb (number_room - n + n + length (tail_of (comment_lent self.entry.comment))) text_room }
+    {
+        margin(n) + n + tail_length(self.comment) <= TEXT_ROOM
+    }
 
-// The card of a logical or number.
-fn write_plain(
-    name: &[u8],
-    t: Text,
-    commented: bool,
-    comment: &[u8],
-    block: &mut [u8],
-) -> WriteAnswer
-    requires { (length name.now ≤ 8) × (length (tail_of (comment_of commented comment.now)) ≤ 72) }
-    ensures { write_outcome result block.new ≡ put_where
-        (fits_card (bytes_of t) (comment_of commented comment.now))
-        (plain_cards name.now (bytes_of t) (comment_of commented comment.now)) block.old }
-{
-    let bytes = t.bytes;
-    let own = text::first_of(&bytes, t.len);
-    if !fits_card(own.len(), commented, comment) {
-        return refused(Refusal::UnwritableValue);
+    // The card of a logical or number.
+    fn write_plain(self, t: Text, block: &mut [u8]) -> Result<usize, Fault>
+        ensures { write_outcome result block.new ≡ put_where
+            (fits_card (bytes_of t) (comment_lent self.entry.comment))
+            (plain_cards self.entry.name.now (bytes_of t) (comment_lent self.entry.comment)) block.old }
+    {
+        let own = t.as_slice();
+        if !self.has_room(own.len()) {
+            return refused(Refusal::UnwritableValue);
+        }
+        if block.len() < CARD {
+            return refused(Refusal::BlockShort);
+        }
+        put_name(self.name, block);
+        put_number(own, self.comment, block);
+        Ok(1)
     }
-    if block.len() < CARD {
-        return refused(Refusal::BlockShort);
-    }
-    put_name(name, block);
-    put_number(own, commented, comment, block);
-    WriteAnswer::Cards(1)
-}
 
-// The card of a finite decimal. Digits that are longer than a card are not looked at.
-fn write_decimal(
-    name: &[u8],
-    minus: bool,
-    digits: &[u8],
-    power: i64,
-    commented: bool,
-    comment: &[u8],
-    block: &mut [u8],
-) -> WriteAnswer
-    requires { (length name.now ≤ 8) × (length (tail_of (comment_of commented comment.now)) ≤ 72) }
-    ensures { write_outcome result block.new ≡ put_where
-        (is_value (Float minus (Finite power)) digits.now (comment_of commented comment.now))
-        (plain_cards name.now (decimal_text minus digits.now power) (comment_of commented comment.now))
-        block.old }
-{
-    if TEXT_ROOM < digits.len() {
-        return refused(Refusal::UnwritableValue);
+    // The card of a finite decimal.
+    fn write_decimal(
+        self,
+        minus: bool,
+        digits: &[u8],
+        power: i64,
+        block: &mut [u8],
+    ) -> Result<usize, Fault>
+        ensures { write_outcome result block.new ≡ put_where
+            (is_value (Float minus (Finite power)) digits.now (comment_lent self.entry.comment))
+            (plain_cards self.entry.name.now (decimal_text minus digits.now power) (comment_lent self.entry.comment))
+            block.old }
+    {
+        if !is_decimal(digits, power) {
+            return refused(Refusal::UnwritableValue);
+        }
+        self.write_plain(decimal_text(minus, digits, power), block)
     }
-    if !is_significant(digits) {
-        return refused(Refusal::UnwritableValue);
-    }
-    if !is_power(digits, power) {
-        return refused(Refusal::UnwritableValue);
-    }
-    write_plain(
-        name,
-        decimal_text(minus, digits, power),
-        commented,
-        comment,
-        block,
-    )
-}
 
-// The cards of a string.
-fn write_string(
-    name: &[u8],
-    text: &[u8],
-    commented: bool,
-    comment: &[u8],
-    block: &mut [u8],
-) -> WriteAnswer
-    requires { length name.now ≤ 8 }
-    ensures { write_outcome result block.new ≡ put_where
-        (is_text text.now && is_short remark_limit (comment_of commented comment.now))
-        (string_cards name.now (pieces_of text.now (comment_of commented comment.now)))
-        block.old }
-{
-    if !is_short(REMARK_LIMIT, commented, comment) {
-        return refused(Refusal::UnwritableValue);
+    // The cards of a string.
+    fn write_string(self, text: &[u8], block: &mut [u8]) -> Result<usize, Fault>
+        ensures { write_outcome result block.new ≡ put_where
+            (is_text text.now && is_short remark_limit (comment_lent self.entry.comment))
+            (string_cards self.entry.name.now (pieces_of text.now (comment_lent self.entry.comment)))
+            block.old }
+    {
+        if !is_short(REMARK_LIMIT, self.comment) || !is_text(text) {
+            return refused(Refusal::UnwritableValue);
+        }
+        let n = count_pieces(text, self.comment);
+        if block.len() / CARD < n {
+            return refused(Refusal::BlockShort);
+        }
+        put_name(self.name, block);
+        put_pieces(text, n, self.comment, block);
+        Ok(n)
     }
-    if !is_text(text) {
-        return refused(Refusal::UnwritableValue);
-    }
-    let n = count_pieces(text, commented, comment);
-    if block.len() / CARD < n {
-        return refused(Refusal::BlockShort);
-    }
-    put_name(name, block);
-    put_pieces(text, n, commented, comment, block);
-    WriteAnswer::Cards(n)
-}
 
-// The cards of a value of any kind.
-fn write_value(
-    name: &[u8],
-    value: Value,
-    text: &[u8],
-    commented: bool,
-    comment: &[u8],
-    block: &mut [u8],
-) -> WriteAnswer
-    requires { (length name.now ≤ 8) × (length (tail_of (comment_of commented comment.now)) ≤ 72) }
-    ensures { write_outcome result block.new ≡ put_where
-        (is_value value text.now (comment_of commented comment.now))
-        (written_cards value name.now text.now (comment_of commented comment.now))
-        block.old }
-{
-    match value {
-        Value::Integer(z) => write_plain(name, integer_text(z), commented, comment, block),
-        Value::Float { minus, size } => match size {
-            Size::Finite(power) => write_decimal(
-                name, minus, text, power, commented, comment, block,
-            ),
-            Size::Infinite => refused(Refusal::UnwritableValue),
-            Size::Nan => refused(Refusal::UnwritableValue),
-        },
-        Value::Logical(t) => write_plain(name, truth_text(t), commented, comment, block),
-        Value::String => write_string(name, text, commented, comment, block),
-        Value::Undefined => refused(Refusal::UnwritableValue),
-        Value::Invalid => refused(Refusal::UnwritableValue),
+    // The cards of a value of any kind.
+    fn write_value(self, value: Value, text: &[u8], block: &mut [u8]) -> Result<usize, Fault>
+        ensures { write_outcome result block.new ≡ put_where
+            (is_value value text.now (comment_lent self.entry.comment))
+            (written_cards value self.entry.name.now text.now (comment_lent self.entry.comment))
+            block.old }
+    {
+        match value {
+            Value::Integer(z) => self.write_plain(integer_text(z), block),
+            Value::Float { minus, size } => match size {
+                Size::Finite(power) => self.write_decimal(minus, text, power, block),
+                Size::Infinite => refused(Refusal::UnwritableValue),
+                Size::Nan => refused(Refusal::UnwritableValue),
+            },
+            Value::Logical(t) => self.write_plain(truth_text(t), block),
+            Value::String => self.write_string(text, block),
+            // Each kind that is never written has an arm of its own: an arm of several kinds hides from the proof which it is.
+            Value::Undefined => refused(Refusal::UnwritableValue),
+            Value::Invalid => refused(Refusal::UnwritableValue),
+        }
     }
 }

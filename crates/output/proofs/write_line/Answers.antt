@@ -1,9 +1,8 @@
 -- The bytes before the line feed are counted by the one that makes them visible.
 use Rattle.std.proofs.Common.{◌≡◌, sym, ap, subst, ◌∙◌, ℕ, ◌+◌, ◌-◌, List, [], ◌∷◌, length, take, length-take, arith}
 use Rattle.text.specs.Bytes.{line_feed}
-use Rattle.escaping.specs.Escaping.{escaped}
 use Rattle.output.specs.Shown.{IsWhole}
-use Rattle.output.proofs.Pieces.{escaped-few, counted, plain_line_lem, visible_line}
+use Rattle.output.proofs.Pieces.{escaped-few, counted, before_feed, plain_line_lem, visible_line}
 use Rattle.output.proofs.write_line.Goals as goal
 
 pub returns-then-not-escaped : goal.returns-then-not-escaped
@@ -15,11 +14,8 @@ returns-then-not-escaped g c =
 pub overflow_add-written : goal.overflow_add-written
 overflow_add-written g c =
     let line = c.args.line.now in
-    let before : c.in-Whole.n ≡ length (escaped (take (length line - 1) line)) =
-    counted (escaped c.first_of.result.now) c.in-Whole.is c.write_visibly.ensures
-    ∙ ap (λ (s : List ℕ). length (escaped s)) c.first_of.ensures
-    ∙ ap (λ (k : ℕ). length (escaped (take k line))) c.one_less.ensures in
-    let fed : c.in-Whole-write.end ≡ 1 = counted (line_feed ∷ []) c.in-Whole-write.is c.write-2.ensures in
+    let before = before_feed line c.in_ok-n.was c.write_visibly.ensures c.first_of.ensures c.saturating_sub.ensures in
+    let fed : c.in_ok-end.end ≡ 1 = counted (line_feed ∷ []) c.in_ok-end.was c.write-2.ensures in
     record {
       fits = omega (
         arith,
@@ -35,9 +31,6 @@ pub returns : goal.returns
 returns g c =
     let a = c.args in
     let line = a.line.now in
-    let before : c.in-Whole.n ≡ length (escaped (take (length line - 1) line)) =
-    counted (escaped c.first_of.result.now) c.in-Whole.is c.write_visibly.ensures
-    ∙ ap (λ (s : List ℕ). length (escaped s)) c.first_of.ensures
-    ∙ ap (λ (k : ℕ). length (escaped (take k line))) c.one_less.ensures in
-    let fed : c.in-Whole-write.end ≡ 1 = counted (line_feed ∷ []) c.in-Whole-write.is c.write-2.ensures in
-    ap (λ (k : ℕ). c.in-Whole.n + k) fed ∙ visible_line a.escaped line c.if-not-escaped.false before
+    let before = before_feed line c.in_ok-n.was c.write_visibly.ensures c.first_of.ensures c.saturating_sub.ensures in
+    let fed : c.in_ok-end.end ≡ 1 = counted (line_feed ∷ []) c.in_ok-end.was c.write-2.ensures in
+    ap (λ (k : ℕ). c.in_ok-n.n + k) fed ∙ visible_line a.escaped line c.if-not-escaped.false before

@@ -1,23 +1,36 @@
 -- `printing::print_names` meets its contract: every place is one of the list's, and the bytes of the lines are summed.
-use Rattle.std.proofs.Common.{◌≡◌, refl, sym, ap, ap₂, ◌∙◌, ℕ, ◌+◌, ◌<◌, ◌≤◌, List, [], map, length, get_or, length-append, arith, rules}
+use Rattle.std.proofs.Common.{◌≡◌, refl, sym, ap, ap₂, ◌∙◌, ℕ, ◌+◌, ◌<◌, ◌≤◌, arith, rules}
+use Rattle.std.proofs.Common.{List, [], map, take, length}
 use lib.ListN.{length-map, length-replicate}
-use Rattle.lines.specs.Lines.{count_line}
-use Rattle.output.specs.Shown.{printed_line}
+use Rattle.std.specs.Prelude.{Bool, Result, Ok}
+use Rattle.output.specs.declared.Cut.{Cut}
+use Rattle.output.specs.Shown.{printed_line, IsWhole}
 use Rattle.output.proofs.Pieces.{counted, line-few}
 use Rattle.printing.specs.Output.{name_lines, in_order}
-use Rattle.printing.specs.Ready.{IsListed}
+use Rattle.printing.specs.Ready.{IsListed, Front}
 use Rattle.listing.specs.Listing.{list_of}
-use Rattle.agreeing.proofs.Naming.{at_map}
+use Rattle.std.proofs.lemmas.List.{get_or-map}
 use Rattle.printing.proofs.Naming as naming
 use Rattle.printing.proofs.print_names.Goals as goal
 
--- the lines of all names are as many as the count says
-as_many : (h first last times : List ℕ) (count : ℕ) → IsListed h first last times → count ≡ (list_of h).count
-    → length (name_lines h) ≡ count
-as_many h first last times count l e = naming.as_many h l.end l.accepted ∙ sym e
+-- the lines of all names are as many as the count says, and few
+module _ {h first last times : List ℕ} {count : ℕ} (l : IsListed h first last times) (e : count ≡ (list_of h).count) where
+  as_many : length (name_lines h) ≡ count
+  as_many = naming.as_many h l.end l.accepted ∙ sym e
 
-few : (h first last times : List ℕ) (count : ℕ) → IsListed h first last times → count ≡ (list_of h).count → count ≤ 720
-few h first last times count l e = omega (arith, e, naming.few-names h l.end l.accepted)
+  few : count ≤ 720
+  few = omega (arith, e, naming.few-names h l.end l.accepted)
+
+-- a line at the front of a buffer, all of which is written: how many bytes that are, and that they are few
+record Wrote (t : Bool) (line : List ℕ) (n : ℕ) : Type 0 where
+  bytes : n ≡ length (printed_line t line)
+  small : n ≤ 210561
+
+wrote : (t : Bool) (line out front : List ℕ) (m n : ℕ) {r : Result ℕ Cut} → Front m out line → length out ≡ 52640
+    → front ≡ take m out → r ≡ Ok n → IsWhole r (printed_line t front) → Wrote t line n
+wrote t line out front m n f long is e w =
+    let bytes = counted (printed_line t front) e w ∙ ap (λ (s : List ℕ). length (printed_line t s)) (is ∙ f.content) in
+    record { bytes = bytes; small = omega (arith, bytes, line-few t line, f.count, f.few, long) }
 
 pub loop-k-init : goal.loop-k-init
 unfolding in_order
@@ -25,7 +38,6 @@ loop-k-init g c =
     record {
       text-long = length-replicate {A = ℕ} 51200 0;
       line-long = length-replicate {A = ℕ} 52640 0;
-      within = omega arith;
       bytes = refl;
       small = omega arith;
     }
@@ -33,21 +45,16 @@ loop-k-init g c =
 pub overflow_add-printed : goal.overflow_add-printed
 overflow_add-printed g c =
     let a = c.args in
-    let t = a.escaped in
-    let line = get_or (name_lines a.header.now) c.loop-k.k [] in
-    let bytes : c.in-Whole.written ≡ length (printed_line t line) =
-    counted (printed_line t c.first_of.result.now) c.in-Whole.is c.write_line.ensures
-    ∙ ap (λ (s : List ℕ). length (printed_line t s)) (c.first_of.ensures ∙ c.name_part-n.ensures.content) in
+    let v = c.loop-k.invariant in
     let same : length c.name_part-n.new.line ≡ length c.loop-k.line = search rules in
-    let short : length line ≤ 52640 =
-    omega (arith, c.name_part-n.ensures.count, c.name_part-n.ensures.few, same, c.loop-k.invariant.line-long) in
-    let written : c.in-Whole.written ≤ 210561 = omega (arith, bytes, line-few t line, short) in
+    let w = wrote a.escaped _ c.name_part-n.new.line _ _ _ c.name_part-n.ensures (same ∙ v.line-long) c.first_of.ensures
+    c.in_ok-written.was c.write_line.ensures in
     record {
       fits = omega (
         arith,
-        written,
-        c.loop-k.invariant.small,
-        few a.header.now a.first.now a.last.now a.times.now a.count c.requires.0 c.requires.1,
+        w.small,
+        v.small,
+        few c.requires.0 c.requires.1,
         c.loop-k-test.true,
       );
     }
@@ -59,66 +66,34 @@ loop-k-preserved g c =
     let v = c.loop-k.invariant in
     let k = c.loop-k.k in
     let names = name_lines a.header.now in
-    let line = get_or names k [] in
-    let bytes : c.in-Whole.written ≡ length (printed_line t line) =
-    counted (printed_line t c.first_of.result.now) c.in-Whole.is c.write_line.ensures
-    ∙ ap (λ (s : List ℕ). length (printed_line t s)) (c.first_of.ensures ∙ c.name_part-n.ensures.content) in
     let same : length c.name_part-n.new.line ≡ length c.loop-k.line = search rules in
-    let short : length line ≤ 52640 = omega (arith, c.name_part-n.ensures.count, c.name_part-n.ensures.few, same, v.line-long) in
-    let written : c.in-Whole.written ≤ 210561 = omega (arith, bytes, line-few t line, short) in
+    let w = wrote t _ c.name_part-n.new.line _ _ _ c.name_part-n.ensures (same ∙ v.line-long) c.first_of.ensures
+    c.in_ok-written.was c.write_line.ensures in
     let under : k < length names =
-    omega (arith, c.loop-k-test.true, as_many a.header.now a.first.now a.last.now a.times.now a.count c.requires.0 c.requires.1) in
+    omega (arith, c.loop-k-test.true, as_many c.requires.0 c.requires.1) in
     let under_all : k < length (map (printed_line t) names) = omega (arith, under, length-map names (printed_line t)) in
     record {
       text-long = search rules;
-      line-long = search rules;
-      within = omega (arith, c.loop-k-test.true);
+      line-long = same ∙ v.line-long;
       bytes =
-          ap₂ (λ (n m : ℕ). n + m) v.bytes (bytes ∙ sym (ap length (at_map (printed_line t) names k [] [] under)))
+          ap₂ (λ (n m : ℕ). n + m) v.bytes (w.bytes ∙ sym (ap length (get_or-map (printed_line t) names k [] [] under)))
           ∙ sym (naming.in_order_next (map (printed_line t) names) k under_all);
-      small = omega (arith, v.small, written);
+      small = omega (arith, v.small, w.small);
     }
 
-pub overflow_add-all : goal.overflow_add-all
-overflow_add-all g c =
+pub overflow_add-result : goal.overflow_add-result
+overflow_add-result g c =
     let a = c.args in
-    let t = a.escaped in
-    let line = count_line a.count in
-    let bytes : c.in-Whole-write_line.written ≡ length (printed_line t line) =
-    counted (printed_line t c.first_of-2.result.now) c.in-Whole-write_line.is c.write_line-2.ensures
-    ∙ ap (λ (s : List ℕ). length (printed_line t s)) (c.first_of-2.ensures ∙ c.count_part-n.ensures.content) in
+    let v = c.loop-k.invariant in
     let same : length c.count_part-n.new.line ≡ length c.loop-k.line = search rules in
-    let short : length line ≤ 52640 =
-    omega (arith, c.count_part-n.ensures.count, c.count_part-n.ensures.few, same, c.loop-k.invariant.line-long) in
+    let w = wrote a.escaped _ c.count_part-n.new.line _ _ _ c.count_part-n.ensures (same ∙ v.line-long) c.first_of-2.ensures
+    c.in_ok-written-2.was c.write_line-2.ensures in
     record {
       fits = omega (
         arith,
-        bytes,
-        line-few t line,
-        short,
-        c.loop-k.invariant.small,
-        c.loop-k.invariant.within,
-        few a.header.now a.first.now a.last.now a.times.now a.count c.requires.0 c.requires.1,
+        w.small,
+        v.small,
+        c.loop-k.auto.k-end,
+        few c.requires.0 c.requires.1,
       );
     }
-
-pub returns : goal.returns
-returns g c =
-    let a = c.args in
-    let t = a.escaped in
-    let names = name_lines a.header.now in
-    let lines = map (printed_line t) names in
-    let line = count_line a.count in
-    let bytes : c.in-Whole-write_line.written ≡ length (printed_line t line) =
-    counted (printed_line t c.first_of-2.result.now) c.in-Whole-write_line.is c.write_line-2.ensures
-    ∙ ap (λ (s : List ℕ). length (printed_line t s)) (c.first_of-2.ensures ∙ c.count_part-n.ensures.content) in
-    let all : c.loop-k.k ≡ length lines =
-    omega (
-      arith,
-      c.loop-k-test.false,
-      c.loop-k.invariant.within,
-      as_many a.header.now a.first.now a.last.now a.times.now a.count c.requires.0 c.requires.1,
-      length-map names (printed_line t),
-    ) in
-    ap₂ (λ (n m : ℕ). n + m) (c.loop-k.invariant.bytes ∙ ap length (naming.in_order_all lines c.loop-k.k all)) bytes
-    ∙ sym (length-append (in_order lines) (printed_line t line))

@@ -1,5 +1,5 @@
 -- The buffers stay as wide as they are made, and the first k lines are printed.
-use Rattle.std.proofs.Common.{◌≡◌, ◌*◌, ◌-◌, ◌≤◌, length, take, map}
+use Rattle.std.proofs.Common.{◌≡◌, ◌*◌, ◌≤◌, length, take, map}
 use Rattle.output.specs.Shown.{printed_line}
 use Rattle.printing.specs.Output.{name_lines, in_order}
 use Rattle.printing.proofs.print_names.Given as goal
@@ -9,10 +9,6 @@ invariant-loop-k g l =
     record {
       text-long : length l.text ≡ 51200;
       line-long : length l.line ≡ 52640;
-      within : l.k ≤ l.count;
       bytes : l.printed ≡ length (in_order (take l.k (map (printed_line l.escaped) (name_lines l.header))));
       small : l.printed ≤ 210561 * l.k;
     }
-
-abbrev pub decreases-loop-k : goal.decreases-loop-k
-decreases-loop-k g l = l.count - l.k

@@ -1,0 +1,12 @@
+use Prim.Native.Nat.{◌-◌}
+use Rattle.rice.specs.Filling.{counted}
+use Rattle.rice.proofs.Blockwise.{Onto}
+use Rattle.rice.proofs.Cursor.splits.Given as goal
+
+abbrev pub invariant-splits : goal.invariant-splits
+invariant-splits l =
+    Onto l.scale.width l.tile l.nx l.nblock (counted l.scale.width l.initial.bit l.initial.done l.initial.level) l.fn.pixels l.pixels
+    l.bit l.done l.level
+
+abbrev pub decreases-splits : goal.decreases-splits
+decreases-splits l = l.nx - l.done

@@ -1,0 +1,13 @@
+-- `rice::bits::whole_word`: two quads are the 64 bits of the field. Assumes nothing.
+use Prim.Native.Nat.{◌+◌, ◌*◌}
+use native.Mathlib.Omega.{arith}
+use Rattle.rice.proofs.Fields.{field_lt, field_word}
+use Rattle.rice.proofs.bits.whole_word.Goals as goal
+
+pub join-requires : goal.join-requires
+join-requires c =
+    let a = c.args in
+    omega (arith, field_lt a.s.now (a.i * 8) 32, field_lt a.s.now ((a.i + 4) * 8) 32)
+
+pub returns : goal.returns
+returns c = let a = c.args in cc (field_word a.s.now a.i)
