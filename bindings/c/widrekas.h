@@ -18,8 +18,8 @@
  * - *column, which eight functions have last, is where a card is refused: enum widrekas_refusal has the rule. Answers 1 to 8 set it, and
  *   every other answer leaves it as it was.
  *
- * Stack. What a call takes of its caller's stack, as measured, up to the next fifty bytes: widrekas_list 74,600, the two lookups 63,200,
- * the two entries 63,150, widrekas_header 4,050, widrekas_name 4,000, widrekas_card 4,000, widrekas_write 1,950, widrekas_decode 1,000,
+ * Stack. What a call takes of its caller's stack, as measured, up to the next fifty bytes: widrekas_list 74,600, the two lookups 63,550,
+ * the two entries 63,500, widrekas_header 4,050, widrekas_name 4,000, widrekas_card 4,000, widrekas_write 1,950, widrekas_decode 1,000,
  * widrekas_step 650, the others 50. stack.c measures it on x86-64 Linux: each call runs in a thread whose stack was painted before, over
  * strings of up to 720 cards, 1,000 headers and 400 values at random and tiles of each width. It holds the list below 80 KiB, lookups and
  * entries below 64, and the others below 4. valgrind's massif sees the same of a lookup and a list. The loader takes some 2 KiB more where

@@ -12,7 +12,7 @@ use Rattle.text.proofs.Trimming.{shorter}
 use Rattle.text.proofs.Texts.{whole-text}
 use Rattle.card.specs.declared.Card.TheVariants as C
 use Rattle.card.specs.declared.Class.{Class}
-use Rattle.card.specs.declared.Class.TheVariants.{Empty, Comment, History, Continue, Xtension, Hierarch, End, Other}
+use Rattle.card.specs.declared.Class.TheVariants.{Comment, History, Continue, Xtension, End, Other}
 use Rattle.card.specs.declared.CardRead.{CardRead}
 use Rattle.card.specs.Keywords.{keyword_of, class_of}
 use Rattle.card.specs.Columns.{text_from, column_in}
@@ -33,13 +33,6 @@ by card s w k {name = name} long named word part class is =
     ap (λ (x : Class). columned x name card) (sym is ∙ class ∙ ap class_of whole)
     ∙ ap (λ (t : Text). columned (class_of (keyword_of card)) t card)
     (named ∙ ap (λ (l : List ℕ). text_of (take size l)) whole ∙ whole-text (keyword_of card) short)
-
-pub returns-in-Empty : goal.returns-in-Empty
-returns-in-Empty c =
-    let long : length c.args.card.now ≡ size = search rules in
-    ap Ok c.unnamed.ensures
-    ∙ by c.args.card.now _ _ Empty long c.text_of-name.ensures c.trimmed-word.ensures c.first_of.ensures c.class_of.ensures
-    c.in-Empty.is
 
 pub returns-in-Comment : goal.returns-in-Comment
 returns-in-Comment c =
@@ -68,13 +61,6 @@ returns-in-Xtension c =
     c.extension.ensures
     ∙ by c.args.card.now _ _ Xtension long c.text_of-name.ensures c.trimmed-word.ensures c.first_of.ensures c.class_of.ensures
     c.in-Xtension.is
-
-pub returns-in-Hierarch : goal.returns-in-Hierarch
-returns-in-Hierarch c =
-    let long : length c.args.card.now ≡ size = search rules in
-    c.hierarch.ensures
-    ∙ by c.args.card.now _ _ Hierarch long c.text_of-name.ensures c.trimmed-word.ensures c.first_of.ensures c.class_of.ensures
-    c.in-Hierarch.is
 
 pub returns-in-End : goal.returns-in-End
 returns-in-End c =

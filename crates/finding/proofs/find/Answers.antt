@@ -3,7 +3,7 @@ use Rattle.std.proofs.Common.{◌≡◌, ◌+◌, ◌/◌, ℕ, List, Bool, leng
 use Rattle.std.specs.Prelude.{Err, Option, Some}
 use Rattle.refusal.specs.declared.Fault.{Fault}
 use Rattle.finding.specs.Finding.{stop_at}
-use Rattle.finding.proofs.Searching.{Reached, bad_found, start, at_end, on_card, on_end, on_refused}
+use Rattle.finding.proofs.Searching.{Reached, bad_found, at_end, on_card, on_end, on_refused}
 use Rattle.finding.proofs.find.Goals as goal
 use Rattle.finding.proofs.find.Goals.{then-bears_name, else-bears_name}
 
@@ -29,9 +29,6 @@ returns-in-Last c =
     let good = sym c.is_bad_length.ensures ∙ c.if-is_bad_length.false in
     on_end c.loop-i.invariant c.loop-i-test.true c.card_at.result c.card_at.ensures good _ c.role_of-role.result c.in-Ok.is
     c.role_of-role.ensures c.in-Last.is
-
-pub loop-i-init : goal.loop-i-init
-loop-i-init c = start _ _
 
 pub loop-i-preserved : goal.loop-i-preserved
 loop-i-preserved c =

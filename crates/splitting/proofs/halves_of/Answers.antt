@@ -3,10 +3,10 @@ use Rattle.std.specs.Prelude.{Some, None, Ok}
 use Prim.Native.Nat.{ℕ, ◌+◌, ◌≤◌}
 use native.Mathlib.Numerals.{add-one}
 use native.Mathlib.Omega.{arith}
-use mathlib.Core.Path.{◌≡◌, sym, ap, subst, ◌∙◌}
+use mathlib.Core.Path.{◌≡◌, ap, subst, ◌∙◌}
 use mathlib.Core.List.{List, map}
 use lib.ListN.{length, take, drop, length-take}
-use lib.Seq.{take_all, length-take-le}
+use lib.Seq.{take_all}
 use Rattle.text.specs.Bytes.{is_space, shown}
 use Rattle.text.specs.Trim.{trim, trim_end}
 use Rattle.text.specs.Text.{size, text_of}
@@ -27,12 +27,6 @@ cut : (s t : List ℕ) → length s ≤ size → t ≡ trim is_space s → text_
 cut s t few e =
     ap (λ (l : List ℕ). text_of (take size l)) e
     ∙ ap text_of (take_all size (trim is_space s) (omega (arith, shorter is_space s)))
-
-pub slice_bounds-trimmed-end : goal.slice_bounds-trimmed-end
-slice_bounds-trimmed-end c =
-    let s = c.args.s.now in
-    let h : Stretches (UpTo c.in-UpTo.i) s = known s c.stretch_of.ensures c.in-UpTo.is in
-    sym (length-take-le c.in-UpTo.i s (omega (arith, h.0)))
 
 pub returns-in-UpTo : goal.returns-in-UpTo
 returns-in-UpTo c =
