@@ -210,7 +210,7 @@ fn write_comment(
 {
     match read.answer {
         Ok(there) => {
-            *commented = abi_value::bit(there) as usize;
+            *commented = usize::from(abi_value::bit(there));
             *length = read.comment;
             0
         }
@@ -266,8 +266,8 @@ fn numbers_of(value: Told, read: ValueHalf) -> [usize; 5]
 {
     [
         0,
-        value.kind as usize,
-        abi_value::bit(value.flag) as usize,
+        usize::from(value.kind),
+        usize::from(abi_value::bit(value.flag)),
         read.text,
         read.digits.len,
     ]
